@@ -1,5 +1,5 @@
--- A reading that looks one token ahead decides a grammar: what it reads is in the grammar, all that is
--- in the grammar it reads, and it has looked at no token behind the first one that it leaves.
+-- A reading decides a grammar: it returns exactly what the grammar allows. It inspects at most one token after those
+-- that it consumes.
 use Rattle.std.proofs.Common.{◌≡◌, Bool, true, false, List, [], ◌∷◌, ◌++◌, Option, Some, None, refl, sym, ap, ◌∙◌, append_assoc, MatchBool}
 use Rattle.sdl_lex.specs.declared.lexemes.Token.{Token}
 use Rattle.sdl_productions.specs.Tokens.{begins}
@@ -20,7 +20,7 @@ abbrev pub with_rest : {A : Type 0} → Reading A → List Token → Reading A
 with_rest (read x vs) us = read x us
 with_rest (fails vs) us = fails us
 
--- what a reading saw: it gives the same before any other rest that begins alike
+-- A reading gives the same result if the remaining tokens are replaced by others with the same first token.
 pub record Seen {A : Type 0} (p : At A) (ts : List Token) : Type 0 where
   pub result : Reading A
   pub is : p ts ≡ result

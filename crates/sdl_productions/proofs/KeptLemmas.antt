@@ -1,4 +1,4 @@
--- What is kept of the items of a TASK.
+-- A filter keeps one more item at the end of a list. Used for the items of a TASK.
 use Rattle.std.proofs.Common.{◌≡◌, List, [], ◌∷◌, ◌++◌, Option, Some, None, length, map, refl, ap, arith}
 use Rattle.std.specs.List.{filter_map}
 use Rattle.std.specs.Option.{option_to_list}
@@ -17,7 +17,7 @@ kept_more {A} {B} f (z ∷ xs) x = by_value (f z) (kept_more f xs x)
     by_value None e = e
     by_value (Some y) e = ap (λ l. y ∷ l) e
 
--- the same of what one test keeps of seen things
+-- As `kept_more`, for a filter `f` on the views `g` of items.
 pub kept_by : {A B C : Type 0} (f : B → Option C) (g : A → B) (xs : List A) (x : A)
     → filter_map f (map g (xs ++ x ∷ [])) ≡ filter_map f (map g xs) ++ option_to_list (f (g x))
 kept_by {A} {B} {C} f g [] x = by_value (f (g x)) refl

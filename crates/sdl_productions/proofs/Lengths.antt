@@ -1,4 +1,4 @@
--- No reading gives more tokens back than it got. For the productions of Syntax tools/productions writes it.
+-- No reading leaves more tokens than it was given. tools/productions writes the lemmas for productions of Syntax.
 use Rattle.std.specs.Prelude.{ℕ, suc, zero, ◌≤◌, List, [], ◌∷◌, Option, Some, None, length}
 use Rattle.sdl_lex.specs.declared.lexemes.Word.TheVariants as words
 use Rattle.sdl_lex.specs.declared.lexemes.Symbol.TheVariants.{Semicolon, Comma, Assign, Open, Close, Plus, Minus, Colon}
@@ -236,7 +236,7 @@ pub end_keeps : NeverLonger end_at
 unfolding end_at
 end_keeps = keeps_choice (a_word words.NextState) next_state_keeps (keeps_choice (a_word words.Stop) stop_keeps join_keeps)
 
--- the steps of a transition
+-- The steps of a transition.
 
 pub last_keeps : NeverLonger (optional an_end end_at)
 last_keeps = keeps_optional an_end end_keeps
@@ -369,7 +369,7 @@ pub entity_takes : Shortens entity_at
 unfolding entity_at
 entity_takes = takes_choice (a_word words.Signal) signals_takes (takes_choice (a_word words.SignalRoute) route_takes (takes_choice (a_word words.Connect) connect_takes process_takes))
 
--- the same where no tree above one that is too high is built
+-- Readings that build no tree above one that is too high.
 
 pub low_item_keeps : NeverLonger (item_at (expression_at low_trees))
 low_item_keeps = item_keeps (expression_at low_trees) low_keeps

@@ -1,4 +1,4 @@
--- Readings that build no tree above one that is too high give what is left of the whole tree: expressions, and what is put together.
+-- Readings that build no tree above one that is too high return the lowered form of the whole tree.
 use Rattle.std.proofs.Common.{◌≡◌, ℕ, suc, zero, Bool, true, false, List, [], ◌∷◌, Option, Some, None, is_some, length, map, refl, sym, ap, ◌∙◌}
 use Rattle.std.specs.Prelude.{nat_lt, nat_le, if◌then◌else◌}
 use Rattle.sdl_lex.specs.Limits.{GREATEST_NUMBER}
@@ -25,7 +25,7 @@ use Rattle.sdl_ast.specs.Heights.{tree_height}
 use Rattle.sdl_productions.specs.Readings.{Reading, read, fails, At, then_read, either, choice, many_for, many, give, token, ◌>>=◌, separated, list_in_parentheses, behind_comma}
 use Rattle.sdl_productions.specs.Machine.{whole_trees, low_trees, low_binary, lowered, Terms, Tests, Frame, no_terms, empty_frame, led_by, joined_to, closed_product, closed_terms, closed_relation, closed_conjunction, closed_tests, closed, with_operator, with_lead, bars, State, wants, has, Turn, goes, done, stuck, unless, lead_turn, join_turn, want_turn, close_turn, end_turn, have_turn, turn, after_turn, run, expression_at}
 
--- the machine
+-- The machine on expressions.
 
 placed-placed : (p q : ℕ) (x : Tree) → placed p (placed q x) ≡ placed p x
 placed-placed p q (number at k) = refl
@@ -110,7 +110,7 @@ unfolding lowered_slot
 low_slot None x = refl
 low_slot (Some s) x = low_join s.1 s.0 x
 
--- behind what is closed already
+-- As `low_slot`, for an operand that is equal to a lowered tree.
 low_behind : (s : Option (Tree × BinaryOperator)) (x y : Tree) → y ≡ lowered x → joined_to low_trees (lowered_slot s) y ≡ lowered (joined_to whole_trees s x)
 low_behind s x y e = ap (joined_to low_trees (lowered_slot s)) e ∙ low_slot s x
 
@@ -282,7 +282,7 @@ run_same (t ∷ ts) s =
     ap (λ a. after_turn a (λ s'. run low_trees s' ts) (t ∷ ts)) (turn_same s t)
     ∙ after_same (turn whole_trees s (sign t)) (λ s'. run low_trees s' ts) (λ s'. run whole_trees s' ts) (t ∷ ts) (run_same ts)
 
--- q reads what p reads, changed by f
+-- q returns the result of p with f applied to it.
 unfoldable pub Lowers : {A B : Type 0} → (A → B) → At A → At B → Type 0
 Lowers f p q = (ts : List Token) → q ts ≡ mapped f (p ts)
 
@@ -338,7 +338,7 @@ separated_lowers f p p' h =
     (many_lowers f (a_symbol Comma) (behind_comma p) (behind_comma p') (then_lowers (λ x. x) f (token (a_symbol Comma)) _ (token (a_symbol Comma)) _ (same_reads (token (a_symbol Comma))) (λ _. h))) λ xs.
     give_lowers (map f) (x ∷ xs)
 
--- one part after another, of which the first stays as it is
+-- A sequence of readings of which the first is unchanged.
 pub next_lowers : {A B D : Type 0} (g : B → D) (p : At A) (q : A → At B) (q' : A → At D) → ((x : A) → Lowers g (q x) (q' x)) → Lowers g (p >>= q) (p >>= q')
 next_lowers g p q q' h = then_lowers (λ x. x) g p q p q' (same_reads p) h
 

@@ -24,7 +24,7 @@ pub run_stuck : (b : Build) (s : State) (t : Token) (ts : List Token) → turn b
 unfolding run
 run_stuck b s t ts e = ap (λ a. after_turn a (λ s'. run b s' ts) (t ∷ ts)) e
 
--- one token of sight
+-- The machine inspects at most one token ahead.
 
 end_seen : (b : Build) (s : State) (a : Turn) → turn b s other ≡ a → Seen (run b s) []
 unfolding run
@@ -85,7 +85,7 @@ pub run_seen : (b : Build) (ts : List Token) (s : State) → Seen (run b s) ts
 run_seen b [] s = end_seen b s (turn b s other) refl
 run_seen b (t ∷ ts) s = turn_seen b s t ts (turn b s (sign t)) refl (run_seen b ts)
 
--- what is in the grammar is read: which places hold a chain is left open, only what they make is known
+-- The machine reads what is in the grammar. These lemmas state the resulting tree, not which slots hold its parts.
 
 abbrev frame : ℕ → Tests → Terms → Frame
 frame a k t = record { opened = a; tests = k; terms = t }
@@ -140,7 +140,7 @@ record DisjunctionRuns (ls : List Frame) (a : ℕ) (ts us : List Token) (x : Tre
 same_inside : {A : Type 0} (x y : A) → Some x ≡ Some y → x ≡ y
 same_inside x y e = cc
 
--- at an operator between operands
+-- The sign is a binary operator.
 
 have_joins : (ls : List Frame) (l : Frame) (x : Tree) (level : Level) (o : BinaryOperator) (g : Sign) → between g ≡ Some (level, o)
     → have_turn whole_trees ls l x g ≡ join_turn whole_trees ls l x level o
@@ -160,7 +160,7 @@ join_goes ls l x level o t us e free =
     run_goes whole_trees (has ls l x) (wants ls (with_operator whole_trees level o l x)) t us
     (have_joins ls l x level o (sign t) e ∙ ap (λ b. unless b (wants ls (with_operator whole_trees level o l x))) free)
 
--- at an operator in front of an operand
+-- The sign is a unary operator.
 
 want_leads : (ls : List Frame) (l : Frame) (at : ℕ) (o : UnaryOperator) (g : Sign) → in_front g ≡ Some (at, o) → want_turn ls l g ≡ lead_turn ls l at o
 want_leads ls l at o (minus p) e = ap (λ (z : ℕ × UnaryOperator). lead_turn ls l z.0 z.1) (same_inside _ _ e)

@@ -1,9 +1,9 @@
--- What is marked, and how marks go on.
+-- Marks on lists, and how they combine.
 use Rattle.std.proofs.Common.{◌≡◌, ℕ, List, [], ◌∷◌, ◌++◌, Option, Some, None, map, refl, ap, ◌∙◌}
 use Rattle.sdl_ast.specs.Heights.{or_first, first_of}
 use Rattle.sdl_productions.specs.Marks.{Marked, kept, too_high, by_place, marked, map_marked, more, in_front, gathered}
 
--- a thing in front of all others is in front of them with one more behind
+-- Prepending a part and appending a part can be done in either order.
 front_more : {A : Type 0} (m : Marked A) (ms : Marked (List A)) (x : Marked A) → in_front m (more ms x) ≡ more (in_front m ms) x
 front_more (kept x) (kept xs) (kept y) = refl
 front_more (kept x) (kept xs) (too_high at) = refl
@@ -18,12 +18,12 @@ pub gathered_more : {A B : Type 0} (f : A → Marked B) (xs : List A) (x : A) �
 gathered_more f [] x = alone_more (f x)
 gathered_more f (y ∷ xs) x = ap (in_front (f y)) (gathered_more f xs x) ∙ front_more (f y) (gathered (map f xs)) (f x)
 
--- one part alone that may be marked
+-- A function applied to one part that may be marked.
 pub one_marked : {A B : Type 0} (f : A → B) (p : Option ℕ) (x : A) → by_place p (f x) ≡ map_marked f (by_place p x)
 one_marked f None x = refl
 one_marked f (Some at) x = refl
 
--- two parts, the second behind the first
+-- Two parts, one after the other; the first mark stays.
 more_marked : {A : Type 0} (p q : Option ℕ) (xs : List A) (x : A) → by_place (or_first p q) (xs ++ x ∷ []) ≡ more (by_place p xs) (by_place q x)
 more_marked None None xs x = refl
 more_marked None (Some at) xs x = refl
@@ -41,7 +41,7 @@ first_more : {A : Type 0} (f : A → Option ℕ) (xs : List A) (x : A) → first
 first_more f [] x = or_first-none (f x)
 first_more f (y ∷ xs) x = ap (or_first (f y)) (first_more f xs x) ∙ or_first-assoc (f y) (first_of f xs) (f x)
 
--- one thing more behind others, and all of them
+-- A list with one more part at the end, and a whole list.
 pub list_more : {A : Type 0} (f : A → Option ℕ) (xs : List A) (x : A) → marked (first_of f) (xs ++ x ∷ []) ≡ more (marked (first_of f) xs) (marked f x)
 list_more f xs x = ap (λ p. by_place p (xs ++ x ∷ [])) (first_more f xs x) ∙ more_marked (first_of f xs) (f x) xs x
 

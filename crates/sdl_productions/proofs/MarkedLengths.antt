@@ -1,4 +1,4 @@
--- No marked reading gives more tokens back than it got.
+-- No marked reading leaves more tokens than it was given.
 use Rattle.sdl_lex.specs.declared.lexemes.Word.TheVariants as words
 use Rattle.sdl_lex.specs.declared.lexemes.Symbol.TheVariants.{Colon}
 use Rattle.sdl_productions.specs.Tokens.{a_word, a_symbol, a_clause, a_section}

@@ -1,4 +1,4 @@
--- No expression gives more tokens back than it got.
+-- No expression leaves more tokens than it was given.
 use Rattle.std.specs.Prelude.{◌≡◌, ◌≤◌, List, [], ◌∷◌, length}
 use Rattle.std.proofs.Common.{subst}
 use Rattle.std.proofs.Math.Nat.{le_refl, le_trans, le_of_lt, lt-suc_self}
@@ -9,7 +9,7 @@ use Rattle.sdl_productions.specs.Machine.{Build, low_trees, State, wants, Turn, 
 use Rattle.sdl_productions.specs.Readings.{Reading, read, fails, NeverLonger}
 use Rattle.sdl_productions.proofs.TokenRests.{not_read, same_rest}
 
--- an expression
+-- Expressions.
 keeps_after : (a : Turn) (go_on : State → Reading Tree) (ts rest : List Token) → length rest ≤ length ts
     → ((s : State) (x : Tree) (us : List Token) → go_on s ≡ read x us → length us ≤ length rest)
     → (x : Tree) (us : List Token) → after_turn a go_on ts ≡ read x us → length us ≤ length ts

@@ -1,4 +1,4 @@
--- What the loops over rows keep.
+-- The invariants of loops that read repeated items.
 use Rattle.std.proofs.Common.{◌≡◌, ℕ, ◌<◌, ◌≤◌, true, false, List, [], ◌∷◌, ◌++◌, Option, length, map, refl, sym, ap, ◌∙◌, append_assoc, append-nil, arith}
 use Rattle.sdl_lex.specs.declared.lexemes.Token.{Token}
 use Rattle.sdl_lex.specs.declared.lexemes.Symbol.TheVariants.{Comma}
@@ -17,7 +17,7 @@ map-push : {A B : Type 0} (f : A → B) (xs : List A) (x : A) → map f (xs ++ x
 map-push f [] x = refl
 map-push f (y ∷ ys) x = ap (λ l. f y ∷ l) (map-push f ys x)
 
--- one more thing was read and put behind the others
+-- One more item was read and appended to the others.
 pub row_turn : {I A B : Type 0} (f : Token → Option B) (p : At A) (view : I → A) (r : Reading (List A)) (items new : List I) (item : I) (ts us : List Token)
     → Shortens p → begins f ts ≡ true → p ts ≡ read (view item) us → new ≡ items ++ item ∷ [] → r ≡ prepend (map view items) (many f p ts)
     → r ≡ prepend (map view new) (many f p us)
@@ -45,7 +45,7 @@ shortens_behind_comma p sp ts y us h = by_comma (token (a_symbol Comma) ts) refl
         let b : length us ≤ length vs = sp vs y us h in
         omega arith
 
--- a thing that doesn't read ends its row
+-- If an item can't be read, the repetition stops there.
 pub row_stops : {A B : Type 0} (f : Token → Option B) (p : At A) (r : Reading (List A)) (xs : List A) (ts : List Token) (stop : Stop)
     → begins f ts ≡ true → Stops stop (p ts) → r ≡ prepend xs (many f p ts) → Stops stop r
 row_stops f p r xs ts (Unexpected left) e h k = row_fails f p r xs ts left.now e h k

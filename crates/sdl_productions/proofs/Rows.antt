@@ -1,4 +1,4 @@
--- Things in a row.
+-- Repeated items.
 use Rattle.std.proofs.Common.{◌≡◌, ℕ, suc, zero, ◌+◌, ◌<◌, ◌≤◌, Bool, true, false, List, [], ◌∷◌, ◌++◌, Option, Some, None, length, refl, sym, ap, subst, ◌∙◌, append_assoc, arith, length-append}
 use Rattle.sdl_lex.specs.declared.lexemes.Token.{Token}
 use Rattle.sdl_lex.specs.declared.lexemes.Symbol.TheVariants.{Open, Close, Comma}
@@ -35,7 +35,7 @@ shortens_then p q sp lq ts y us h = by_result p q sp lq ts y us (p ts) refl h
         let b : length us ≤ length vs = rest_shorter (q x) vs (lq x vs) y us h in
         omega arith
 
--- one turn of a row
+-- One item and the items after it.
 abbrev more : {A B : Type 0} (f : Token → Option B) (p : At A) (n : ℕ) → At (List A)
 more f p n = reading.◌>>=◌ p (λ x. reading.◌>>=◌ (many_for f p n) (λ xs. give (x ∷ xs)))
 
@@ -48,7 +48,7 @@ many_one : {A B : Type 0} (f : Token → Option B) (p : At A) (n : ℕ) (ts : Li
 unfolding many_for
 many_one f p n ts e = ap (λ b. either b (more f p n) (give []) ts) e
 
--- what any number of turns that is large enough saw
+-- The result for any bound that exceeds the number of tokens.
 record RowSeen {A B : Type 0} (f : Token → Option B) (p : At A) (ts : List Token) : Type 0 where
   result : Reading (List A)
   is : (m : ℕ) → length ts < m → many_for f p m ts ≡ result
@@ -156,7 +156,7 @@ cons-prepend : {A : Type 0} (x : A) (r : Reading (List A)) → cons_read x r ≡
 cons-prepend x (read xs us) = refl
 cons-prepend x (fails us) = refl
 
--- turns beyond the number of tokens change nothing
+-- A bound that exceeds the number of tokens can be raised without effect.
 many_enough : {A B : Type 0} (f : Token → Option B) (p : At A) → Shortens p → (n m : ℕ) (ts : List Token) → length ts < n → length ts < m → many_for f p n ts ≡ many_for f p m ts
 many_enough f p sp zero m ts h k = absurd (omega arith)
 many_enough f p sp (suc n) zero ts h k = absurd (omega arith)

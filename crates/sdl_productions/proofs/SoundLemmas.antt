@@ -1,4 +1,4 @@
--- What the machine on expressions reads is in their grammar: what its stack stands for.
+-- What the machine on expressions reads is in their grammar. The proof assigns tokens to each part of the stack.
 use Rattle.std.proofs.Common.{◌≡◌, ℕ, false, List, [], ◌∷◌, Option, Some, None, is_some, refl, sym, ap, subst}
 use Rattle.sdl_lex.specs.declared.lexemes.Token.{Token}
 use Rattle.sdl_ast.specs.declared.expression.UnaryOperator.{UnaryOperator}
@@ -15,9 +15,9 @@ use Rattle.sdl_productions.specs.Machine.{whole_trees, Terms, Tests, Frame, no_t
 use Rattle.sdl_productions.proofs.Decides.{Decides}
 use Rattle.sdl_productions.proofs.MachineLemmas.{run_seen, tests, terms, expression_complete}
 
--- what is read is in the grammar: what the stack stands for
+-- What the tokens read so far mean for each part of the stack.
 
--- nothing, or what is joined so far with an operator of a level behind it
+-- A slot is empty, or holds a left operand that was read, followed by an operator of its level.
 abbrev Behind : (List Token → Tree → List Token → Type 0) → Level → Option (Tree × BinaryOperator) → List Token → List Token → Type 0
 Behind P level None ts us = ts ≡ us
 Behind P level (Some s) ts us = (t : Token) × P ts s.0 (t ∷ us) × (between (sign t) ≡ Some (level, s.1))
@@ -26,7 +26,7 @@ abbrev LeadBefore : Option (ℕ × UnaryOperator) → List Token → List Token 
 LeadBefore None ts us = ts ≡ us
 LeadBefore (Some p) ts us = (t : Token) × (ts ≡ t ∷ us) × (in_front (sign t) ≡ Some (p.0, p.1))
 
--- what stands before an operand was read from some tokens on, and the others are next
+-- The slots before an operand were read from the tokens `ts`, and the tokens `us` are next.
 record TermsBefore (n : Terms) (ts us : List Token) : Type 0 where
   mid : List Token
   last : List Token
@@ -60,7 +60,7 @@ abbrev Stands : State → List Token → List Token → Type 0
 Stands (wants ls l) ts us = (inside : List Token) × Opened ls l.opened ts inside × Before l inside us
 Stands (has ls l x) ts us = (inside : List Token) × (from : List Token) × Opened ls l.opened ts inside × Before l inside from × Primary from x us
 
--- one level: alone, or behind what is joined so far
+-- One level of the grammar: the operand without a left operand, or joined to one.
 behind_reads : (P Q R : List Token → Tree → List Token → Type 0) (level : Level)
     → ((ts us : List Token) (x : Tree) → Q ts x us → P ts x us)
     → ((ts us vs : List Token) (x y : Tree) (t : Token) (o : BinaryOperator) → R ts x (t ∷ us) → between (sign t) ≡ Some (level, o) → Q us y vs → P ts (binary (place_of x) o x y) vs)
@@ -93,7 +93,7 @@ disjunction_reads k ts from us y b h =
 closed_reads : (l : Frame) (ts from us : List Token) (x : Tree) → Before l ts from → Primary from x us → Disjunction ts (closed whole_trees l x) us
 closed_reads l ts from us x b h = disjunction_reads l.tests ts b.from us _ b.tests_before (sum_reads l.terms b.from from us x b.terms_before h)
 
--- what a turn at a token makes of what stands
+-- The meaning of the state after one turn at a token.
 abbrev TurnHolds : Turn → List Token → Token → List Token → Type 0
 TurnHolds (goes s) ts t us = Stands s ts us
 TurnHolds (done x) ts t us = Disjunction ts x (t ∷ us) × (is_some (between (sign t)) ≡ false)
@@ -130,7 +130,7 @@ want_holds ls l (joins level o) ts t us e s = tt
 want_holds ls l closes ts t us e s = tt
 want_holds ls l other ts t us e s = tt
 
--- a relation behind no other one
+-- A relation operator where no other relation comes before it.
 relation_holds : (ls : List Frame) (l : Frame) (x : Tree) (o : BinaryOperator) (r : Option (Tree × BinaryOperator)) → l.tests.relation ≡ r → (ts : List Token) (t : Token) (us : List Token)
     → between (sign t) ≡ Some (Relations, o) → Stands (has ls l x) ts (t ∷ us)
     → TurnHolds (unless (is_some r) (wants ls (with_operator whole_trees Relations o l x))) ts t us

@@ -1,4 +1,4 @@
--- No reading that is put together of such gives more tokens back than it got.
+-- A sequence of readings leaves no more tokens than it was given, if none of them does.
 use Rattle.std.specs.Prelude.{◌≡◌, ℕ, suc, zero, ◌<◌, ◌≤◌, Bool, true, false, List, [], ◌∷◌, Option, Some, None, length, refl}
 use Rattle.std.proofs.Common.{sym, ap, subst}
 use Rattle.std.proofs.Math.Nat.{le_refl, le_trans, le_of_lt, lt_of_le_of_lt, lt-suc_self}
@@ -8,7 +8,7 @@ use Rattle.sdl_productions.specs.Tokens.{begins, a_symbol}
 use Rattle.sdl_productions.specs.Readings.{Reading, read, fails, At, then_read, stands_for, either, many_for, many, choice, optional, give, token, separated_from, separated, list_in_parentheses, Shortens, NeverLonger}
 use Rattle.sdl_productions.specs.Readings as reading
 
--- what a failed reading is not, and what a reading leaves
+-- A failed reading returns no value. The tokens that a reading leaves.
 pub IsRead : {A : Type 0} → Reading A → Type 0
 IsRead (read x us) = Unit {0}
 IsRead (fails us) = ⊥
@@ -50,7 +50,7 @@ pub ◌>>=◌ : {A B : Type 0} {p : At A} {q : A → At B} → NeverLonger p →
     by_result (fails vs) e h = not_read (length us ≤ length ts) vs us y h
     by_result (read x vs) e h = le_trans (kq x vs y us h) (kp ts x vs e)
 
--- the first part takes a token
+-- If the first part consumes a token, so does the sequence.
 pub first_takes : {A B : Type 0} {p : At A} {q : A → At B} → Shortens p → ((x : A) → NeverLonger (q x)) → Shortens (reading.◌>>=◌ p q)
 first_takes {A} {B} {p} {q} kp kq ts y us h = by_result (p ts) refl h
   where

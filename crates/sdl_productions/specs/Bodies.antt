@@ -1,5 +1,5 @@
--- What is kept of transitions while they are read statement by statement: each DECISION that is
--- open keeps what stands before it and what was read of it.
+-- The state kept while a transition is read statement by statement. Each open DECISION keeps the
+-- statements before it and the part of it that was read.
 use Rattle.std.specs.Prelude.{[], ◌∷◌, ◌++◌, List, Option}
 use Rattle.sdl_ast.specs.declared.tree.End.{End}
 use Rattle.sdl_ast.specs.Plain.{Text, Choice, nothing_else, otherwise, PlainAction, PlainStatement}
@@ -10,26 +10,26 @@ use Rattle.sdl_ast.specs.Heights.{high_in_statement}
 use Rattle.sdl_productions.specs.Machine.{Build, whole_trees, low_trees}
 use Rattle.sdl_productions.specs.Marks.{Marked, kept, marked, map_marked, more, decided}
 
--- How what is read is kept: S the statements so far, A the answers so far, C what stands behind the
--- answers of a DECISION, T a transition.
+-- How parts are kept: S the statements so far, A the answers so far, C the ELSE of a DECISION or
+-- none, T a transition.
 pub record Keeping (S A C T : Type 0) : Type 0 where
   pub trees : Build
   pub no_statement : S
   pub no_answer : A
-  -- one more action, and one more DECISION
+  -- appends an action, or a DECISION
   pub acts : S → PlainAction → S
   pub decides : S → PlainQuestion → A → C → S
-  -- one more answer
+  -- appends an answer
   pub answers : A → PlainHead → T → A
   pub no_else : C
   pub with_else : T → C
-  -- the statements with the end behind them
+  -- the statements, with the end after them
   pub ended : S → Option End → T
 
 abbrev pub plain_answer_of : PlainHead → Text → PlainAnswer
 plain_answer_of h text = record { at = h.at; ranges = h.ranges; text = text }
 
--- all of it, as the grammar says
+-- keeps all of the text, as the grammar defines it
 abbrev pub whole_texts : Keeping (List PlainStatement) (List PlainAnswer) Choice Text
 whole_texts = record {
   trees = whole_trees;
@@ -44,7 +44,7 @@ whole_texts = record {
   ended = λ ss last. all_before ss (end_text last);
 }
 
--- the same up to what is too high, and from there on its place alone
+-- keeps the text up to the first statement that is too high, and from there on only its place
 abbrev pub marked_texts :
     Keeping (Marked (List PlainStatement)) (Marked (List PlainAnswer)) (Marked Choice) (Marked Text)
 marked_texts = record {
@@ -59,35 +59,34 @@ marked_texts = record {
   ended = λ ss last. map_marked (λ xs. all_before xs (end_text last)) ss;
 }
 
--- a DECISION that is open: the statements before it, its question, and the answers that are read
--- whole
+-- An open DECISION: the statements before it, its question, and the answers read completely.
 pub record Branching (S A : Type 0) : Type 0 where
   pub before : S
   pub asked : PlainQuestion
   pub answers : A
 
--- one answer more that is read whole
+-- appends an answer that was read completely
 abbrev pub with_answer :
     {S A C T : Type 0} → Keeping S A C T → Branching S A → PlainHead → T → Branching S A
 with_answer k d h text =
     record { before = d.before; asked = d.asked; answers = k.answers d.answers h text }
 
--- what a body is read for: a head of an open DECISION, none for ELSE
+-- an open body, with the head of its answer, or none for ELSE
 pub record Body (S A : Type 0) : Type 0 where
   pub branching : Branching S A
   pub head : Option PlainHead
 
--- the bodies that are open, the innermost first, and the statements so far in what is read
+-- the open bodies, innermost first, and the statements so far in the innermost
 pub record Reached (S A : Type 0) : Type 0 where
   pub outer : List (Body S A)
   pub here : S
 
--- what one step comes to: another place on the way, or the whole transition
+-- the result of one step: a further state, or the whole transition
 pub data Move (S A T : Type 0) : Type 0 where
   reaches : Reached S A → Move S A T
   closes : T → Move S A T
 
--- the same as the grammar says
+-- the types for a text kept completely
 abbrev pub WholeBranching : Type 0
 WholeBranching = Branching (List PlainStatement) (List PlainAnswer)
 
@@ -100,7 +99,7 @@ WholeReached = Reached (List PlainStatement) (List PlainAnswer)
 abbrev pub WholeMove : Type 0
 WholeMove = Move (List PlainStatement) (List PlainAnswer) Text
 
--- and as the code keeps it
+-- the types for a text kept up to the first mark, as the code keeps it
 abbrev pub MarkedBranching : Type 0
 MarkedBranching = Branching (Marked (List PlainStatement)) (Marked (List PlainAnswer))
 

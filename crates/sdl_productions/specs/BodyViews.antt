@@ -1,4 +1,4 @@
--- What the code keeps of transitions while they are read.
+-- Views of the state that the code keeps while it reads a transition.
 use Rattle.std.specs.Prelude.{List, map, reverse}
 use Rattle.std.specs.Option.{option_map}
 use Rattle.sdl_productions.specs.declared.marked.Marked as the_marked
@@ -16,12 +16,12 @@ use Rattle.sdl_productions.specs.declared.bodies.Question.{Question}
 use Rattle.sdl_productions.specs.declared.bodies.Head.{Head}
 use Rattle.sdl_ast.specs.Views.{tree_of, plain_statement, plain_answer, text_of}
 
--- what is read, or its mark
+-- the part that was read, or its mark
 abbrev pub marked_view : {A B : Type 0} → (A → B) → the_marked.Marked A → Marked B
 marked_view f (marks.Kept x) = kept (f x)
 marked_view f (marks.TooHigh at) = too_high at
 
--- what stands before the answers of a DECISION, and before what an answer does
+-- the question of a DECISION and the head of an answer
 abbrev pub question_of : Question → PlainQuestion
 question_of q = record { at = q.at; question = tree_of q.question }
 
@@ -40,7 +40,7 @@ branching_view b =
 abbrev pub body_view : the_body.Body → MarkedBody
 body_view b = record { branching = branching_view b.branching; head = option_map head_of b.head }
 
--- the innermost is the last of the code's
+-- the code keeps the innermost body last, the definition keeps it first
 abbrev pub bodies_view : List the_body.Body → List MarkedBody
 bodies_view bodies = reverse (map body_view bodies)
 

@@ -1,5 +1,5 @@
--- The productions of declarations, signals and routes, read token by token. tools/productions
--- writes them from DeclarationSyntax.
+-- The readings of declarations, signals and routes, token by token. tools/productions writes them
+-- from DeclarationSyntax.
 use Rattle.std.specs.Prelude.{ℕ, List, ◌∷◌, pos, ◌-ℤ◌}
 use Rattle.std.specs.Option.{option_to_list}
 use Rattle.sdl_lex.specs.declared.lexemes.Word.TheVariants as words

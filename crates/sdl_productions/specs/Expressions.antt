@@ -1,4 +1,4 @@
--- Expressions (Z.100, expressions): which tokens read as which tree.
+-- Expressions (Z.100, expressions): which trees the tokens read as.
 use Rattle.std.specs.Prelude.{◌≡◌, ℕ, Bool, true, false, List, [], ◌∷◌, Option, Some, None, is_some}
 use Rattle.std.specs.Prelude.{nat_le, if◌then◌else◌}
 use Rattle.sdl_lex.specs.Limits.{GREATEST_NUMBER}
@@ -24,15 +24,15 @@ use Rattle.sdl_ast.specs.Plain.{Tree, number, truth, variable, unary, binary}
 use Rattle.sdl_productions.specs.Grammar.{Grammar}
 use Rattle.sdl_ast.specs.Places.{place_of, placed}
 
--- What a token is in an expression, some at a place.
+-- The role of a token in an expression, for some roles with its place.
 pub data Sign : Type 0 where
   -- an operand of one token
   leaf : Tree → Sign
-  -- an operator that stands between operands alone
+  -- an operator that is only binary
   joins : Level → BinaryOperator → Sign
-  -- `-`, which stands between operands or in front of one
+  -- `-`, which is binary or unary
   minus : ℕ → Sign
-  -- NOT, which stands in front of one
+  -- NOT, which is unary
   denies : ℕ → Sign
   opens : ℕ → Sign
   closes : Sign
@@ -74,7 +74,7 @@ lexeme_sign at lexemes.Quoted = other
 unfoldable pub sign : Token → Sign
 sign t = lexeme_sign t.start t.lexeme
 
--- the operator that a token is between two operands, and how tightly it binds
+-- the binary operator that a token can be, with its precedence level
 abbrev pub between : Sign → Option (Level × BinaryOperator)
 between (joins level o) = Some (level, o)
 between (minus at) = Some (Sums, Subtract)
@@ -84,7 +84,7 @@ between (opens at) = None
 between closes = None
 between other = None
 
--- the operator that a token is in front of an operand, and its place
+-- the unary operator that a token can be, with its place
 abbrev pub in_front : Sign → Option (ℕ × UnaryOperator)
 in_front (minus at) = Some (at, Negate)
 in_front (denies at) = Some (at, Not)
@@ -98,7 +98,7 @@ in_front other = None
 -- relation = sum [ (= | /= | < | <= | > | >=) sum ], sum = product { (+ | -) product },
 -- product = factor { (* | / | MOD | REM) factor }, factor = [ - | NOT ] primary,
 -- primary = number | TRUE | FALSE | name | ( disjunction ).
--- Operators of one level group to the left; a relation is no operand of another one.
+-- Operators of one level group to the left. A relation can't be an operand of another relation.
 mutual
   pub data Disjunction : List Token → Tree → List Token → Type 0 where
     one_conjunction : (ts us : List Token) (x : Tree) → Conjunction ts x us → Disjunction ts x us
@@ -143,12 +143,12 @@ mutual
         → sign t ≡ opens at → Disjunction us x (u ∷ vs) → sign u ≡ closes
         → Primary (t ∷ us) (placed at x) vs
 
--- whether an operator that goes on with an expression stands next
+-- the next token is a binary operator, which would extend the expression
 abbrev pub goes_on : List Token → Bool
 goes_on [] = false
 goes_on (t ∷ ts) = is_some (between (sign t))
 
--- a whole expression goes on as long as an operator stands next
+-- a whole expression, after which no binary operator follows
 pub record Expressed (tokens : List Token) (x : Tree) (rest : List Token) : Type 0 where
   pub reads : Disjunction tokens x rest
   pub ends : goes_on rest ≡ false

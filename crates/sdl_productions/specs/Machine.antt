@@ -1,5 +1,5 @@
--- Expressions token by token, on a stack: each open parenthesis keeps what stands before it, with a
--- place for each level of precedence.
+-- Reads expressions token by token with a stack. Each open parenthesis keeps the operands and
+-- operators before it, in one slot per precedence level.
 use Rattle.std.specs.Prelude.{ℕ, Bool, true, false, List, [], ◌∷◌, Option, Some, None, is_some}
 use Rattle.std.specs.Prelude.{nat_lt, if◌then◌else◌}
 use Rattle.sdl_lex.specs.declared.lexemes.Token.{Token}
@@ -18,7 +18,7 @@ use Rattle.sdl_ast.specs.Places.{place_of, placed}
 use Rattle.sdl_ast.specs.Heights.{tree_height}
 use Rattle.sdl_productions.specs.Readings.{Reading, read, fails, At}
 
--- how an operator is put on operands
+-- how an operator is applied to its operands
 pub record Build : Type 0 where
   pub lead : ℕ → UnaryOperator → Tree → Tree
   pub join : BinaryOperator → Tree → Tree → Tree
@@ -26,7 +26,7 @@ pub record Build : Type 0 where
 abbrev pub whole_trees : Build
 whole_trees = record { lead = λ at o x. unary at o x; join = λ o x y. binary (place_of x) o x y }
 
--- a tree that is too high stands for all trees above it
+-- an operator on a tree that is too high is dropped, and the tree takes its place
 abbrev pub low_unary : ℕ → UnaryOperator → Tree → Tree
 low_unary at o x = if nat_lt GREATEST_HEIGHT (tree_height x) then placed at x else unary at o x
 
@@ -40,7 +40,7 @@ abbrev pub low_trees : Build
 low_trees =
     record { lead = λ at o x. low_unary at o x; join = λ o x y. low_binary (place_of x) o x y }
 
--- what is left of a tree when no tree above one that is too high is built
+-- the part of a tree that is built, if no tree above one that is too high is built
 abbrev pub lowered : Tree → Tree
 lowered (number at k) = number at k
 lowered (truth at b) = truth at b
@@ -48,14 +48,14 @@ lowered (variable at n) = variable at n
 lowered (unary at o x) = low_unary at o (lowered x)
 lowered (binary at o x y) = low_binary at o (lowered x) (lowered y)
 
--- what stands before an operand inside a sum: for each level what is joined so far, with the
--- operator behind it; and the place of an operator in front of the operand
+-- The slots before an operand inside a sum. Each level keeps its left operand with the operator
+-- after it; `lead` keeps the unary operator and its place.
 pub record Terms : Type 0 where
   pub sum : Option (Tree × BinaryOperator)
   pub product : Option (Tree × BinaryOperator)
   pub lead : Option (ℕ × UnaryOperator)
 
--- what stands before a sum, likewise
+-- the slots before a sum, in the same form
 pub record Tests : Type 0 where
   pub disjunction : Option (Tree × BinaryOperator)
   pub conjunction : Option (Tree × BinaryOperator)
@@ -84,7 +84,7 @@ abbrev pub joined_to : Build → Option (Tree × BinaryOperator) → Tree → Tr
 joined_to b None y = y
 joined_to b (Some s) y = b.join s.1 s.0 y
 
--- what stands before an operand, closed behind it up to each level, and whole
+-- the slots combined with the operand after them, up to each level and completely
 abbrev pub closed_product : Build → Terms → Tree → Tree
 closed_product b t x = joined_to b t.product (led_by b t.lead x)
 
@@ -103,7 +103,7 @@ closed_tests b k y = joined_to b k.disjunction (closed_conjunction b k y)
 abbrev pub closed : Build → Frame → Tree → Tree
 closed b l x = closed_tests b l.tests (closed_terms b l.terms x)
 
--- an operator behind an operand: what binds tighter is closed, and what binds looser waits
+-- adds a binary operator after an operand: tighter levels are combined, looser levels wait
 abbrev pub with_product : Build → BinaryOperator → Terms → Tree → Terms
 with_product b o t x = record { sum = t.sum; product = Some (closed_product b t x, o); lead = None }
 
@@ -162,7 +162,7 @@ with_lead at o l =
       terms = record { sum = l.terms.sum; product = l.terms.product; lead = Some (at, o) };
     }
 
--- whether an operator of a level can't stand there: a relation is no operand of another one
+-- an operator of this level is illegal here: a relation can't be an operand of another relation
 abbrev pub bars : Level → Frame → Bool
 bars Relations l = is_some l.tests.relation
 bars Disjunctions l = false
@@ -171,7 +171,7 @@ bars Sums l = false
 bars Products l = false
 
 pub data State : Type 0 where
-  -- an operand comes next
+  -- an operand must come next
   wants : List Frame → Frame → State
   -- an operand was read
   has : List Frame → Frame → Tree → State

@@ -1,5 +1,5 @@
--- The productions above transitions as the code reads them: each with the mark of what is too high
--- in it.
+-- The readings of productions above transitions, as the code performs them. Each returns the mark
+-- of the first part that is too high.
 use Rattle.std.specs.Prelude.{Option, Some, None}
 use Rattle.std.specs.List.{filter_map}
 use Rattle.sdl_lex.specs.declared.lexemes.Word.TheVariants as words
@@ -17,7 +17,7 @@ use Rattle.sdl_productions.specs.Productions.{end_state_at, end_connection_at, p
 use Rattle.sdl_productions.specs.DeclarationProductions.{terminator_at, signals_at, route_at}
 use Rattle.sdl_productions.specs.DeclarationProductions.{connect_at, declaration_at}
 
--- what has no transition in it is never marked
+-- a part without transitions is never marked
 abbrev pub kept_at : {A : Type 0} → At A → At (Marked A)
 kept_at p = p >>= λ x. give (kept x)
 
@@ -51,7 +51,7 @@ marked_connection = do
   _ ← optional (a_word words.EndConnection) (end_connection_at name.name)
   give (map_marked (λ t. record { at = at; name = name; text = t }) text)
 
--- a part of the body of a process, marked apart for each kind
+-- a part of the body of a process, marked separately for each kind
 pub data MarkedSection : Type 0 where
   a_state : Marked PlainState → MarkedSection
   a_connection : Marked PlainConnection → MarkedSection

@@ -1,4 +1,4 @@
--- What is read, or the place of the first TASK, OUTPUT, SET or DECISION in it that is too high.
+-- A part that was read, or the place of the first action or DECISION in it that is too high.
 use Rattle.std.specs.Prelude.{ℕ, min, List, [], ◌∷◌, ◌++◌, Option, Some, None}
 use Rattle.sdl_ast.specs.Plain.{PlainAnswer, Choice, PlainStatement, decide, all_answers}
 use Rattle.sdl_ast.specs.Plain.{PlainQuestion, PlainStart, PlainDeclaration, PlainState}
@@ -13,7 +13,7 @@ abbrev pub by_place : {A : Type 0} → Option ℕ → A → Marked A
 by_place None x = kept x
 by_place (Some at) x = too_high at
 
--- a thing, where nothing in it is too high
+-- the part, or its mark if something in it is too high
 abbrev pub marked : {A : Type 0} → (A → Option ℕ) → A → Marked A
 marked high x = by_place (high x) x
 
@@ -21,12 +21,12 @@ abbrev pub map_marked : {A B : Type 0} → (A → B) → Marked A → Marked B
 map_marked f (kept x) = kept (f x)
 map_marked f (too_high at) = too_high at
 
--- one more thing behind others; the first mark stays
+-- appends a part to others; the first mark stays
 abbrev pub more : {A : Type 0} → Marked (List A) → Marked A → Marked (List A)
 more (kept xs) m = map_marked (λ x. xs ++ x ∷ []) m
 more (too_high at) m = too_high at
 
--- a thing in front of others, and all of several things; the first mark stays
+-- prepends a part to others, and combines several parts; the first mark stays
 abbrev pub in_front : {A : Type 0} → Marked A → Marked (List A) → Marked (List A)
 in_front (kept x) ms = map_marked (λ xs. x ∷ xs) ms
 in_front (too_high at) ms = too_high at
@@ -35,7 +35,7 @@ abbrev pub gathered : {A : Type 0} → List (Marked A) → Marked (List A)
 gathered [] = kept []
 gathered (m ∷ ms) = in_front m (gathered ms)
 
--- a DECISION, marked at its own place where what stands in it is marked or where it is too high
+-- A DECISION is marked at its own place if a part of it is marked or if it is too high.
 abbrev pub decided :
     PlainQuestion → Marked (List PlainAnswer) → Marked Choice → Marked PlainStatement
 decided asked (kept answers) (kept others) =
@@ -56,7 +56,7 @@ process_with head declarations start states connections =
       connections = connections;
     }
 
--- STATE parts and CONNECTIONs stand mixed in the text, so the lesser of two marks stays
+-- STATE parts and CONNECTIONs are mixed in the text, so the lesser of two marks is the first.
 abbrev pub body_marked :
     PlainProcessHead → List PlainDeclaration → PlainStart → Marked (List PlainState)
     → Marked (List PlainConnection) → Marked PlainProcess

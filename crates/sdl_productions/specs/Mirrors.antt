@@ -1,4 +1,4 @@
--- How the code's readers stand to the readings.
+-- How the results of the code's readers correspond to readings.
 use Rattle.std.specs.Prelude.{◌≡◌, List, Result, Ok, Err}
 use Rattle.std.specs.Borrow.{Bor}
 use Rattle.sdl_lex.specs.declared.lexemes.Token.{Token}
@@ -6,12 +6,12 @@ use Rattle.sdl_productions.specs.declared.stop.Stop.{Stop}
 use Rattle.sdl_productions.specs.declared.stop.Stop.TheVariants.{Unexpected, NoMemory}
 use Rattle.sdl_productions.specs.Readings.{Reading, read, fails}
 
--- the tokens from the bad one on; want of memory says nothing
+-- The reader stops at the token where the reading fails. `NoMemory` states nothing.
 abbrev pub Stops : {B : Type 0} → Stop → Reading B → Type 0
 Stops (Unexpected left) r = r ≡ fails left.now
 Stops NoMemory r = Unit {0}
 
--- the thing that was read and the rest, or where no reading goes on
+-- the reader returns the value and the remaining tokens, or stops where the reading fails
 abbrev pub Mirrors :
     {A B : Type 0} → (A → B) → Result (A × Bor (List Token)) Stop → Reading B → Type 0
 Mirrors view (Ok found) r = r ≡ read (view found.0) found.1.now

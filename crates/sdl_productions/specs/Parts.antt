@@ -1,4 +1,4 @@
--- What the code keeps of what stands before an operand.
+-- The view of a slot before an operand.
 use Rattle.std.specs.Prelude.{Option, None, Some}
 use Rattle.sdl_ast.specs.declared.expression.BinaryOperator.{BinaryOperator}
 use Rattle.sdl_productions.specs.declared.part.Part.{Part}

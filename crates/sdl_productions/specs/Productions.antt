@@ -1,5 +1,5 @@
--- The productions read token by token, in one step each. `e` reads an expression, `k` says how a
--- transition is kept. tools/productions writes them from Syntax, but for the steps of a transition.
+-- The readings of productions, one step each. `e` reads an expression, `k` states how a transition
+-- is kept. tools/productions writes them from Syntax, except the steps of a transition.
 use Rattle.std.specs.Prelude.{ℕ, suc, zero, List, [], ◌∷◌, length, Option, Some, None}
 use Rattle.std.specs.List.{filter_map}
 use Rattle.sdl_lex.specs.declared.lexemes.Word.TheVariants as words
@@ -201,11 +201,10 @@ join_at = do
 unfoldable pub end_at : At End
 end_at = choice (a_word words.NextState) next_state_at (choice (a_word words.Stop) stop_at join_at)
 
--- Bodies of a DECISION stand in each other as deep as the text goes, so a transition is read in
--- steps, each of one action, of a question with the first head, or of an end with the head or
--- ENDDECISION behind it.
+-- DECISIONs can be nested to any depth, so a transition is read in steps. Each step reads one
+-- action, or a question and the first head, or an end and the head or ENDDECISION after it.
 
--- the head of an answer or ELSE: its body is read next
+-- the head of an answer or ELSE, whose body is read next
 unfoldable pub head_step :
     {S A C T : Type 0} → Keeping S A C T → List (Body S A) → Branching S A → At (Move S A T)
 head_step k outer d = do
@@ -213,26 +212,26 @@ head_step k outer d = do
   give (reaches
       (record { outer = record { branching = d; head = head } ∷ outer; here = k.no_statement }))
 
--- ENDDECISION: what stands behind it is read next
+-- ENDDECISION, after which the statements after the DECISION are read
 unfoldable pub closing_step :
     {S A C T : Type 0} → Keeping S A C T → List (Body S A) → Branching S A → C → At (Move S A T)
 closing_step k outer d others = do
   _ ← end_decision_at
   give (reaches (record { outer = outer; here = k.decides d.before d.asked d.answers others }))
 
--- behind the body of an answer: another head, or ENDDECISION
+-- after the body of an answer: another head, or ENDDECISION
 unfoldable pub answer_step :
     {S A C T : Type 0} → Keeping S A C T → List (Body S A) → Branching S A → At (Move S A T)
 answer_step k outer d = choice a_choice (head_step k outer d) (closing_step k outer d k.no_else)
 
--- behind a body; nothing but ENDDECISION stands behind that of ELSE
+-- after a body; only ENDDECISION can follow the body of ELSE
 abbrev pub body_step :
     {S A C T : Type 0} → Keeping S A C T → List (Body S A) → Branching S A → Option PlainHead → T
     → At (Move S A T)
 body_step k outer d (Some h) text = answer_step k outer (with_answer k d h text)
 body_step k outer d None text = closing_step k outer d (k.with_else text)
 
--- behind a transition
+-- after a transition
 abbrev pub behind_step :
     {S A C T : Type 0} → Keeping S A C T → List (Body S A) → T → At (Move S A T)
 behind_step k [] text = give (closes text)
@@ -262,12 +261,12 @@ abbrev pub after_move : {S A T : Type 0} → (Reached S A → At T) → Move S A
 after_move go_on (reaches s) = go_on s
 after_move go_on (closes text) = give text
 
--- steps in a row, at most so many
+-- consecutive steps, at most n of them
 unfoldable pub steps_for : {S A C T : Type 0} → Keeping S A C T → ℕ → Reached S A → At T
 steps_for k zero s = λ ts. fails ts
 steps_for k (suc n) s = step_at k s >>= after_move (steps_for k n)
 
--- each step but the last takes a token
+-- all steps: each but the last consumes a token
 unfoldable pub steps_from : {S A C T : Type 0} → Keeping S A C T → Reached S A → At T
 steps_from k s = λ ts. steps_for k (suc (length ts)) s ts
 

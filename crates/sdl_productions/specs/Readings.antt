@@ -1,11 +1,11 @@
--- Reading with one token of sight: what a list of tokens reads as, and where a reading stops.
+-- Readings with one token of lookahead: what a list of tokens reads as, and where a reading fails.
 use Rattle.std.specs.Prelude.{◌≡◌, ℕ, Bool, true, false, List, [], ◌∷◌, ◌++◌, Option, Some, None}
 use Rattle.std.specs.Prelude.{length, suc, zero, ◌<◌, ◌≤◌}
 use Rattle.sdl_lex.specs.declared.lexemes.Token.{Token}
 use Rattle.sdl_lex.specs.declared.lexemes.Symbol.TheVariants.{Open, Close, Comma}
 use Rattle.sdl_productions.specs.Tokens.{begins, a_symbol}
 
--- a thing, and the tokens behind it; or the tokens from the first one with which nothing can go on
+-- a value and the remaining tokens; or a failure, with the tokens from the first unexpected one on
 pub data Reading (A : Type 0) : Type 0 where
   read : A → List Token → Reading A
   fails : List Token → Reading A
@@ -42,13 +42,13 @@ choice f p q = λ ts. either (begins f ts) p q ts
 abbrev pub optional : {A B : Type 0} → (Token → Option B) → At A → At (Option A)
 optional f p = choice f (p >>= λ x. give (Some x)) (give None)
 
--- things in a row, at most so many
+-- repeated items, at most n
 unfoldable pub many_for : {A B : Type 0} → (Token → Option B) → At A → ℕ → At (List A)
 many_for f p zero = λ ts. fails ts
 many_for f p (suc n) =
     λ ts. either (begins f ts) (p >>= λ x. many_for f p n >>= λ xs. give (x ∷ xs)) (give []) ts
 
--- no more things than tokens
+-- repeated items, no more than there are tokens
 unfoldable pub many : {A B : Type 0} → (Token → Option B) → At A → At (List A)
 many f p = λ ts. many_for f p (suc (length ts)) ts
 
@@ -56,7 +56,7 @@ many f p = λ ts. many_for f p (suc (length ts)) ts
 abbrev pub behind_comma : {A : Type 0} → At A → At A
 behind_comma p = token (a_symbol Comma) >>= λ _. p
 
--- {, p} behind a first thing
+-- {, p} after a first item
 abbrev pub separated_from : {A : Type 0} → A → At A → At (List A)
 separated_from x p = many (a_symbol Comma) (behind_comma p) >>= λ xs. give (x ∷ xs)
 
@@ -68,17 +68,17 @@ list_in_parentheses p = choice (a_symbol Open)
     (token (a_symbol Open) >>= λ _. separated p >>= λ xs. token (a_symbol Close) >>= λ _. give xs)
     (give [])
 
--- a list of things put before those that are read
+-- prepends items to those that are read
 abbrev pub prepend : {A : Type 0} → List A → Reading (List A) → Reading (List A)
 prepend xs (read ys us) = read (xs ++ ys) us
 prepend xs (fails us) = fails us
 
--- what is read takes at least one token
+-- a successful reading consumes at least one token
 abbrev pub Shortens : {A : Type 0} → At A → Type 0
 Shortens {A} p =
     (ts : List Token) (x : A) (us : List Token) → p ts ≡ read x us → length us < length ts
 
--- what is left is no longer
+-- a successful reading leaves no more tokens than it was given
 abbrev pub NeverLonger : {A : Type 0} → At A → Type 0
 NeverLonger {A} p =
     (ts : List Token) (x : A) (us : List Token) → p ts ≡ read x us → length us ≤ length ts

@@ -1,4 +1,4 @@
--- What the code's stack of operands stands for.
+-- Views of the stack of operands that the code keeps.
 use Rattle.std.specs.Prelude.{◌≡◌, ◌<◌, Option, None, Some, List, [], ◌∷◌, map, reverse, length}
 use Rattle.std.specs.Prelude.{Result, Ok, Err}
 use Rattle.sdl_lex.specs.declared.lexemes.Token.{Token}
@@ -68,7 +68,7 @@ turn_view (turns.Goes s) = goes (state_view s)
 turn_view (turns.Done p) = done (tree_of p.tree.value)
 turn_view turns.Stuck = stuck
 
--- what one token makes of a state in front of some tokens
+-- the effect of one token on a state, given the remaining tokens
 abbrev pub Advances : Result the_step.Step Stop → State → List Token → Type 0
 Advances (Ok (steps.Goes s after)) before ts =
     (run low_trees before ts ≡ run low_trees (state_view s) after.now)

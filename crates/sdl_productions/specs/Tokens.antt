@@ -1,4 +1,4 @@
--- What a token can stand for in a text.
+-- What a single token can stand for in a text.
 use Rattle.std.specs.Prelude.{ℕ, Bool, true, false, ◌==◌, nat_le, List, [], ◌∷◌, Option, Some, None}
 use Rattle.std.specs.Prelude.{is_some, if◌then◌else◌, bytes_eq, pos}
 use Rattle.sdl_lex.specs.Spelling.{folded}
@@ -24,7 +24,7 @@ use Rattle.sdl_ast.specs.declared.tree.Relation.{Relation}
 use Rattle.sdl_ast.specs.declared.tree.Relation.TheVariants as relations
 use Rattle.sdl_productions.specs.declared.comparison.Comparison.{Comparison}
 
--- the words and the symbols, numbered in the order of their declaration
+-- words and symbols, numbered in the order of their declarations
 abbrev pub word_number : Word → ℕ
 word_number words.Block = 0
 word_number words.EndBlock = 1
@@ -100,7 +100,7 @@ same_word v w = word_number v == word_number w
 abbrev pub same_symbol : Symbol → Symbol → Bool
 same_symbol r s = symbol_number r == symbol_number s
 
--- a lexeme at a place as this word, or this symbol: its place
+-- the place of a lexeme, if it is this word or this symbol
 abbrev pub word_place : Word → ℕ → Lexeme → Option ℕ
 word_place w at (lexemes.Word v) = if same_word v w then Some at else None
 word_place w at (lexemes.Name n) = None
@@ -115,7 +115,7 @@ symbol_place s at (lexemes.Number k) = None
 symbol_place s at (lexemes.Word w) = None
 symbol_place s at lexemes.Quoted = None
 
--- a number that a text may have
+-- the value of a number, if it is within the limit
 abbrev pub number_value : Lexeme → Option ℕ
 number_value (lexemes.Number k) = if nat_le k GREATEST_NUMBER then Some k else None
 number_value (lexemes.Name n) = None
@@ -161,9 +161,8 @@ relation_value (lexemes.Symbol symbols.Greater) = Some relations.Greater
 relation_value (lexemes.Symbol symbols.GreaterEqual) = Some relations.GreaterEqual
 relation_value _ = None
 
--- the words that begin an entity of a block, a declaration of a process, a part of its body, a part
--- of a state, an action, the end of a transition; and what begins an answer of a DECISION or its
--- ELSE
+-- The place of a token that begins an entity of a block, a declaration or a section of a process, a
+-- clause of a state, an action, an end, an answer or ELSE.
 abbrev pub entity_place : ℕ → Lexeme → Option ℕ
 entity_place at (lexemes.Word words.Signal) = Some at
 entity_place at (lexemes.Word words.SignalRoute) = Some at
@@ -204,7 +203,7 @@ choice_place at (lexemes.Symbol symbols.Open) = Some at
 choice_place at (lexemes.Word words.Else) = Some at
 choice_place at _ = None
 
--- how a token may stand for something, and for what: none where it does not
+-- The value that a token stands for, or none if it isn't of this kind.
 abbrev pub a_word : Word → Token → Option ℕ
 a_word w t = word_place w t.start t.lexeme
 
@@ -232,31 +231,31 @@ party_or_name (Some p) n = Some p
 party_or_name None (Some n) = Some (parties.Process n)
 party_or_name None None = None
 
--- the word that begins an entity of a block
+-- a word that begins an entity of a block
 abbrev pub an_entity : Token → Option ℕ
 an_entity t = entity_place t.start t.lexeme
 
--- the word that begins a declaration of a process
+-- a word that begins a declaration of a process
 abbrev pub a_declaration : Token → Option ℕ
 a_declaration t = declaration_place t.start t.lexeme
 
--- the word that begins a STATE part or a CONNECTION
+-- the word STATE or CONNECTION
 abbrev pub a_section : Token → Option ℕ
 a_section t = section_place t.start t.lexeme
 
--- the word that begins an INPUT or a SAVE
+-- the word INPUT or SAVE
 abbrev pub a_clause : Token → Option ℕ
 a_clause t = clause_place t.start t.lexeme
 
--- the word that begins an action
+-- a word that begins an action
 abbrev pub an_action : Token → Option ℕ
 an_action t = action_place t.start t.lexeme
 
--- the word that begins the end of a transition
+-- a word that begins the end of a transition
 abbrev pub an_end : Token → Option ℕ
 an_end t = end_place t.start t.lexeme
 
--- the parenthesis that begins an answer, or ELSE
+-- the parenthesis that begins an answer, or the word ELSE
 abbrev pub a_choice : Token → Option ℕ
 a_choice t = choice_place t.start t.lexeme
 
@@ -264,7 +263,7 @@ abbrev pub related : ℕ → Option Relation → Option Comparison
 related at (Some r) = Some (record { at = at; relation = r })
 related at None = None
 
--- a relation at its place
+-- a relation operator, with its place
 abbrev pub a_relation : Token → Option Comparison
 a_relation t = related t.start (relation_value t.lexeme)
 
@@ -297,7 +296,7 @@ abbrev pub constant_value : ℕ → Option Literal → Option Constant
 constant_value at (Some v) = Some (record { at = at; value = v })
 constant_value at None = None
 
--- a number, TRUE or FALSE as a constant
+-- a number, TRUE or FALSE, as a constant
 abbrev pub a_constant : Token → Option Constant
 a_constant t = constant_value t.start (literal_value (a_number t) (a_truth t))
 
@@ -313,7 +312,7 @@ abbrev pub equals : ℕ → Option ℕ → Option ℕ
 equals n (Some k) = if k == n then Some k else None
 equals n None = None
 
--- this number, however it is written
+-- this number, in any spelling
 abbrev pub the_number : ℕ → Token → Option ℕ
 the_number n t = equals n (a_number t)
 
@@ -321,11 +320,11 @@ abbrev pub closes : List ℕ → Option Identifier → Option Identifier
 closes n (Some m) = if bytes_eq (folded m.name) (folded n) then Some m else None
 closes n None = None
 
--- this name again, in any case
+-- this name, in upper or lower case
 abbrev pub a_closing : List ℕ → Token → Option Identifier
 a_closing n t = closes n (a_name t)
 
--- whether a token that stands for something comes next
+-- the next token is of this kind
 abbrev pub begins : {A : Type 0} → (Token → Option A) → List Token → Bool
 begins f [] = false
 begins f (t ∷ ts) = is_some (f t)

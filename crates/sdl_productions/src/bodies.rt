@@ -1,5 +1,5 @@
-//! What is kept of a transition while it is read statement by statement. DECISIONs stand in each other as deep as a text goes,
-//! so what is open is kept on a stack, and where something is too high only its place is kept.
+//! The state kept while a transition is read statement by statement. DECISIONs can be nested to any depth, so the open
+//! ones are kept on a stack. If a statement is too high, only its place is kept.
 ghost use Rattle.std.specs.Prelude.{◌≡◌, map, IfOk, IfErr};
 ghost use Rattle.sdl_ast.specs.declared.tree.Decision.{out-Decision};
 ghost use Rattle.sdl_ast.specs.Heights.{high_in_statement};
@@ -16,21 +16,21 @@ use sdl_ast::{
     high_in_decision,
 };
 
-/// What a DECISION asks. The place is that of the word DECISION.
+/// The question of a DECISION. The place is that of the word DECISION.
 #[derive(Drop)]
 pub struct Question {
     pub at: u32,
     pub question: Expression,
 }
 
-/// The values that an answer is for. The place is that of its opening parenthesis.
+/// The values that an answer matches. The place is that of its opening parenthesis.
 #[derive(Drop)]
 pub struct Head {
     pub at: u32,
     pub ranges: Vec<Range>,
 }
 
-/// A DECISION that is open: the statements before it, its question, and the answers that were read whole.
+/// An open DECISION: the statements before it, its question, and the answers read completely.
 #[derive(Drop)]
 pub struct Branching {
     pub before: Marked<Vec<Statement>>,
@@ -38,30 +38,30 @@ pub struct Branching {
     pub answers: Marked<Vec<Answer>>,
 }
 
-/// A body that is open, with the head of its answer, or none for that of ELSE.
+/// An open body, with the head of its answer, or `None` for the body of ELSE.
 #[derive(Drop)]
 pub struct Body {
     pub branching: Branching,
     pub head: Option<Head>,
 }
 
-/// The bodies that are open, the innermost last, and the statements so far in what is being read.
+/// The open bodies, innermost last, and the statements so far in the innermost.
 #[derive(Drop)]
 pub struct Reached {
     pub outer: Vec<Body>,
     pub here: Marked<Vec<Statement>>,
 }
 
-/// What a step comes to.
+/// The result of one step.
 #[derive(Drop)]
 pub enum Move {
-    /// Another place on the way.
+    /// The transition isn't complete; this is the next state.
     Reaches(Reached),
-    /// The whole transition.
+    /// The transition is complete.
     Closes(Marked<Transition>),
 }
 
-/// An action, marked where it is too high.
+/// An action, or its place if it is too high.
 pub fn limited_action(action: Action) -> Marked<Statement>
     ensures { marked_view plain_statement result ≡ marked high_in_statement (act (action_of action)) }
 {
@@ -71,7 +71,7 @@ pub fn limited_action(action: Action) -> Marked<Statement>
     }
 }
 
-/// A DECISION, marked where it is too high.
+/// A DECISION, or its place if it is too high.
 fn limited_decision(decision: Decision) -> Marked<Statement>
     ensures { marked_view plain_statement result ≡ marked high_in_statement (decide (out-Decision decision).at (tree_of (out-Decision decision).question) (choice_of decision)) }
 {
@@ -81,7 +81,7 @@ fn limited_decision(decision: Decision) -> Marked<Statement>
     }
 }
 
-/// A DECISION, marked where it or what stands in it is too high.
+/// A DECISION, or its place if it or a part of it is too high.
 fn decided(
     asked: Question,
     answers: Marked<Vec<Answer>>,
@@ -106,7 +106,7 @@ fn decided(
     })
 }
 
-/// The statements up to a DECISION that is closed now, with it.
+/// Appends a DECISION that is complete now to the statements before it. `NoMemory` if memory runs out.
 pub fn closed<'a>(
     branching: Branching,
     otherwise: Marked<Option<Transition>>,
@@ -122,7 +122,7 @@ pub fn closed<'a>(
     more(before, decided(asked, answers, otherwise))
 }
 
-/// An answer with the body that was read for it.
+/// The answer with this head and body, or the mark of the body.
 fn answered(head: Head, body: Marked<Transition>) -> Marked<Answer>
     ensures { marked_view plain_answer result ≡ map_marked (plain_answer_of (head_of head)) (marked_view text_of body) }
 {
@@ -133,7 +133,7 @@ fn answered(head: Head, body: Marked<Transition>) -> Marked<Answer>
     }
 }
 
-/// An answer that was read whole, behind the others.
+/// Appends an answer that is complete now to the others. `NoMemory` if memory runs out.
 pub fn with_answer<'a>(
     branching: Branching,
     head: Head,
@@ -155,7 +155,7 @@ pub fn with_answer<'a>(
     })
 }
 
-/// What stands behind the answers: ELSE with the body that was read for it.
+/// The ELSE with this body, or the mark of the body.
 pub fn with_else(body: Marked<Transition>) -> Marked<Option<Transition>>
     ensures { marked_view else_choice result ≡ marked_texts.with_else (marked_view text_of body) }
 {
@@ -165,7 +165,7 @@ pub fn with_else(body: Marked<Transition>) -> Marked<Option<Transition>>
     }
 }
 
-/// The statements with the end behind them.
+/// The transition with these statements and this end, or the mark of the statements.
 pub fn ended(statements: Marked<Vec<Statement>>, end: Option<End>) -> Marked<Transition>
     ensures { marked_view text_of result ≡ marked_texts.ended (marked_view (λ v. map plain_statement v.items) statements) end }
 {

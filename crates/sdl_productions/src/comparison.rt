@@ -1,7 +1,7 @@
-//! What an answer compares with.
+//! The relation that an answer compares with.
 use sdl_ast::Relation;
 
-/// A relation at its place.
+/// A relation, with its place.
 #[derive(Clone, Copy)]
 pub struct Comparison {
     pub at: u32,

@@ -1,4 +1,4 @@
-//! What stands before an operand, with a place for each level of precedence, and how it is closed behind one.
+//! The operands and operators before an operand, one slot per precedence level, and how they combine with it.
 ghost use Rattle.std.specs.Prelude.{◌≡◌, IfOk};
 ghost use Rattle.sdl_productions.specs.Machine.{led_by, joined_to, no_terms, empty_frame, low_trees, closed_terms, closed_tests, closed, with_product, with_sum, with_relation, with_conjunction, with_disjunction, with_operator, bars};
 ghost use Rattle.sdl_productions.specs.Parts.{slot_view};
@@ -11,8 +11,8 @@ use crate::part::Part;
 use sdl_ast::{BinaryOperator, UnaryOperator};
 use std::alloc::{AllocError, Global};
 
-/// What stands before an operand inside a sum: for each level what is joined so far, with the operator
-/// behind it; and an operator in front of the operand with its place.
+/// The slots before an operand inside a sum. Each level keeps its left operand with the operator after it; `lead`
+/// keeps the unary operator and its place.
 #[derive(Drop)]
 pub(crate) struct Terms {
     pub(crate) sum: Option<(Part, BinaryOperator)>,
@@ -20,7 +20,7 @@ pub(crate) struct Terms {
     pub(crate) lead: Option<(u32, UnaryOperator)>,
 }
 
-/// What stands before a sum, likewise.
+/// The slots before a sum, in the same form.
 #[derive(Drop)]
 pub(crate) struct Tests {
     pub(crate) disjunction: Option<(Part, BinaryOperator)>,
@@ -28,7 +28,7 @@ pub(crate) struct Tests {
     pub(crate) relation: Option<(Part, BinaryOperator)>,
 }
 
-/// Both, in one pair of parentheses with the place of its opening one.
+/// Both, inside one pair of parentheses. `opened` is the place of the opening parenthesis.
 #[derive(Drop)]
 pub(crate) struct Frame {
     pub(crate) opened: u32,
@@ -36,7 +36,7 @@ pub(crate) struct Frame {
     pub(crate) terms: Terms,
 }
 
-/// No operand of a sum stands there, and no operator in front of one.
+/// Empty slots of a sum.
 pub(crate) fn no_terms() -> Terms
     ensures { terms_view result ≡ no_terms }
 {
@@ -47,7 +47,7 @@ pub(crate) fn no_terms() -> Terms
     }
 }
 
-/// Nothing stands behind the parenthesis that was opened at this place.
+/// Empty slots after the parenthesis at this place.
 pub(crate) fn empty_frame(opened: u32) -> Frame
     ensures { frame_view result ≡ empty_frame opened }
 {
@@ -62,7 +62,7 @@ pub(crate) fn empty_frame(opened: u32) -> Frame
     }
 }
 
-/// What stands inside a product, closed behind an operand.
+/// Combines the slots inside a product with the operand after them.
 fn close_product(
     alloc: Global,
     product: Option<(Part, BinaryOperator)>,
@@ -75,7 +75,7 @@ fn close_product(
     joined_to(alloc, product, factor)
 }
 
-/// What stands inside a sum, closed behind an operand.
+/// Combines the slots inside a sum with the operand after them.
 fn close_terms(alloc: Global, terms: Terms, operand: Part) -> Result<Part, AllocError>
     ensures { IfOk result (λ p. tree_of p.tree.value ≡ closed_terms low_trees (terms_view terms) (tree_of operand.tree.value)) }
 {
@@ -84,7 +84,7 @@ fn close_terms(alloc: Global, terms: Terms, operand: Part) -> Result<Part, Alloc
     joined_to(alloc, sum, last)
 }
 
-/// What stands before a sum, closed behind it.
+/// Combines the slots before a sum with that sum.
 fn close_tests(alloc: Global, tests: Tests, last: Part) -> Result<Part, AllocError>
     ensures { IfOk result (λ p. tree_of p.tree.value ≡ closed_tests low_trees (tests_view tests) (tree_of last.tree.value)) }
 {
@@ -98,7 +98,7 @@ fn close_tests(alloc: Global, tests: Tests, last: Part) -> Result<Part, AllocErr
     joined_to(alloc, disjunction, last)
 }
 
-/// A frame closed behind an operand.
+/// Combines all slots of a frame with the operand after them.
 pub(crate) fn close_frame(alloc: Global, frame: Frame, operand: Part) -> Result<Part, AllocError>
     ensures { IfOk result (λ p. tree_of p.tree.value ≡ closed low_trees (frame_view frame) (tree_of operand.tree.value)) }
 {
@@ -111,7 +111,7 @@ pub(crate) fn close_frame(alloc: Global, frame: Frame, operand: Part) -> Result<
     close_tests(alloc, tests, last)
 }
 
-/// An operator of a product behind an operand.
+/// Adds an operator of a product after an operand.
 fn with_product(
     alloc: Global,
     operator: BinaryOperator,
@@ -129,7 +129,7 @@ fn with_product(
     })
 }
 
-/// An operator of a sum behind an operand.
+/// Adds an operator of a sum after an operand.
 fn with_sum(
     alloc: Global,
     operator: BinaryOperator,
@@ -146,7 +146,7 @@ fn with_sum(
     })
 }
 
-/// The sign of a relation behind a sum.
+/// Adds a relation operator after a sum.
 fn with_relation(
     alloc: Global,
     operator: BinaryOperator,
@@ -168,7 +168,7 @@ fn with_relation(
     })
 }
 
-/// AND behind a relation.
+/// Adds AND after a relation.
 fn with_conjunction(
     alloc: Global,
     operator: BinaryOperator,
@@ -191,7 +191,7 @@ fn with_conjunction(
     })
 }
 
-/// OR or XOR behind a conjunction.
+/// Adds OR or XOR after a conjunction.
 fn with_disjunction(
     alloc: Global,
     operator: BinaryOperator,
@@ -208,7 +208,7 @@ fn with_disjunction(
     })
 }
 
-/// An operator behind an operand: what binds tighter is closed, and what binds looser waits.
+/// Adds a binary operator after an operand: tighter levels are combined, looser levels wait.
 pub(crate) fn with_operator(
     alloc: Global,
     level: Level,
@@ -246,7 +246,7 @@ pub(crate) fn with_operator(
     })
 }
 
-/// Whether an operator of a level can't stand there.
+/// Whether an operator of this level is illegal here: a relation can't be an operand of another relation.
 pub(crate) fn bars(level: Level, frame: &Frame) -> bool
     ensures { result ≡ bars level (frame_view frame.now) }
 {

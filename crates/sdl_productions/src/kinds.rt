@@ -1,4 +1,4 @@
-//! The kinds of tokens: words, symbols, names, numbers, and what a single token may be in a production.
+//! The kinds of tokens: words, symbols, names, numbers, and the alternatives that one token may have in a production.
 ghost use Rattle.std.specs.Prelude.{◌≡◌};
 ghost use Rattle.sdl_productions.specs.Tokens.{same_word, same_symbol, a_word, a_symbol, a_number, a_name, a_sort, a_truth, environment, a_party, a_destination, a_constant, a_count, the_number, a_closing, a_quoted, a_relation, relation_value, sender_value, literal_value};
 
@@ -7,21 +7,21 @@ use crate::tokens::Kind;
 use sdl_ast::{Constant, Destination, Identifier, Literal, Party, Relation, Sort};
 use sdl_lex::{Lexeme, MAX_NUMBER, Name, Symbol, Token, Word};
 
-/// Whether a word is the wanted one.
+/// Whether a word is the expected one.
 fn is_same_word(found: Word, wanted: Word) -> bool
     ensures { result ≡ same_word found wanted }
 {
     found == wanted
 }
 
-/// Whether a symbol is the wanted one.
+/// Whether a symbol is the expected one.
 fn is_same_symbol(found: Symbol, wanted: Symbol) -> bool
     ensures { result ≡ same_symbol found wanted }
 {
     found == wanted
 }
 
-/// This word: its place.
+/// This word. Its value is its place.
 impl Kind for Word {
     type Value = u32;
 
@@ -35,7 +35,7 @@ impl Kind for Word {
     }
 }
 
-/// This symbol: its place.
+/// This symbol. Its value is its place.
 impl Kind for Symbol {
     type Value = u32;
 
@@ -49,7 +49,7 @@ impl Kind for Symbol {
     }
 }
 
-/// A token that is a name, at its place.
+/// The name that a token is, with its place.
 fn name_of(token: &Token) -> Option<Identifier>
     ensures { result ≡ a_name token.now }
 {
@@ -62,7 +62,7 @@ fn name_of(token: &Token) -> Option<Identifier>
     }
 }
 
-/// A name, at its place.
+/// Any name, with its place.
 #[derive(Clone, Copy)]
 pub struct AnyName;
 
@@ -76,7 +76,7 @@ impl Kind for AnyName {
     }
 }
 
-/// This name, in any case.
+/// This name, in upper or lower case.
 #[derive(Clone, Copy)]
 pub struct Closing(pub Name);
 
@@ -93,7 +93,7 @@ impl Kind for Closing {
     }
 }
 
-/// A token that is a number.
+/// The value of a token that is a number within the limit.
 fn number_of(token: &Token) -> Option<u32>
     ensures { result ≡ a_number token.now }
 {
@@ -103,7 +103,7 @@ fn number_of(token: &Token) -> Option<u32>
     }
 }
 
-/// A number.
+/// Any number.
 #[derive(Clone, Copy)]
 pub struct AnyNumber;
 
@@ -117,7 +117,7 @@ impl Kind for AnyNumber {
     }
 }
 
-/// A number of 1 or more.
+/// Any number of 1 or more.
 #[derive(Clone, Copy)]
 pub struct AnyCount;
 
@@ -134,7 +134,7 @@ impl Kind for AnyCount {
     }
 }
 
-/// This number, however it is written.
+/// This number, in any spelling.
 #[derive(Clone, Copy)]
 pub struct ThatNumber(pub u32);
 
@@ -151,7 +151,7 @@ impl Kind for ThatNumber {
     }
 }
 
-/// A sort.
+/// Any sort.
 #[derive(Clone, Copy)]
 pub struct AnySort;
 
@@ -169,7 +169,7 @@ impl Kind for AnySort {
     }
 }
 
-/// A token that is ENV.
+/// ENV, if a token is this word.
 fn environment_of(token: &Token) -> Option<Party>
     ensures { result ≡ environment token.now }
 {
@@ -199,7 +199,7 @@ impl Kind for AnyParty {
     }
 }
 
-/// A token that is SENDER.
+/// SENDER with its place, if a token is this word.
 fn sender_of(token: &Token) -> Option<Destination>
     ensures { result ≡ sender_value token.now.start token.now.lexeme }
 {
@@ -229,7 +229,7 @@ impl Kind for AnyDestination {
     }
 }
 
-/// A token that is TRUE or FALSE.
+/// The truth value of a token that is TRUE or FALSE.
 fn truth_of(token: &Token) -> Option<bool>
     ensures { result ≡ a_truth token.now }
 {
@@ -240,7 +240,7 @@ fn truth_of(token: &Token) -> Option<bool>
     }
 }
 
-/// What a token is as a literal.
+/// The literal that a token is.
 fn literal_of(token: &Token) -> Option<Literal>
     ensures { result ≡ literal_value (a_number token.now) (a_truth token.now) }
 {
@@ -273,7 +273,7 @@ impl Kind for AnyConstant {
     }
 }
 
-/// A token that is a relation.
+/// The relation that a token is.
 fn relation_of(token: &Token) -> Option<Relation>
     ensures { result ≡ relation_value token.now.lexeme }
 {
@@ -288,7 +288,7 @@ fn relation_of(token: &Token) -> Option<Relation>
     }
 }
 
-/// A relation, at its place.
+/// Any relation, with its place.
 #[derive(Clone, Copy)]
 pub struct AnyRelation;
 
@@ -308,7 +308,7 @@ impl Kind for AnyRelation {
     }
 }
 
-/// A quoted text: its place.
+/// A quoted text. Its value is its place.
 #[derive(Clone, Copy)]
 pub struct AnyQuoted;
 

@@ -1,6 +1,6 @@
-//! How tightly operators bind.
+//! Precedence levels of operators.
 
-/// The operators between operands that group with one another, from the loosest to the tightest.
+/// A precedence level of binary operators, from the loosest to the tightest.
 #[derive(Clone, Copy, Debug, PartialEq, Eq)]
 pub(crate) enum Level {
     /// OR and XOR.

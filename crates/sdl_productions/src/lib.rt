@@ -1,5 +1,5 @@
-//! Single tokens and expressions as they are read, what is kept of a transition while it is read, and what each production is as a
-//! reading of tokens. `sdl_readers` reads the productions.
+//! Reads single tokens and expressions, keeps the state of a transition that is being read, and defines each production
+//! as a reading of tokens. `sdl_readers` reads the productions.
 #![tactic(auto)]
 
 mod bodies;

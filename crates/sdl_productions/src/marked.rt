@@ -1,4 +1,4 @@
-//! What was read, or the place of what is too high in it.
+//! A part that was read, or the place of the first part of it that is too high.
 ghost use Rattle.std.specs.Prelude.{◌≡◌, map, List, IfOk, IfErr};
 ghost use Rattle.sdl_ast.specs.Plain.{PlainStatement, PlainAnswer, PlainClause, PlainState, PlainConnection, PlainEntity};
 ghost use Rattle.sdl_ast.specs.Views.{plain_statement, plain_answer, clause_of, state_of, connection_of, entity_of};
@@ -9,12 +9,12 @@ use crate::stop::{Stop, push};
 use sdl_ast::{Answer, Connection, Entity, StateClause, StatePart, Statement};
 use std::alloc::Global;
 
-/// What was read, or the place of the first TASK, OUTPUT, SET or DECISION in it that is too high.
+/// A part that was read, or the place of the first TASK, OUTPUT, SET or DECISION in it that is too high.
 #[derive(Drop)]
 pub enum Marked<T> {
     /// Nothing in it is too high.
     Kept(T),
-    /// What stands at this place is.
+    /// The statement at this place is too high.
     TooHigh(u32),
 }
 
@@ -61,7 +61,7 @@ impl Part for Entity {
     ghost view = { entity_of };
 }
 
-/// One more part behind others; the first mark stays.
+/// Appends a part to others. The first mark stays. `NoMemory` if memory runs out.
 pub fn more<'a, T: Part>(parts: Marked<Vec<T>>, part: Marked<T>) -> Result<Marked<Vec<T>>, Stop<'a>>
     ensures ok { IfOk result (λ found. marked_view (λ v. map T.view v.items) found ≡ more (marked_view (λ v. map T.view v.items) parts) (marked_view T.view part)) }
     ensures err { IfErr result (λ stop. stop ≡ Stop.NoMemory) }
@@ -77,7 +77,7 @@ pub fn more<'a, T: Part>(parts: Marked<Vec<T>>, part: Marked<T>) -> Result<Marke
     Ok(Marked::Kept(parts))
 }
 
-/// All of several parts; the first mark stays.
+/// Combines several parts into one. The first mark stays. `NoMemory` if memory runs out.
 pub fn gathered<'a, T: Part>(
     alloc: Global,
     parts: Vec<Marked<T>>,

@@ -1,5 +1,5 @@
-//! Expressions token by token. Each open parenthesis keeps what stands before it, so that no depth of parentheses needs more
-//! than room on the heap.
+//! Reads expressions token by token. Each open parenthesis keeps the operands and operators before it on the heap, so
+//! nested parentheses don't deepen the call stack.
 ghost use Rattle.std.specs.Prelude.{◌≡◌, ◌<◌, IfOk, length, map, reverse, List, [], ◌∷◌};
 ghost use Rattle.sdl_productions.specs.Machine.{wants, empty_frame, low_trees, turn, want_turn, lead_turn, join_turn, have_turn, close_turn, end_turn, run, expression_at};
 ghost use Rattle.sdl_productions.specs.Mirrors.{Mirrors};
@@ -16,7 +16,7 @@ use sdl_ast::{BinaryOperator, Expression, UnaryOperator};
 use sdl_lex::Token;
 use std::alloc::{AllocError, Global};
 
-/// The frames of the open parentheses, the innermost apart, and the operand if one was read.
+/// The frames of the open parentheses, the innermost separate, and the operand if one was read.
 #[derive(Drop)]
 struct State {
     outer: Vec<Frame>,
@@ -24,7 +24,7 @@ struct State {
     operand: Option<Part>,
 }
 
-/// What a token makes of a state.
+/// The effect of a token on a state.
 #[derive(Drop)]
 enum Turn {
     Goes(State),
@@ -32,7 +32,7 @@ enum Turn {
     Stuck,
 }
 
-/// The stack at the beginning of an expression.
+/// The state at the beginning of an expression.
 fn start(alloc: Global) -> State
     ensures { state_view result ≡ wants [] (empty_frame 0) }
 {
@@ -43,7 +43,7 @@ fn start(alloc: Global) -> State
     }
 }
 
-/// An operator in front of an operand: only one may stand there.
+/// Adds a unary operator before an operand. Only one is allowed there.
 fn lead(outer: Vec<Frame>, mut here: Frame, at: u32, operator: UnaryOperator) -> Turn
     ensures { turn_view result ≡ lead_turn (stack_view outer.items) (frame_view here) at operator }
 {
@@ -58,7 +58,7 @@ fn lead(outer: Vec<Frame>, mut here: Frame, at: u32, operator: UnaryOperator) ->
     })
 }
 
-/// An operand has to come next.
+/// Handles a token while an operand must come next.
 fn want(
     alloc: Global,
     mut outer: Vec<Frame>,
@@ -87,7 +87,7 @@ fn want(
     }))
 }
 
-/// A closing parenthesis: it closes the innermost that is open, or else ends the expression.
+/// Handles a closing parenthesis: it closes the innermost open one, or else ends the expression.
 fn close(
     alloc: Global,
     mut outer: Vec<Frame>,
@@ -108,7 +108,7 @@ fn close(
     }
 }
 
-/// A token that goes on with no expression: it ends one where no parenthesis is open.
+/// Handles a token that can't extend the expression: it ends the expression if no parenthesis is open.
 fn end(alloc: Global, outer: Vec<Frame>, here: Frame, operand: Part) -> Result<Turn, AllocError>
     ensures { IfOk result (λ t. turn_view t ≡ end_turn low_trees (stack_view outer.items) (frame_view here) (tree_of operand.tree.value)) }
 {
@@ -118,7 +118,7 @@ fn end(alloc: Global, outer: Vec<Frame>, here: Frame, operand: Part) -> Result<T
     Ok(Turn::Done(close_frame(alloc, here, operand)?))
 }
 
-/// An operator behind an operand.
+/// Handles a binary operator after an operand.
 fn join(
     alloc: Global,
     outer: Vec<Frame>,
@@ -140,7 +140,7 @@ fn join(
     }))
 }
 
-/// An operand was read.
+/// Handles a token after an operand.
 fn have(
     alloc: Global,
     outer: Vec<Frame>,
@@ -165,7 +165,7 @@ fn have(
     }
 }
 
-/// What a token makes of a state, where it is known what it is in an expression.
+/// The effect on a state of a token with this role.
 #[tactic(auto, unfolding(crate::specs::Machine::turn))]
 fn take_turn(alloc: Global, state: State, sign: Sign) -> Result<Turn, AllocError>
     ensures { IfOk result (λ t. turn_view t ≡ turn low_trees (state_view state) (sign_view sign)) }
@@ -181,14 +181,14 @@ fn take_turn(alloc: Global, state: State, sign: Sign) -> Result<Turn, AllocError
     }
 }
 
-/// What one token of an expression makes.
+/// The result of one token of an expression.
 #[derive(Drop)]
 enum Step<'a> {
     Goes(State, &'a [Token]),
     Done(Expression),
 }
 
-/// Goes on by one token.
+/// Consumes one token. `Unexpected` if the expression can't continue with it, `NoMemory` if memory runs out.
 #[tactic(auto, unfolding(crate::specs::Machine::run))]
 fn make_step<'a>(alloc: Global, state: State, tokens: &'a [Token]) -> Result<Step<'a>, Stop<'a>>
     ensures { Advances result (state_view state) tokens.now }
@@ -204,7 +204,7 @@ fn make_step<'a>(alloc: Global, state: State, tokens: &'a [Token]) -> Result<Ste
     }
 }
 
-/// Reads an expression.
+/// Reads an expression. Returns it and the remaining tokens. `Unexpected` holds the tokens from the bad one on.
 #[tactic(auto, unfolding(crate::specs::Machine::expression_at))]
 pub fn expression<'a>(
     alloc: Global,

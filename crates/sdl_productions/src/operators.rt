@@ -1,4 +1,4 @@
-//! Operators put on expressions, while they are read.
+//! Applies operators to expressions while they are read.
 ghost use Rattle.std.specs.Prelude.{◌≡◌, ◌≤◌, ◌+◌, IfOk};
 ghost use Rattle.sdl_ast.specs.Plain.{number, truth, variable};
 ghost use Rattle.sdl_ast.specs.Places.{place_of, placed};
@@ -53,7 +53,7 @@ fn place(tree: &Expression) -> u32
     }
 }
 
-/// The same expression at this place.
+/// The expression, with this place instead of its own.
 fn moved_tree(tree: Expression, at: u32) -> Expression
     ensures { tree_of result ≡ placed at (tree_of tree) }
 {
@@ -84,7 +84,7 @@ fn moved_tree(tree: Expression, at: u32) -> Expression
     }
 }
 
-/// The expression at another place, as that of an opening parenthesis.
+/// The part with another place, such as that of an opening parenthesis.
 pub(crate) fn moved(alloc: Global, part: Part, at: u32) -> Result<Part, AllocError>
     ensures { IfOk result (λ p. tree_of p.tree.value ≡ placed at (tree_of part.tree.value)) }
 {
@@ -96,7 +96,7 @@ pub(crate) fn moved(alloc: Global, part: Part, at: u32) -> Result<Part, AllocErr
     })
 }
 
-/// The operand with an operator in front of it. One that is too high already stays as it is.
+/// Applies a unary operator to an operand. An operand that is already too high is only moved to the operator's place.
 pub(crate) fn led(
     alloc: Global,
     at: u32,
@@ -120,7 +120,7 @@ pub(crate) fn led(
     })
 }
 
-/// Two operands with an operator between them, or the one that is too high already.
+/// Applies a binary operator to two operands, or returns an operand that is already too high.
 pub(crate) fn joined(
     alloc: Global,
     operator: BinaryOperator,
@@ -149,7 +149,7 @@ pub(crate) fn joined(
     })
 }
 
-/// An operand with the operator that stands in front of it, if one does.
+/// Applies the unary operator before an operand, if there is one.
 pub(crate) fn led_by(
     alloc: Global,
     lead: Option<(u32, UnaryOperator)>,
@@ -163,7 +163,7 @@ pub(crate) fn led_by(
     }
 }
 
-/// An operand with what stands before it and the operator between them, if they do.
+/// Joins an operand to the left operand before it, if there is one.
 pub(crate) fn joined_to(
     alloc: Global,
     before: Option<(Part, BinaryOperator)>,

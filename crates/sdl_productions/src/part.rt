@@ -1,4 +1,4 @@
-//! Expressions while they are read: none is ever much higher than a tree may be.
+//! Expressions while they are read. None is higher than the height limit by more than 1.
 ghost use Rattle.std.specs.Prelude.{◌≡◌, ◌≤◌, ◌+◌, IfOk};
 ghost use Rattle.sdl_ast.specs.Limits.{GREATEST_HEIGHT};
 ghost use Rattle.sdl_ast.specs.Heights.{tree_height};
@@ -6,8 +6,8 @@ ghost use Rattle.sdl_ast.specs.Views.{tree_of};
 
 use sdl_ast::Expression;
 
-/// An expression with its height, which is at most one more than a tree may have. It stands on the heap, so that a
-/// place for one is small while none is there.
+/// An expression with its height, which exceeds the limit of a tree by at most 1. It is on the heap, so that an empty
+/// slot for one is small.
 #[derive(Drop)]
 pub(crate) struct Part {
     pub(crate) tree: Box<Expression>,

@@ -1,4 +1,4 @@
-//! What a token is in an expression.
+//! The roles of tokens in an expression.
 ghost use Rattle.std.specs.Prelude.{◌≡◌};
 ghost use Rattle.sdl_productions.specs.Expressions.{symbol_sign, word_sign, lexeme_sign};
 ghost use Rattle.sdl_productions.specs.Stacks.{sign_view, next_sign};
@@ -7,7 +7,7 @@ use crate::level::Level;
 use sdl_ast::{BinaryOperator, Identifier};
 use sdl_lex::{Lexeme, MAX_NUMBER, Symbol, Token, Word};
 
-/// What a token is in an expression.
+/// The role of a token in an expression.
 #[derive(Clone, Copy)]
 pub(crate) enum Sign {
     Number { at: u32, value: u32 },
@@ -21,7 +21,7 @@ pub(crate) enum Sign {
     Other,
 }
 
-/// What a symbol is in an expression.
+/// The role of a symbol in an expression.
 fn symbol_sign(at: u32, symbol: Symbol) -> Sign
     ensures { sign_view result ≡ symbol_sign at symbol }
 {
@@ -42,7 +42,7 @@ fn symbol_sign(at: u32, symbol: Symbol) -> Sign
     }
 }
 
-/// What a reserved word is in an expression.
+/// The role of a reserved word in an expression.
 fn word_sign(at: u32, word: Word) -> Sign
     ensures { sign_view result ≡ word_sign at word }
 {
@@ -59,7 +59,7 @@ fn word_sign(at: u32, word: Word) -> Sign
     }
 }
 
-/// What a token is in an expression: a number above 2147483647 and a quoted text are no part of one.
+/// The role of a token in an expression. A number above 2147483647 or a quoted text has no role.
 fn token_sign(token: &Token) -> Sign
     ensures { sign_view result ≡ lexeme_sign token.now.start token.now.lexeme }
 {
@@ -82,7 +82,7 @@ fn token_sign(token: &Token) -> Sign
     }
 }
 
-/// What comes next: nothing is no part of an expression.
+/// The role of the next token, or `Other` if there is none.
 #[tactic(auto, unfolding(crate::specs::Expressions::sign))]
 pub(crate) fn sign_of(tokens: &[Token]) -> Sign
     ensures { sign_view result ≡ next_sign tokens.now }

@@ -1,10 +1,10 @@
-//! What begins a part of the text: the words of entities, declarations, actions and the like, each with its place.
+//! The tokens that begin an entity, declaration, section, clause, action, end or answer. Their value is their place.
 ghost use Rattle.sdl_productions.specs.Tokens.{an_entity, a_declaration, a_section, a_clause, an_action, an_end, a_choice};
 
 use crate::tokens::Kind;
 use sdl_lex::{Lexeme, Symbol, Token, Word};
 
-/// The word that begins an entity of a block.
+/// A word that begins an entity of a block.
 #[derive(Clone, Copy)]
 pub struct AnyEntity;
 
@@ -24,7 +24,7 @@ impl Kind for AnyEntity {
     }
 }
 
-/// The word that begins a DCL or a TIMER.
+/// The word DCL or TIMER.
 #[derive(Clone, Copy)]
 pub struct AnyDeclaration;
 
@@ -42,7 +42,7 @@ impl Kind for AnyDeclaration {
     }
 }
 
-/// The word that begins a STATE part or a CONNECTION.
+/// The word STATE or CONNECTION.
 #[derive(Clone, Copy)]
 pub struct AnySection;
 
@@ -60,7 +60,7 @@ impl Kind for AnySection {
     }
 }
 
-/// The word that begins an INPUT or a SAVE.
+/// The word INPUT or SAVE.
 #[derive(Clone, Copy)]
 pub struct AnyClause;
 
@@ -78,7 +78,7 @@ impl Kind for AnyClause {
     }
 }
 
-/// The word that begins an action.
+/// A word that begins an action.
 #[derive(Clone, Copy)]
 pub struct AnyAction;
 
@@ -98,7 +98,7 @@ impl Kind for AnyAction {
     }
 }
 
-/// The word that begins the end of a transition.
+/// A word that begins the end of a transition.
 #[derive(Clone, Copy)]
 pub struct AnyEnd;
 
@@ -117,7 +117,7 @@ impl Kind for AnyEnd {
     }
 }
 
-/// The parenthesis that begins an answer, or ELSE.
+/// The parenthesis that begins an answer, or the word ELSE.
 #[derive(Clone, Copy)]
 pub struct AnyChoice;
 

@@ -3,17 +3,17 @@ ghost use Rattle.std.specs.Prelude.{◌≡◌, [], ◌∷◌, ◌++◌, OnOk, If
 
 use sdl_lex::Token;
 
-/// What ends a reading.
+/// Why a reader stops.
 #[derive(Clone, Copy)]
 pub enum Stop<'a> {
-    /// No reading goes on with the first of these tokens, which are those left; or with the end, if
-    /// none is left.
+    /// The first of these tokens, which are those that remain, is unexpected. If none remains, the end is
+    /// unexpected.
     Unexpected(&'a [Token]),
-    /// There was not enough memory.
+    /// Memory ran out.
     NoMemory,
 }
 
-/// Puts an item behind the others.
+/// Appends an item to others. `NoMemory` if memory runs out.
 pub fn push<'a, T: Drop>(items: &mut Vec<T>, item: T) -> Result<(), Stop<'a>>
     ensures ok { OnOk result (items.new.items ≡ items.old.items ++ item ∷ []) }
     ensures err { IfErr result (λ stop. stop ≡ Stop.NoMemory) }

@@ -1,5 +1,5 @@
-//! One token: a word, a symbol, a name, a number. Each kind says once what a token of it stands for; one function asks
-//! whether a token of a kind stands next, and one reads it.
+//! Reads single tokens. Each kind (a word, a symbol, a name, a number) defines once which value a token of it has. One
+//! function tests whether the next token is of a kind, and one reads it.
 ghost use Rattle.std.specs.Prelude.{◌≡◌, Option};
 ghost use Rattle.sdl_lex.specs.declared.lexemes.Token.{Token};
 ghost use Rattle.sdl_productions.specs.Readings.{token};
@@ -9,18 +9,18 @@ ghost use Rattle.sdl_productions.specs.Mirrors.{Mirrors, same};
 use crate::stop::Stop;
 use sdl_lex::Token;
 
-/// What a token may stand for.
+/// A kind of token.
 pub trait Kind: Copy {
     type Value: Copy;
 
     ghost stands: { Self → Token → Option Self.Value };
 
-    /// What a token stands for, if it is of this kind.
+    /// The value of a token, if it is of this kind.
     fn value(self, token: &Token) -> Option<Self::Value>
         ensures { result ≡ stands self token.now };
 }
 
-/// Whether a token of this kind stands next.
+/// Whether the next token is of this kind.
 pub fn stands_next<K: Kind>(tokens: &[Token], kind: K) -> bool
     ensures { result ≡ begins (K.stands kind) tokens.now }
 {
@@ -30,7 +30,7 @@ pub fn stands_next<K: Kind>(tokens: &[Token], kind: K) -> bool
     }
 }
 
-/// Reads a token of this kind: what it stands for.
+/// Reads a token of this kind. Returns its value and the remaining tokens, or `Unexpected` with all tokens.
 pub fn take<'a, K: Kind>(tokens: &'a [Token], kind: K) -> Result<(K::Value, &'a [Token]), Stop<'a>>
     ensures { Mirrors same result (token (K.stands kind) tokens.now) }
 {

@@ -1,4 +1,4 @@
--- The steps in which a transition is read.
+-- The steps that read a transition.
 use Rattle.std.proofs.Common.{◌≡◌, ℕ, suc, zero, ◌<◌, ◌≤◌, Bool, true, false, List, [], ◌∷◌, ◌++◌, Option, length, refl, sym, ap, ◌∙◌, append_assoc, arith}
 use Rattle.sdl_lex.specs.declared.lexemes.Token.{Token}
 use Rattle.sdl_lex.specs.declared.lexemes.Word.TheVariants as words
@@ -10,7 +10,7 @@ use Rattle.sdl_productions.specs.Productions.{end_at, behind_step, end_step, dec
 use Rattle.sdl_productions.proofs.Lengths.{last_keeps, body_step_takes, decision_step_takes, action_step_takes}
 use Rattle.sdl_productions.proofs.Decides.{first, rest_of, with_rest, Seen, first-append}
 
--- a step that doesn't end the transition takes a token
+-- A step that doesn't complete the transition consumes a token.
 
 Advances : {S A T : Type 0} → At (Move S A T) → Type 0
 Advances {S} {A} p = (ts : List Token) (s : Reached S A) (us : List Token) → p ts ≡ read (reaches s) us → length us < length ts
@@ -55,7 +55,7 @@ pub step_shortens : {S A C T : Type 0} (k : Keeping S A C T) (s t : Reached S A)
 unfolding Advances
 step_shortens k s t ts us h = step_advances k s ts t us h
 
--- more steps than tokens change nothing
+-- A bound on the steps that exceeds the number of tokens can be raised without effect.
 
 steps_one : {S A C T : Type 0} (k : Keeping S A C T) (n : ℕ) (s : Reached S A) (ts : List Token) → steps_for k (suc n) s ts ≡ then_read (step_at k s ts) (after_move (steps_for k n))
 unfolding steps_for
@@ -81,7 +81,7 @@ from_after k s ts (fails us) e = refl
 from_after k s ts (read (closes text) us) e = refl
 from_after k s ts (read (reaches t) us) e = let less = step_shortens k s t ts us e in steps_enough k (length ts) (suc (length us)) t us less (omega arith)
 
--- one step, and then the others
+-- All steps are one step, followed by the others.
 pub from_step : {S A C T : Type 0} (k : Keeping S A C T) (s : Reached S A) (ts : List Token) → steps_from k s ts ≡ then_read (step_at k s ts) (after_move (steps_from k))
 unfolding steps_from
 from_step k s ts = steps_one k (length ts) s ts ∙ from_after k s ts (step_at k s ts) refl
@@ -95,7 +95,7 @@ from_closes k s ts us text e = from_step k s ts ∙ ap (λ r. then_read r (after
 pub from_fails : {S A C T : Type 0} (k : Keeping S A C T) (s : Reached S A) (ts us : List Token) → step_at k s ts ≡ fails us → steps_from k s ts ≡ fails us
 from_fails k s ts us e = from_step k s ts ∙ ap (λ r. then_read r (after_move (steps_from k))) e
 
--- what the steps saw
+-- The steps inspect at most one token ahead.
 
 steps_seen : {S A C T : Type 0} (k : Keeping S A C T) (s : Reached S A) (ts : List Token) (r : Reading (Move S A T)) (front : List Token) → step_at k s ts ≡ r → ts ≡ front ++ rest_of r
     → ((us : List Token) → first us ≡ first (rest_of r) → step_at k s (front ++ us) ≡ with_rest r us)

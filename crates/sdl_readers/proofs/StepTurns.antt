@@ -1,4 +1,4 @@
--- What the loop over the steps of a transition keeps.
+-- The invariant of the loop over the steps of a transition.
 use Rattle.std.proofs.Common.{◌≡◌, ◌<◌, List, length, ap, ◌∙◌}
 use Rattle.sdl_lex.specs.declared.lexemes.Token.{Token}
 use Rattle.sdl_ast.specs.declared.tree.Transition.{Transition}

@@ -1,4 +1,4 @@
--- The head of a process, and a part of its body, as the code keeps them.
+-- Views of the heading of a process and of a part of its body.
 use Rattle.sdl_ast.specs.Plain.{PlainProcessHead}
 use Rattle.sdl_ast.specs.Views.{state_of, connection_of}
 use Rattle.sdl_productions.specs.BodyViews.{marked_view}

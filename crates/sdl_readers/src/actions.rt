@@ -39,7 +39,7 @@ fn read_assignment<'a>(
     Ok((Assignment { variable, value }, rest))
 }
 
-/// An assignment, or nothing for a quoted text.
+/// An item of a TASK: an assignment, or `None` for a quoted text.
 impl Production for Option<Assignment> {
     ghost Plain = { Option PlainAssignment };
 
@@ -63,7 +63,7 @@ impl Production for Option<Assignment> {
     }
 }
 
-/// Puts an assignment behind the others; a quoted text leaves nothing.
+/// Appends an assignment to others. A quoted text is dropped.
 fn keep<'a>(assignments: &mut Vec<Assignment>, item: Option<Assignment>) -> Result<(), Stop<'a>>
     ensures ok { OnOk result (map assignment_of assignments.new.items ≡ map assignment_of assignments.old.items ++ option_to_list (option_map assignment_of item)) }
     ensures err { IfErr result (λ stop. stop ≡ Stop.NoMemory) }

@@ -1,4 +1,4 @@
-//! What stands before the answers of a DECISION, before what each does, and behind them.
+//! The parts of a DECISION around the bodies: the question, the heads of answers and ELSE, and ENDDECISION.
 ghost use Rattle.std.specs.Prelude.{◌≡◌, Option};
 ghost use Rattle.std.specs.Option.{option_map};
 ghost use Rattle.sdl_lex.specs.declared.lexemes.Symbol.TheVariants as symbols;

@@ -1,7 +1,7 @@
-//! What was read, or a return.
+//! A macro that returns early if a reading stops.
 
-/// What was read, or the return of what ended the reading. (`?` does the same, but isn't proved yet
-/// where the value has a name in it beside the tokens.)
+/// The value that was read, or an early return with the reason for stopping. (`?` does this too, but
+/// isn't proved yet for a value that has a name in it besides the tokens.)
 macro_rules! attempt {
     ($reading:expr) => {
         match $reading {

@@ -26,7 +26,7 @@ use sdl_productions::{
 };
 use std::alloc::Global;
 
-/// Reads `[number]`, this number again.
+/// Reads `[number]`. The number must be equal to the given one.
 fn read_optional_number<'a>(
     first: u32,
     tokens: &'a [Token],
@@ -40,7 +40,7 @@ fn read_optional_number<'a>(
     Ok((Some(found), rest))
 }
 
-/// Reads `, [number]`, this number again.
+/// Reads `, [number]`. The number must be equal to the given one.
 #[tactic(auto, unfolding(sdl_productions::specs::Productions::second_number_at))]
 fn read_second<'a>(first: u32, tokens: &'a [Token]) -> Result<(Option<u32>, &'a [Token]), Stop<'a>>
     ensures { Mirrors same result (second_number_at first tokens.now) }
@@ -49,7 +49,7 @@ fn read_second<'a>(first: u32, tokens: &'a [Token]) -> Result<(Option<u32>, &'a 
     Ok(attempt!(read_optional_number(first, rest)))
 }
 
-/// Reads `[ , [number] ]`, this number again.
+/// Reads `[ , [number] ]`. The number must be equal to the given one.
 fn read_optional_second<'a>(
     first: u32,
     tokens: &'a [Token],
@@ -63,7 +63,7 @@ fn read_optional_second<'a>(
     Ok((Some(found), rest))
 }
 
-/// Reads `( number [ , [number] ] )`: how many instances there are at first, and at most, which is the same.
+/// Reads `( number [ , [number] ] )`: the initial and the maximum number of instances, which must be equal.
 #[tactic(auto, unfolding(sdl_productions::specs::Productions::instances_at))]
 fn read_instances<'a>(tokens: &'a [Token]) -> Result<(u32, &'a [Token]), Stop<'a>>
     ensures { Mirrors same result (instances_at tokens.now) }
@@ -86,14 +86,14 @@ fn read_optional_instances<'a>(tokens: &'a [Token]) -> Result<(Option<u32>, &'a 
     Ok((Some(found), rest))
 }
 
-/// What a process begins with: its name, and how many instances of it run.
+/// The heading of a process: its name, and the number of instances that run.
 #[derive(Clone, Copy)]
 pub(crate) struct ProcessHead {
     name: Identifier,
     instances: u32,
 }
 
-/// A process of this name, with so many instances; one where no number is written.
+/// The heading of a process. If no number is written, there is one instance.
 fn head_with(name: Identifier, instances: Option<u32>) -> ProcessHead
     ensures { head_of result ≡ process_head name instances }
 {
@@ -115,7 +115,7 @@ fn read_process_head<'a>(tokens: &'a [Token]) -> Result<(ProcessHead, &'a [Token
     Ok((head_with(name, instances), rest))
 }
 
-/// What stands before the START of a process.
+/// The part of a process before its START.
 #[derive(Drop)]
 struct ProcessFront {
     name: Identifier,
@@ -123,7 +123,7 @@ struct ProcessFront {
     declarations: Vec<Declaration>,
 }
 
-/// A process; STATE parts and CONNECTIONs stand mixed, so the lesser of their marks stays.
+/// The process, or the lesser of the marks. STATE parts and CONNECTIONs are mixed in the text.
 fn body_of(
     front: ProcessFront,
     start: Start,
@@ -154,7 +154,7 @@ fn body_of(
     }
 }
 
-/// A process, where nothing in it is too high.
+/// The process, or the first mark in it.
 fn process_of(
     front: ProcessFront,
     start: Marked<Start>,

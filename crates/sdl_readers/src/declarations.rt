@@ -1,4 +1,4 @@
-//! Signals, routes, variables and timers.
+//! Reads signals, routes, variables and timers.
 ghost use Rattle.std.specs.Prelude.{◌≡◌, ◌∷◌, map, Option, None, IfOk, IfErr};
 ghost use Rattle.std.specs.Option.{option_map, option_to_list};
 ghost use Rattle.sdl_productions.specs.Readings.{token, separated, optional};
@@ -134,7 +134,7 @@ fn read_path<'a>(alloc: Global, tokens: &'a [Token]) -> Result<(Path, &'a [Token
     Ok((Path { from, to, signals }, rest))
 }
 
-/// Reads a path, if one stands next.
+/// Reads a path, if the next token begins one.
 fn read_optional_path<'a>(
     alloc: Global,
     tokens: &'a [Token],

@@ -1,4 +1,4 @@
-//! How statements and their groups end.
+//! Reads the ends of statements and of groups of statements.
 ghost use Rattle.std.specs.Prelude.{◌≡◌, Option};
 ghost use Rattle.sdl_lex.specs.declared.lexemes.Word.TheVariants as words;
 ghost use Rattle.sdl_productions.specs.Readings.{token, optional};
@@ -41,7 +41,7 @@ pub(crate) fn terminator<'a>(tokens: &'a [Token]) -> Result<(u32, &'a [Token]), 
     take(rest, Symbol::Semicolon)
 }
 
-/// Reads `[name]`, where the name is the given one in any case.
+/// Reads `[name]`. The name must be the given one, in upper or lower case.
 fn read_optional_closing<'a>(
     tokens: &'a [Token],
     opened: Name,
@@ -55,7 +55,7 @@ fn read_optional_closing<'a>(
     Ok((Some(found), rest))
 }
 
-/// Reads `[name] ;`, where the name is the given one in any case.
+/// Reads `[name] ;`. The name must be the given one, in upper or lower case.
 #[tactic(auto, unfolding(sdl_productions::specs::Productions::closing_at))]
 pub(crate) fn read_closing<'a>(
     tokens: &'a [Token],

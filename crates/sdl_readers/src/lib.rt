@@ -1,4 +1,4 @@
-//! The productions of process texts, each read from the first tokens on.
+//! Readers for the productions of process texts. Each reads from the beginning of the tokens.
 #![tactic(auto)]
 
 mod actions;

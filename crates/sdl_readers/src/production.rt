@@ -1,4 +1,4 @@
-//! What can be read from tokens, alone and in rows.
+//! Reads single parts, and repeated parts.
 ghost use Rattle.std.specs.Prelude.{◌≡◌, ◌<◌, length, map, IfOk, Option, ℕ};
 ghost use Rattle.sdl_lex.specs.declared.lexemes.Token.{Token};
 ghost use Rattle.sdl_productions.specs.Readings.{At, Shortens, NeverLonger, separated, many, list_in_parentheses, behind_comma, separated_from};
@@ -9,7 +9,7 @@ use sdl_lex::{Symbol, Token};
 use sdl_productions::{Stop, push, stands_next, take};
 use std::alloc::Global;
 
-/// A part of the tree that tokens read as.
+/// A part of the tree that can be read from tokens.
 pub(crate) trait Production: Drop {
     ghost Plain: { Type 0 };
 
@@ -17,25 +17,25 @@ pub(crate) trait Production: Drop {
 
     ghost reading: { At Plain };
 
-    /// Reads one from the first tokens on: what it is, and the tokens behind it.
+    /// Reads one from the beginning of the tokens. Returns it and the remaining tokens.
     fn read<'a>(alloc: Global, tokens: &'a [Token]) -> Result<(Self, &'a [Token]), Stop<'a>>
         ensures { Mirrors view result (reading tokens.now) };
 
     ghost never_longer: { NeverLonger reading };
 }
 
-/// A part of the tree that may stand in a row, each with a first token that tells that one follows.
+/// A part of the tree that can be repeated. Its first token tells whether another one follows.
 pub(crate) trait Listed: Production {
     ghost starts: { Token → Option ℕ };
 
-    /// Whether one follows, which its first token tells.
+    /// Whether the next token begins another one.
     fn is_next(tokens: &[Token]) -> bool
         ensures { result ≡ begins starts tokens.now };
 
     ghost shortens: { Shortens Self.reading };
 }
 
-/// Reads a comma and one more thing.
+/// Reads a comma and one more item.
 fn read_behind_comma<'a, T: Production>(
     alloc: Global,
     tokens: &'a [Token],
@@ -46,7 +46,7 @@ fn read_behind_comma<'a, T: Production>(
     T::read(alloc, rest)
 }
 
-/// Reads what follows the first thing of `p {, p}`.
+/// Reads the items after the first item of `p {, p}`.
 pub(crate) fn read_more<'a, T: Production>(
     alloc: Global,
     first: T,
@@ -76,7 +76,7 @@ pub(crate) fn read_separated<'a, T: Production>(
     read_more(alloc, first, rest)
 }
 
-/// Reads things in a row, for as long as one follows.
+/// Reads repeated items for as long as the next token begins one.
 pub(crate) fn read_many<'a, T: Listed>(
     alloc: Global,
     tokens: &'a [Token],
@@ -93,7 +93,7 @@ pub(crate) fn read_many<'a, T: Listed>(
     Ok((items, rest))
 }
 
-/// Reads `( p {, p} )`, or nothing where no parenthesis stands next.
+/// Reads `( p {, p} )`, or nothing if the next token isn't a parenthesis.
 pub(crate) fn read_in_parentheses<'a, T: Production>(
     alloc: Global,
     tokens: &'a [Token],

@@ -1,4 +1,4 @@
-//! The parts of the body of a process: STATE parts and CONNECTIONs apart.
+//! Separates the parts of the body of a process into STATE parts and CONNECTIONs.
 ghost use Rattle.std.specs.Prelude.{◌≡◌, ◌++◌, map, OnOk, IfOk, IfErr};
 ghost use Rattle.std.specs.List.{filter_map};
 ghost use Rattle.std.specs.Option.{option_to_list};
@@ -19,7 +19,7 @@ pub(crate) struct Sections {
     pub(crate) connections: Vec<Marked<Connection>>,
 }
 
-/// Puts a part behind those of its kind.
+/// Appends a part to those of its kind.
 fn file<'a>(
     states: &mut Vec<Marked<StatePart>>,
     connections: &mut Vec<Marked<Connection>>,
@@ -35,7 +35,7 @@ fn file<'a>(
     }
 }
 
-/// The parts by their kinds.
+/// Separates the parts by kind and keeps their order. `NoMemory` if memory runs out.
 pub(crate) fn parted<'a>(alloc: Global, sections: Vec<Section>) -> Result<Sections, Stop<'a>>
     ensures states { IfOk result (λ found. map (marked_view state_of) found.states.items ≡ filter_map marked_state_in (map section_of sections.items)) }
     ensures connections { IfOk result (λ found. map (marked_view connection_of) found.connections.items ≡ filter_map marked_connection_in (map section_of sections.items)) }

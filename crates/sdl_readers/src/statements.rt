@@ -1,4 +1,4 @@
-//! Transitions, read step by step; `sdl_productions` has what is kept between the steps.
+//! Reads transitions step by step. `sdl_productions` defines the state between the steps.
 ghost use Rattle.std.specs.Prelude.{◌≡◌, map, IfOk, IfErr};
 ghost use Rattle.std.specs.Option.{option_map};
 ghost use Rattle.sdl_productions.specs.BodyViews.{marked_view, head_of, branching_view, bodies_view, reached_view, move_view};
@@ -19,7 +19,7 @@ use sdl_productions::{
 };
 use std::alloc::Global;
 
-/// Reads the head of an answer or ELSE; its body is read next.
+/// Reads the head of an answer or ELSE. Its body is read next.
 #[tactic(auto, unfolding(sdl_productions::specs::Productions::head_step))]
 fn head_step<'a>(
     alloc: Global,
@@ -36,7 +36,7 @@ fn head_step<'a>(
     Ok((Move::Reaches(Reached { outer, here }), rest))
 }
 
-/// Reads ENDDECISION; what stands behind it is read next.
+/// Reads ENDDECISION. The statements after it are read next.
 #[tactic(auto, unfolding(sdl_productions::specs::Productions::closing_step))]
 fn closing_step<'a>(
     outer: Vec<Body>,
@@ -51,7 +51,7 @@ fn closing_step<'a>(
     Ok((Move::Reaches(Reached { outer, here }), rest))
 }
 
-/// Goes on behind the body of an answer: with another head, or with ENDDECISION.
+/// Continues after the body of an answer, with another head or with ENDDECISION.
 #[tactic(auto, unfolding(sdl_productions::specs::Productions::answer_step))]
 fn answer_step<'a>(
     alloc: Global,
@@ -67,7 +67,7 @@ fn answer_step<'a>(
     closing_step(outer, branching, Marked::Kept(None), tokens)
 }
 
-/// Goes on behind a body.
+/// Continues after a body.
 fn body_step<'a>(
     alloc: Global,
     outer: Vec<Body>,
@@ -85,7 +85,7 @@ fn body_step<'a>(
     answer_step(alloc, outer, branching, tokens)
 }
 
-/// Goes on behind a transition, which is the whole one where no body is open.
+/// Continues after a transition. It is the whole one if no body is open.
 fn behind_step<'a>(
     alloc: Global,
     mut outer: Vec<Body>,
@@ -100,7 +100,7 @@ fn behind_step<'a>(
     }
 }
 
-/// Reads the end of a transition if one stands next, and goes on behind it.
+/// Reads the end of a transition if the next token begins one, and continues after it.
 #[tactic(auto, unfolding(sdl_productions::specs::Productions::end_step))]
 fn end_step<'a>(
     alloc: Global,
@@ -114,7 +114,7 @@ fn end_step<'a>(
     behind_step(alloc, outer, ended(here, end), rest)
 }
 
-/// Reads the question of a DECISION with its first head.
+/// Reads the question of a DECISION and its first head.
 #[tactic(auto, unfolding(sdl_productions::specs::Productions::decision_step))]
 fn decision_step<'a>(
     alloc: Global,
@@ -148,7 +148,7 @@ fn action_step<'a>(
     Ok((Move::Reaches(Reached { outer, here }), rest))
 }
 
-/// Goes on by one step.
+/// Performs one step.
 #[tactic(auto, unfolding(sdl_productions::specs::Productions::step_at))]
 fn make_step<'a>(
     alloc: Global,
@@ -166,7 +166,7 @@ fn make_step<'a>(
     end_step(alloc, reached, tokens)
 }
 
-/// Reads a transition: statements, and its end if one stands next.
+/// Reads a transition: statements, and its end if the next token begins one.
 #[tactic(auto, unfolding(sdl_productions::specs::Productions::text_at))]
 pub(crate) fn read_transition<'a>(
     alloc: Global,

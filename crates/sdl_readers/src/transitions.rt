@@ -1,4 +1,4 @@
-//! Transitions, and the states that have them.
+//! Reads ends of transitions, and the parts of a process that contain transitions.
 ghost use Rattle.std.specs.Prelude.{◌≡◌, map, Option, None, List};
 ghost use Rattle.sdl_lex.specs.declared.lexemes.Word.TheVariants as words;
 ghost use Rattle.sdl_productions.specs.Readings.{separated, optional};
@@ -93,7 +93,7 @@ fn read_end<'a>(tokens: &'a [Token]) -> Result<(End, &'a [Token]), Stop<'a>>
     Ok(attempt!(read_join(tokens)))
 }
 
-/// Reads a NEXTSTATE, a STOP or a JOIN, if one stands next.
+/// Reads a NEXTSTATE, a STOP or a JOIN, if the next token begins one.
 pub(crate) fn read_optional_end<'a>(
     tokens: &'a [Token],
 ) -> Result<(Option<End>, &'a [Token]), Stop<'a>>
@@ -199,7 +199,7 @@ fn read_optional_end_state<'a>(
     Ok((Some(found), rest))
 }
 
-/// Reads `STATE name {, name} ;`, what the states do, and `[ ENDSTATE [name] ; ]`.
+/// Reads `STATE name {, name} ;`, the clauses of the states, and `[ ENDSTATE [name] ; ]`.
 #[tactic(auto, unfolding(sdl_productions::specs::MarkedParts::marked_state))]
 fn read_state<'a>(
     alloc: Global,

@@ -1,4 +1,4 @@
--- Each production of declarations, signals and routes is decided by its reading. tools/productions writes the proofs from DeclarationSyntax.
+-- The reading of each declaration, signal and route decides its production. tools/productions writes the proofs.
 use Rattle.std.specs.Prelude.{◌∷◌, pos, ◌-ℤ◌}
 use Rattle.std.specs.Option.{option_to_list}
 use Rattle.sdl_lex.specs.declared.lexemes.Word.TheVariants as words
@@ -13,7 +13,7 @@ use Rattle.sdl_productions.specs.DeclarationProductions.{names_at, comment_at, t
 use Rattle.sdl_productions.proofs.Decides.{Decides, give_decides, token_decides, choice_decides, optional_decides, ◌>>=◌}
 use Rattle.sdl_productions.proofs.Rows.{separated_decides, list_decides}
 
--- expressions with all their trees
+-- Expressions, with no tree left out.
 abbrev pub whole : At Tree
 whole = expression_at whole_trees
 

@@ -1,4 +1,4 @@
--- What building no expression above one that is too high leaves of heights.
+-- Heights of trees, if no expression above one that is too high is built.
 use Rattle.std.proofs.Common.{◌≡◌, ℕ, ◌+◌, ◌<◌, ◌≤◌, Bool, true, false, List, [], ◌∷◌, Option, Some, None, map, refl, sym, ap, subst, ◌∙◌, arith}
 use Rattle.std.specs.Prelude.{nat_lt, if◌then◌else◌}
 use borrow.Author.Tests.{ltb-true, ltb-false}
@@ -19,7 +19,7 @@ height-placed p (variable at n) = refl
 height-placed p (unary at o x) = refl
 height-placed p (binary at o x y) = refl
 
--- a tree within the limit stays, and one above it stays above it
+-- A tree within the limit is unchanged, and a tree above the limit remains above it.
 pub record Keeps (x y : Tree) : Type 0 where
   pub low : tree_height x ≤ GREATEST_HEIGHT → y ≡ x
   pub high : GREATEST_HEIGHT < tree_height x → GREATEST_HEIGHT < tree_height y
@@ -49,7 +49,7 @@ keeps_unary at o x y false e k =
             let s : tree_height y ≡ tree_height x = ap tree_height same in
             omega arith
 
--- a height above the limit that is not: either way
+-- Splits into two cases: the height is above the limit, or not.
 either_height : {C : Type 0} (x : Tree) → (GREATEST_HEIGHT < tree_height x → C) → (tree_height x ≤ GREATEST_HEIGHT → C) → C
 either_height {C} x above below = by_test (nat_lt GREATEST_HEIGHT (tree_height x)) refl
   where
@@ -95,7 +95,7 @@ keeps (unary at o x) = keeps_unary at o x (lowered x) (nat_lt GREATEST_HEIGHT (t
 keeps (binary at o x y) =
     keeps_binary at o x y (lowered x) (lowered y) (nat_lt GREATEST_HEIGHT (tree_height (lowered x))) (nat_lt GREATEST_HEIGHT (tree_height (lowered y))) refl refl (keeps x) (keeps y)
 
--- the same of any part of a tree, with its height
+-- As `Keeps`, for any part of a tree, with its height.
 record KeepsHeight {A : Type 0} (h : A → ℕ) (x y : A) : Type 0 where
   low : h x ≤ GREATEST_HEIGHT → y ≡ x
   high : GREATEST_HEIGHT < h x → GREATEST_HEIGHT < h y
@@ -103,7 +103,7 @@ record KeepsHeight {A : Type 0} (h : A → ℕ) (x y : A) : Type 0 where
 tree_keeps : (x : Tree) → KeepsHeight tree_height x (lowered x)
 tree_keeps x = let k = keeps x in record { low = k.low; high = k.high }
 
--- a height above the limit that is not: either way
+-- Splits into two cases: the height is above the limit, or not.
 either_way : {C : Type 0} (h : ℕ) → (GREATEST_HEIGHT < h → C) → (h ≤ GREATEST_HEIGHT → C) → C
 either_way {C} h above below = by_test (nat_lt GREATEST_HEIGHT h) refl
   where
@@ -174,9 +174,9 @@ place_lowered (output at ss to) = refl
 place_lowered (set_timer at delay timer) = refl
 place_lowered (reset_timer at timer) = refl
 
--- the first place that is too high is the same, and where there is none, so is all
+-- The first place that is too high is unchanged. If there is none, the whole part is unchanged.
 
--- both at once, for one part of a tree
+-- Both statements, for one part of a tree.
 pub record Stays {A : Type 0} (f : A → Option ℕ) (x y : A) : Type 0 where
   pub place : f y ≡ f x
   pub same : f x ≡ None → y ≡ x

@@ -1,4 +1,4 @@
--- Actions and questions read so that no tree above one that is too high is built.
+-- Actions and questions, read such that no expression above one that is too high is built.
 use Rattle.std.proofs.Common.{◌≡◌, ℕ, List, [], ◌∷◌, Option, Some, None, map, refl, ap}
 use Rattle.std.specs.List.{filter_map}
 use Rattle.sdl_lex.specs.declared.lexemes.Word.TheVariants as words
@@ -11,7 +11,7 @@ use Rattle.sdl_productions.specs.Readings.{read, At, choice, optional, give, tok
 use Rattle.sdl_productions.specs.Machine.{whole_trees, low_trees, lowered, expression_at}
 use Rattle.sdl_productions.proofs.Lowering.{mapped, Lowers, expression_lowers, give_lowers, then_lowers, next_lowers, choice_lowers, separated_lowers, list_lowers}
 
--- the tree without what stands above a tree that is too high
+-- The parts of a tree with lowered expressions.
 
 unfoldable pub lowered_assignment : PlainAssignment → PlainAssignment
 lowered_assignment a = record { variable = a.variable; value = lowered a.value }
@@ -38,7 +38,7 @@ low = expression_at low_trees
 abbrev whole : At Tree
 whole = expression_at whole_trees
 
--- what is quoted is left out before or after
+-- Quoted texts can be dropped before or after lowering.
 kept_lowered : (items : List (Option PlainAssignment)) → filter_map (λ i. i) (map lowered_item items) ≡ map lowered_assignment (filter_map (λ i. i) items)
 unfolding lowered_item
 kept_lowered [] = refl

@@ -1,4 +1,4 @@
--- From the reading of a text to what reads.
+-- The readings of a text, and the grammar `Reads`.
 use Rattle.std.proofs.Common.{◌≡◌, ℕ, suc, ◌+◌, ◌-◌, List, [], ◌∷◌, ◌++◌, Option, Some, None, length, take, refl, sym, ap, subst, ◌∙◌, arith, length-append, Result, Ok, Err}
 use Rattle.sdl_lex.specs.declared.lexemes.Token.{Token}
 use Rattle.sdl_tree.specs.declared.fault.ParseFault.{ParseFault}
@@ -36,13 +36,13 @@ marked_of_reads : (ts : List Token) (b : PlainBlock) → Reads ts b → marked_b
 unfolding mapped
 marked_of_reads ts b h = marked_of_whole ts ∙ ap (mapped (marked first_too_high)) (whole_of_reads ts b h)
 
--- a text has at most one tree
+-- A text has at most one tree.
 pub one_tree : (ts : List Token) (b c : PlainBlock) → Reads ts b → Reads ts c → b ≡ c
 one_tree ts b c h k =
     let e : read b [] ≡ read c [] = sym (whole_of_reads ts b h) ∙ whole_of_reads ts c k in
     cc
 
--- what was read is a tree that reads, marked
+-- The result is a tree that the tokens read as, possibly replaced by its mark.
 record FromTree (ts : List Token) (m : Marked PlainBlock) : Type 0 where
   tree : PlainBlock
   reads : Reads ts tree
@@ -59,7 +59,7 @@ from_result ts m (read c us) e k =
 from_tree : (ts : List Token) (m : Marked PlainBlock) → marked_block ts ≡ read m [] → FromTree ts m
 from_tree ts m h = from_result ts m (block_at ts) refl (sym (marked_of_whole ts) ∙ h)
 
--- what a mark says
+-- The meaning of a mark.
 
 kept_none : (p : Option ℕ) (b c : PlainBlock) → by_place p b ≡ kept c → p ≡ None
 kept_none None b c e = refl
@@ -73,14 +73,14 @@ high_place : (p : Option ℕ) (b : PlainBlock) (at : ℕ) → by_place p b ≡ t
 high_place None b at e = cc
 high_place (Some other) b at e = cc
 
--- what is given is read
+-- A tree that `parse` returns is a tree that the tokens read as.
 
 pub found_reads : (ts : List Token) (block : Block) → Settled ts (Ok block) → Reads ts (block_of block)
 found_reads ts block s =
     let f = from_tree ts (kept (block_of block)) s in
     subst (λ b. Reads ts b) (sym (kept_same (first_too_high f.tree) f.tree (block_of block) f.is)) f.reads
 
--- what is read is given
+-- A tree that the tokens read as is returned, or refused as too high.
 
 stops_not : (ts us : List Token) (m : Marked PlainBlock) → marked_block ts ≡ read m [] → stops_at (marked_block ts) ≡ Some us → ⊥
 stops_not ts us m h s = let e : None ≡ Some us = sym (ap stops_at h) ∙ s in cc
@@ -98,7 +98,7 @@ answers_exactly ts (Err (TooDeep at)) b s h =
 answers_exactly ts (Err (Unexpected at)) b s h = stops_not ts s.0 (marked first_too_high b) (marked_of_reads ts b h) s.1
 answers_exactly ts (Err NoMemory) b s h = tt
 
--- nothing goes on with the token where the reading stops
+-- No text that reads continues with the token where the reading stops.
 
 stops-mapped : (r : Reading PlainBlock) → stops_at (mapped (marked first_too_high) r) ≡ stops_at r
 unfolding mapped
@@ -111,7 +111,7 @@ rest_where_stops (read b []) us e = cc
 rest_where_stops (read b (t ∷ vs)) us e = cc
 rest_where_stops (fails vs) us e = cc
 
--- what agrees up to and with the first token behind a front begins with the front, and goes on alike
+-- A list that agrees with a front and one more token begins with the front, and its next token is equal.
 record Agrees (f us others : List Token) : Type 0 where
   rest : List Token
   parts : others ≡ f ++ rest

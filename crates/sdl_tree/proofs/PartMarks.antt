@@ -1,4 +1,4 @@
--- The productions above transitions read with marks are the whole ones, marked.
+-- For productions above transitions, reading with marks is reading the whole tree and then marking it.
 use Rattle.std.proofs.Common.{◌≡◌, ◌∙◌, ℕ, List, [], ◌∷◌, Option, Some, None, map, refl, sym, ap}
 use Rattle.std.specs.List.{filter_map}
 use Rattle.std.specs.Option.{option_to_list}
@@ -19,12 +19,12 @@ use Rattle.sdl_productions.proofs.Lowering.{mapped, Lowers, give_lowers, then_lo
 use Rattle.sdl_productions.proofs.MarkLemmas.{one_marked, list_gathered}
 use Rattle.sdl_tree.proofs.TextMarks.{marked_text, text_lowers}
 
--- what is given is marked like its one part
+-- A part built from one part has the mark of that part.
 give_one : {A B : Type 0} (f : B → Option ℕ) (p : Option ℕ) (build : A → B) (x : A) → f (build x) ≡ p → Lowers (marked f) (give (build x)) (give (map_marked build (by_place p x)))
 unfolding Lowers mapped
 give_one f p build x e ts = ap (λ m. read m ts) (sym (ap (λ q. by_place q (build x)) e ∙ one_marked build p x))
 
--- the same of a list of parts
+-- A part built from a list of parts has the first mark of the list.
 give_list : {A B : Type 0} (f : B → Option ℕ) (each : A → Option ℕ) (build : List A → B) (xs : List A) → f (build xs) ≡ first_of each xs
     → Lowers (marked f) (give (build xs)) (give (map_marked build (gathered (map (marked each) xs))))
 unfolding Lowers mapped
@@ -32,7 +32,7 @@ give_list f each build xs e ts =
     ap (λ m. read (map_marked build m) ts) (list_gathered each xs)
     ∙ ap (λ m. read m ts) (sym (ap (λ q. by_place q (build xs)) e ∙ one_marked build (first_of each xs) xs))
 
--- what has nothing in it that may be too high is never marked
+-- A part in which nothing can be too high is never marked.
 
 NoneOf : {A : Type 0} → (A → Option ℕ) → Reading A → Type 0
 NoneOf f (read x us) = f x ≡ None
@@ -87,7 +87,7 @@ connect_none =
     then_none high_in_entity (token (a_word words.And)) _ λ _. then_none high_in_entity names_at _ λ routes.
     then_none high_in_entity terminator_at _ λ _. give_none high_in_entity (connect channels routes) refl
 
--- STATE parts
+-- STATE parts.
 
 input_with : ℕ → List PlainStimulus → Text → PlainClause
 input_with at stimuli t = input (record { at = at; stimuli = stimuli; text = t })
@@ -116,7 +116,7 @@ state_lowers =
     next_lowers (marked high_in_state) (optional (a_word words.EndState) (end_state_at name.name)) _ _ λ _.
     give_list high_in_state high_in_clause (state_with names) clauses refl
 
--- CONNECTIONs
+-- CONNECTIONs.
 
 connection_with : ℕ → Identifier → Text → PlainConnection
 connection_with at name t = record { at = at; name = name; text = t }
@@ -129,7 +129,7 @@ connection_lowers =
     next_lowers (marked high_in_connection) (optional (a_word words.EndConnection) (end_connection_at name.name)) _ _ λ _.
     give_one high_in_connection (high_in_text text) (connection_with at name) text refl
 
--- the body of a process
+-- The body of a process.
 
 section_mark : PlainSection → MarkedSection
 section_mark (in_state s) = a_state (marked high_in_state s)

@@ -1,4 +1,4 @@
--- Each production is decided by its reading. tools/productions writes the proofs from Syntax.
+-- The reading of each production decides it. tools/productions writes the proofs from Syntax.
 use Rattle.std.specs.Prelude.{ℕ, List, Some, None}
 use Rattle.std.specs.List.{filter_map}
 use Rattle.sdl_lex.specs.declared.lexemes.Word.TheVariants as words

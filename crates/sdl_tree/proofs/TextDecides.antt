@@ -1,4 +1,4 @@
--- Transitions read in steps are those of the grammar, with DECISIONs in each other to any depth.
+-- The transitions read in steps are those of the grammar, with DECISIONs nested to any depth.
 use Rattle.std.proofs.Common.{◌≡◌, ℕ, suc, zero, Bool, true, false, List, [], ◌∷◌, ◌++◌, Option, Some, None, length, refl, sym, ap, subst, ◌∙◌, MatchBool}
 use Rattle.sdl_lex.specs.declared.lexemes.Token.{Token}
 use Rattle.sdl_lex.specs.declared.lexemes.Word.TheVariants as words
@@ -18,7 +18,7 @@ use Rattle.sdl_productions.proofs.Decides.{Seen, Decides, optional_decides}
 use Rattle.sdl_readers.proofs.StepLemmas.{from_step, from_reaches, steps_look}
 use Rattle.sdl_tree.proofs.TextSteps.{Leaves, step_looks, all_before-more, all_answers-more, split, Closed, Chosen, Answered, InBody, Behind, Stands, Follows, carried, closing_sound, head_begins}
 
--- the body behind a head, as part of the answers that are left
+-- The body after a head is part of the remaining answers.
 
 some_chosen : (K : Text → List Token → Type 0) (d : WholeBranching) (ts us vs : List Token) (head : Option PlainHead) (text : Text) → begins a_choice ts ≡ true
     → begins (a_symbol Open) ts ≡ true → some_head_syntax ts head us → TextReads us text vs → InBody K d head text vs → Chosen K d ts
@@ -86,7 +86,7 @@ answer_sound : Leaves → (outer : List WholeBody) (d : WholeBranching) (ts : Li
 unfolding answer_step
 answer_sound l outer d ts m ws whole us h f = answer_sound_by l outer d ts m ws whole us (begins a_choice ts) refl h f
 
--- one more answer stands with the others
+-- One more answer is appended to the others.
 with_one_more : (K : Text → List Token → Type 0) (d : WholeBranching) (h : PlainHead) (text : Text) (others : Choice) (ts : List Token)
     → Closed K (with_answer whole_texts d h text) others ts → Closed K d (answer h.at h.ranges text others) ts
 with_one_more K d h text others ts c = record {
@@ -192,7 +192,7 @@ step_sound_by l s ts m ws whole us true d e f h k = action_sound l s ts m ws who
 step_sound_by l s ts m ws whole us false true e f h k = decision_sound l s ts m ws whole us e f h k
 step_sound_by l s ts m ws whole us false false e f h k = end_sound l s ts m ws whole us e f h k
 
--- the choice of a step, with the answers of both tests
+-- A step by the results of its two tests: an action begins, or a DECISION begins.
 step_is : (b : Keeping (List PlainStatement) (List PlainAnswer) Choice Text) (s : WholeReached) (ts : List Token) (a d : Bool) → begins an_action ts ≡ a → begins (a_word words.Decision) ts ≡ d
     → step_at b s ts ≡ either a (action_step b s) (λ zs. either d (decision_step b s) (end_step b s) zs) ts
 unfolding step_at
@@ -220,7 +220,7 @@ steps_sound l (suc n) s ts whole us h =
     let p = split (step_at whole_texts s) (after_move (steps_for whole_texts n)) ts whole us h in
     step_sound l s ts p.value p.between whole us p.first (follows_of n (steps_sound l n) p.value p.between whole us p.second)
 
--- from the grammar to the steps
+-- From the grammar to the steps.
 
 go_on : Reading WholeMove → Reading Text
 go_on r = then_read r (after_move (steps_from whole_texts))
@@ -324,7 +324,7 @@ mutual
       ∙ choice_complete l ws us more c outer (with_answer whole_texts d head text)
       ∙ ap go_on (closing_step_more outer d head text more us)
 
--- the transition alone
+-- The whole transition, with no body open.
 
 text_sound_at : (ts : List Token) (whole : Text) (us : List Token) → Stands (at_first whole_texts) ts whole us → TextReads ts whole us
 unfolding Behind

@@ -1,4 +1,4 @@
--- Transitions read with marks are the whole ones, marked.
+-- For transitions, reading with marks is reading the whole transition and then marking it.
 use Rattle.std.proofs.Common.{◌≡◌, ℕ, suc, zero, ◌<◌, ◌≤◌, Bool, true, false, List, [], ◌∷◌, ◌++◌, Option, Some, None, length, map, refl, sym, ap, subst, ◌∙◌, arith}
 use Rattle.std.specs.Prelude.{nat_lt, if◌then◌else◌}
 use borrow.Author.Tests.{ltb-true, ltb-false}
@@ -45,7 +45,7 @@ marked_move : WholeMove → MarkedMove
 marked_move (reaches s) = reaches (marked_reached s)
 marked_move (closes text) = closes (marked_text text)
 
--- statements with an end behind them
+-- Statements followed by an end.
 
 high_before : (s : PlainStatement) (rest : Text) → high_in_text (before s rest) ≡ or_first (high_in_statement s) (high_in_text rest)
 high_before (act a) rest = refl
@@ -67,7 +67,7 @@ ended_marked ss last =
     high_all ss (end_text last) ∙ ap (or_first (first_of high_in_statement ss)) (end_low last) ∙ or_first-none (first_of high_in_statement ss) in
     sym (ap (λ p. by_place p (all_before ss (end_text last))) place ∙ one_marked (λ xs. all_before xs (end_text last)) (first_of high_in_statement ss) ss)
 
--- one more action
+-- One more action.
 
 test_of : (p : Option ℕ) (b : PlainAction) (a : PlainAction) (q : Option ℕ) → q ≡ p → (p ≡ None → b ≡ a) → by_place q (act b) ≡ by_place p (act a)
 test_of None b a q e h = ap (λ r. by_place r (act b)) e ∙ ap (λ x. kept (act x)) (h refl)
@@ -76,14 +76,14 @@ test_of (Some at) b a q e h = ap (λ r. by_place r (act b)) e
 action_marked : (a : PlainAction) → marked high_in_statement (act (lowered_action a)) ≡ marked high_in_statement (act a)
 action_marked a = let s = action_stays a in test_of (high_in_action a) (lowered_action a) a (high_in_action (lowered_action a)) s.place s.same
 
--- one more DECISION
+-- One more DECISION.
 
 high_all_answers : (xs : List PlainAnswer) (others : Choice) → high_in_choice (all_answers xs others) ≡ or_first (first_of high_in_answer xs) (high_in_choice others)
 high_all_answers [] others = refl
 high_all_answers (x ∷ xs) others =
     ap (or_first (high_in_answer x)) (high_all_answers xs others) ∙ or_first-assoc (high_in_answer x) (first_of high_in_answer xs) (high_in_choice others)
 
--- a DECISION in which something is too high is too high
+-- A DECISION that contains a part that is too high is too high itself.
 
 inside_by : (at p : ℕ) (b : Bool) (i : Option ℕ) → i ≡ Some p → or_first (if b then Some at else None) (or_first i None) ≡ or_first (if b then Some at else None) None
     → (if b then Some at else None) ≡ Some at
@@ -93,7 +93,7 @@ inside_by at p false i e h = let k : Some p ≡ None = ap (λ j. or_first j None
 inside : (at p : ℕ) (q : Tree) (c : Choice) → high_in_choice c ≡ Some p → high_in_decision at q c ≡ Some at
 inside at p q c e = inside_by at p (nat_lt GREATEST_HEIGHT (decision_height q c)) (high_in_choice c) e (none_inside at q c None)
 
--- the question as it was read is the whole one where that isn't too high, and too high where it is
+-- A DECISION with the lowered question has the same result: unchanged if it isn't too high, else marked.
 question_test : (at : ℕ) (q p : Tree) (c : Choice) → Keeps q p → (b d : Bool) → nat_lt GREATEST_HEIGHT (decision_height q c) ≡ b → nat_lt GREATEST_HEIGHT (decision_height p c) ≡ d
     → by_place (if d then Some at else None) (decide at p c) ≡ by_place (if b then Some at else None) (decide at q c)
 question_test at q p c k true true e f = refl
@@ -142,7 +142,7 @@ closed_marked d others =
     ap (more (marked_statements d.before)) (decided_marked d.asked d.answers others)
     ∙ sym (list_more high_in_statement d.before (decide d.asked.at d.asked.question (all_answers d.answers others)))
 
--- one more answer
+-- One more answer.
 
 answers_marked : (xs : List PlainAnswer) (h : PlainHead) (text : Text)
     → marked_texts.answers (marked_answers xs) h (marked_text text) ≡ marked_answers (xs ++ plain_answer_of h text ∷ [])
@@ -157,7 +157,7 @@ answered_marked : (d : WholeBranching) (h : PlainHead) (text : Text) → with_an
 unfolding marked_branching branching_with
 answered_marked d h text = ap (branching_with (marked_branching d)) (answers_marked d.answers h text)
 
--- step by step
+-- The steps, one by one.
 
 head_step_lowers : (outer : List WholeBody) (d : WholeBranching) → Lowers marked_move (head_step whole_texts outer d) (head_step marked_texts (map marked_body outer) (marked_branching d))
 unfolding head_step marked_move marked_reached marked_body

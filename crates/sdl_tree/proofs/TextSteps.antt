@@ -1,4 +1,4 @@
--- What the steps of a transition look at, and what is read from a place on the way.
+-- The lookahead of the steps of a transition, and the tree that they read from an intermediate state.
 use Rattle.std.proofs.Common.{◌≡◌, ℕ, Bool, true, false, List, [], ◌∷◌, ◌++◌, Option, Some, None, refl, ap, subst, MatchBool}
 use Rattle.std.specs.Prelude.{is_some}
 use Rattle.sdl_lex.specs.declared.lexemes.Token.{Token}
@@ -16,7 +16,7 @@ use Rattle.sdl_productions.specs.Readings.{Reading, read, fails, At, then_read}
 use Rattle.sdl_productions.specs.Productions.{action_at, question_at, head_at, end_decision_at, end_at, head_step, closing_step, answer_step, body_step, behind_step, end_step, decision_step, action_step, step_at}
 use Rattle.sdl_productions.proofs.Decides.{Seen, Decides, give_decides, choice_decides, optional_decides, ◌>>=◌}
 
--- what is known of the flat parts
+-- The readings of the parts without nested bodies decide their grammars.
 pub record Leaves : Type 0 where
   pub action : Decides action_syntax (action_at (expression_at whole_trees))
   pub question : Decides question_syntax (question_at (expression_at whole_trees))
@@ -24,7 +24,7 @@ pub record Leaves : Type 0 where
   pub closing : Decides end_decision_syntax end_decision_at
   pub last : Decides end_syntax end_at
 
--- what the steps look at
+-- The steps inspect at most one token ahead.
 
 graph_decides : {A : Type 0} (p : At A) → ((ts : List Token) → Seen p ts) → Decides (λ ts x us. p ts ≡ read x us) p
 graph_decides p looks = record { looks = looks; sound = λ ts x us h. h; complete = λ ts x us h. h }
@@ -70,7 +70,7 @@ step_looks l s =
     (choice_decides (a_word words.Decision) (graph_decides (decision_step whole_texts s) (decision_step_looks l s))
     (graph_decides (end_step whole_texts s) (end_step_looks l s)))).looks
 
--- statements and answers behind others
+-- Statements and answers appended to others.
 
 pub all_before-more : (ss : List PlainStatement) (s : PlainStatement) (text : Text) → all_before (ss ++ s ∷ []) text ≡ all_before ss (before s text)
 all_before-more [] s text = refl
@@ -80,7 +80,7 @@ pub all_answers-more : (xs : List PlainAnswer) (x : PlainAnswer) (others : Choic
 all_answers-more [] x others = refl
 all_answers-more (y ∷ xs) x others = ap (answer y.at y.ranges y.text) (all_answers-more xs x others)
 
--- the two halves of a reading
+-- The two parts of a sequence of readings.
 pub record Split {A B : Type 0} (p : At A) (q : A → At B) (ts : List Token) (y : B) (us : List Token) : Type 0 where
   pub value : A
   pub between : List Token
@@ -94,8 +94,8 @@ split {A} {B} p q ts y us h = by_result p q ts y us (p ts) refl h
     by_result p q ts y us (fails vs) e h = cc
     by_result p q ts y us (read x vs) e h = record { value = x; between = vs; first = e; second = h }
 
--- what is read from a place on the way: the rest of the transition that is being read, and behind it what
--- closes the bodies that are open, the innermost first, up to the whole
+-- The tree read from an intermediate state: the rest of the current transition, followed by the parts that close the
+-- open bodies, innermost first, up to the whole transition.
 
 pub record Closed (K : Text → List Token → Type 0) (d : WholeBranching) (others : Choice) (ts : List Token) : Type 0 where
   pub closed : ℕ
@@ -136,7 +136,7 @@ unfoldable pub Follows : WholeMove → List Token → Text → List Token → Ty
 Follows (reaches s) ts whole us = Stands s ts whole us
 Follows (closes text) ts whole us = (text ≡ whole) × (ts ≡ us)
 
--- from the steps to the grammar
+-- From the steps to the grammar.
 
 pub carried : (next : WholeReached) (m : WholeMove) (ws between : List Token) (whole : Text) (us : List Token) → m ≡ reaches next → ws ≡ between → Follows m ws whole us → Stands next between whole us
 unfolding Follows
@@ -161,7 +161,7 @@ closing_sound l outer d others ts m ws whole us h f =
       behind = subst (λ t. Behind outer whole us t g.vs) (all_before-more d.before (decide d.asked.at d.asked.question (all_answers d.answers others)) g.text) g.behind;
     }
 
--- a head stands only where a parenthesis or ELSE does
+-- Only a token that is a parenthesis or ELSE begins a head.
 
 open_is_choice : (at : ℕ) (x : Lexeme) → is_some (symbol_place Open at x) ≡ true → is_some (choice_place at x) ≡ true
 open_is_choice at (lexemes.Symbol Open) e = refl

@@ -1,5 +1,5 @@
 -- The concrete syntax of declarations, signals and routes (Z.100, concrete textual grammar): which
--- tokens read as which tree.
+-- trees the tokens read as.
 use Rattle.std.specs.Prelude.{ℕ, List, ◌∷◌, pos, ◌-ℤ◌}
 use Rattle.std.specs.Option.{option_to_list}
 use Rattle.sdl_lex.specs.declared.lexemes.Word.TheVariants as words

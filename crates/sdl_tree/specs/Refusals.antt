@@ -1,4 +1,4 @@
--- What keeps tokens from having a tree, and what an answer says of a tree that they read as.
+-- Which tokens have no tree, and how an answer relates to a tree that the tokens read as.
 use Rattle.std.specs.Prelude.{◌≡◌, ℕ, ◌+◌, ◌<◌, ◌≤◌, List, Some, length, take, Result, Ok, Err}
 use Rattle.sdl_lex.specs.declared.lexemes.Token.{Token}
 use Rattle.sdl_tree.specs.declared.fault.ParseFault.{ParseFault}
@@ -10,20 +10,20 @@ use Rattle.sdl_tree.specs.Syntax.{Reads}
 use Rattle.sdl_ast.specs.Views.{block_of}
 use Rattle.sdl_ast.specs.Heights.{Height, first_too_high}
 
--- no text that reads agrees with these tokens up to and with the one at this index, where the end
--- counts as a token: a text that ends there is another text than one that goes on
+-- No text that reads agrees with these tokens up to and including this index. The end counts as a
+-- token: a text that ends there differs from one that continues.
 abbrev pub NoneAgrees : List Token → ℕ → Type 0
 NoneAgrees tokens at =
     (others : List Token) (b : PlainBlock) → take (at + 1) others ≡ take (at + 1) tokens
     → Reads others b → ⊥
 
--- what a refusal says of the tokens; want of memory says nothing
+-- What a refusal states about the tokens. `NoMemory` states nothing.
 abbrev pub Refuses : List Token → ParseFault → Type 0
 Refuses tokens (Unexpected at) = (at ≤ length tokens) × NoneAgrees tokens at
 Refuses tokens (TooDeep at) = (b : PlainBlock) × Reads tokens b × (first_too_high b ≡ Some at)
 Refuses tokens NoMemory = Unit {0}
 
--- what an answer says of a tree that the tokens read as
+-- how an answer relates to a tree that the tokens read as
 abbrev pub Answers : Result Block ParseFault → PlainBlock → Type 0
 Answers (Ok block) b = (block_of block ≡ b) × (Height b ≤ GREATEST_HEIGHT)
 Answers (Err (Unexpected at)) b = ⊥

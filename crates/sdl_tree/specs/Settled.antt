@@ -1,4 +1,4 @@
--- What the answer of `parse` says of the reading of the tokens.
+-- The answer of `parse` in terms of the reading `marked_block`.
 use Rattle.std.specs.Prelude.{◌≡◌, ◌-◌, List, [], ◌∷◌, Option, Some, None, length, Result, Ok, Err}
 use Rattle.sdl_lex.specs.declared.lexemes.Token.{Token}
 use Rattle.sdl_tree.specs.declared.fault.ParseFault.{ParseFault}
@@ -9,7 +9,7 @@ use Rattle.sdl_productions.specs.Readings.{Reading, read, fails}
 use Rattle.sdl_productions.specs.Marks.{kept, too_high}
 use Rattle.sdl_productions.specs.MarkedParts.{marked_block}
 
--- where a reading that doesn't take all tokens stops
+-- the remaining tokens, if a reading stops before the end
 abbrev pub stops_at : {A : Type 0} → Reading A → Option (List Token)
 stops_at (read x []) = None
 stops_at (read x (t ∷ us)) = Some (t ∷ us)

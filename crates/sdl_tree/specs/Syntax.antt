@@ -1,5 +1,5 @@
--- The concrete syntax of process texts (Z.100, concrete textual grammar): which tokens read as
--- which tree.
+-- The concrete syntax of process texts (Z.100, concrete textual grammar): which trees the tokens
+-- read as.
 use Rattle.std.specs.Prelude.{◌≡◌, ℕ, true, false, List, [], Option, Some, None}
 use Rattle.std.specs.List.{filter_map}
 use Rattle.sdl_lex.specs.declared.lexemes.Token.{Token}
@@ -50,13 +50,13 @@ assignment_syntax = do
   value ← expression_syntax
   give (record { variable = variable; value = value })
 
--- an assignment among the items of a TASK
+-- an assignment as an item of a TASK
 unfoldable pub assigned_syntax : Grammar (Option PlainAssignment)
 assigned_syntax = do
   assignment ← assignment_syntax
   give (Some assignment)
 
--- a quoted text, which leaves nothing
+-- a quoted text, which is dropped
 unfoldable pub quoted_syntax : Grammar (Option PlainAssignment)
 quoted_syntax = do
   _ ← token a_quoted
@@ -184,7 +184,7 @@ no_head_syntax = do
   _ ← else_head_syntax
   give None
 
--- the head of an answer, or that of ELSE
+-- the head of an answer, or of ELSE
 unfoldable pub head_syntax : Grammar (Option PlainHead)
 head_syntax = choice (a_symbol Open) some_head_syntax no_head_syntax
 
@@ -232,10 +232,9 @@ end_syntax =
     choice (a_word words.NextState) next_state_syntax
     (choice (a_word words.Stop) stop_syntax join_syntax)
 
--- A transition is { action | decision } [ NEXTSTATE name ; | STOP ; | JOIN name ; ], each of them
--- exactly where a word that begins one stands next. A decision is DECISION expression ; { answer }
--- [ ELSE : transition ] ENDDECISION ; with at least one answer or ELSE, an answer ( range {, range}
--- ) : transition.
+-- A transition is { action | decision } [ NEXTSTATE name ; | STOP ; | JOIN name ; ]. The next token
+-- decides which of them is read. A decision is DECISION expression ; { answer } [ ELSE : transition
+-- ] ENDDECISION ; with at least one answer or ELSE. An answer is ( range {, range} ) : transition.
 mutual
   pub data TextReads : List Token → Text → List Token → Type 0 where
     runs_off : (ts : List Token) → begins an_action ts ≡ false
@@ -255,7 +254,7 @@ mutual
         → begins a_choice us ≡ true → ChoiceReads us choice vs → end_decision_syntax vs closed ws
         → TextReads ws rest zs → TextReads ts (decides asked.at asked.question choice rest) zs
 
-  -- answers, and ELSE behind them, as long as a parenthesis or ELSE stands next
+  -- answers, and ELSE after them, as long as the next token is a parenthesis or ELSE
   pub data ChoiceReads : List Token → Choice → List Token → Type 0 where
     no_more_answers :
         (ts : List Token) → begins a_choice ts ≡ false → ChoiceReads ts nothing_else ts
@@ -293,7 +292,7 @@ save_syntax = do
 unfoldable pub clause_syntax : Grammar PlainClause
 clause_syntax = choice (a_word words.Input) input_syntax save_syntax
 
--- [name] ; where the name is the given one, in any case
+-- [name] ; the name must be the given one, in upper or lower case
 unfoldable pub closing_syntax : List ℕ → Grammar (Option Identifier)
 closing_syntax name = do
   closing ← optional a_name (token (a_closing name))
@@ -306,8 +305,8 @@ end_state_syntax name = do
   _ ← token (a_word words.EndState)
   closing_syntax name
 
--- STATE name {, name} ; { INPUT .. | SAVE .. } [ ENDSTATE [name] ; ], the closing name being the
--- first one
+-- STATE name {, name} ; { INPUT .. | SAVE .. } [ ENDSTATE [name] ; ]. The closing name must be the
+-- first one.
 unfoldable pub state_syntax : Grammar PlainState
 state_syntax = do
   _ ← token (a_word words.State)
@@ -324,7 +323,7 @@ end_connection_syntax name = do
   _ ← token (a_word words.EndConnection)
   closing_syntax name
 
--- CONNECTION name : transition [ ENDCONNECTION [name] ; ], the closing name being the first one
+-- CONNECTION name : transition [ ENDCONNECTION [name] ; ], closed with the same name
 unfoldable pub connection_syntax : Grammar PlainConnection
 connection_syntax = do
   at ← token (a_word words.Connection)
@@ -358,13 +357,13 @@ start_syntax = do
   text ← text_syntax
   give (record { at = at; text = text })
 
--- , [ number ]: the first number again
+-- , [ number ]: the number must be equal to the first one
 unfoldable pub second_number_syntax : ℕ → Grammar (Option ℕ)
 second_number_syntax first = do
   _ ← token (a_symbol Comma)
   optional a_number (token (the_number first))
 
--- ( number [ , [number] ] ): how many instances there are as it begins, and at most
+-- ( number [ , [number] ] ): the initial and the maximum number of instances
 unfoldable pub instances_syntax : Grammar ℕ
 instances_syntax = do
   _ ← token (a_symbol Open)
@@ -373,7 +372,7 @@ instances_syntax = do
   _ ← token (a_symbol Close)
   give first
 
--- what stands between PROCESS and its body: name [ ( number [, [number]] ) ] ;
+-- the heading of a process after PROCESS: name [ ( number [, [number]] ) ] ;
 unfoldable pub process_head_syntax : Grammar PlainProcessHead
 process_head_syntax = do
   _ ← token (a_word words.Process)

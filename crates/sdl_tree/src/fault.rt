@@ -1,17 +1,17 @@
-//! What keeps tokens from having a tree.
+//! The reasons why tokens have no tree.
 use std::fmt;
 use thiserror::Error;
 
 /// Why tokens have no tree.
 #[derive(Clone, Copy, Debug, PartialEq, Eq, Drop, Error)]
 pub enum ParseFault {
-    /// The index of the first token with which no reading begins; the number of tokens where they
-    /// end too early.
+    /// The tokens don't read as a tree. The index of the first token that doesn't fit, or the number of
+    /// tokens if they end too early.
     Unexpected(usize),
-    /// The tree is higher than [`MAX_HEIGHT`](crate::MAX_HEIGHT). The place in the text, in bytes,
-    /// of the first TASK, OUTPUT, SET or DECISION that is too high.
+    /// The tree is higher than [`MAX_HEIGHT`](crate::MAX_HEIGHT). The place in the text, in bytes, of
+    /// the first TASK, OUTPUT, SET or DECISION that is too high.
     TooDeep(u32),
-    /// There was not enough memory.
+    /// Memory ran out.
     NoMemory,
 }
 

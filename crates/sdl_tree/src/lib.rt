@@ -1,4 +1,4 @@
-//! The grammar of SDL process texts: from the tokens of a text to its syntax tree.
+//! The parser for SDL process texts: it turns the tokens of a text into its syntax tree.
 #![tactic(auto)]
 
 mod fault;

@@ -1,4 +1,4 @@
-//! From tokens to a tree.
+//! Parses tokens into a tree.
 ghost use Rattle.std.specs.Prelude.{◌≡◌, IfOk, IfErr};
 ghost use Rattle.sdl_tree.specs.Refusals.{Answers, Refuses};
 ghost use Rattle.sdl_ast.specs.Plain.{PlainBlock};
@@ -13,7 +13,7 @@ use sdl_productions::{Marked, Stop};
 use sdl_readers::read_block;
 use std::alloc::Global;
 
-/// The tree of all tokens, or why there is none.
+/// The tree of all tokens, or the reason why there is none.
 fn read_text(alloc: Global, tokens: &[Token]) -> Result<Block, ParseFault>
     ensures { Settled tokens.now result }
 {
@@ -33,32 +33,31 @@ fn read_text(alloc: Global, tokens: &[Token]) -> Result<Block, ParseFault>
     }
 }
 
-/// Reads the tokens of a text as its tree.
+/// Parses all tokens of a text into its tree.
 ///
 /// # Errors
 ///
-/// - [`ParseFault::Unexpected`] with the index of the first token that no reading has there, the
-///   number of tokens where they end too early; exactly where the tokens read as no tree, however
-///   high they go before that.
-/// - [`ParseFault::TooDeep`] with the place in the text, in bytes, of the first TASK, OUTPUT, SET
-///   or DECISION higher than [`MAX_HEIGHT`](crate::MAX_HEIGHT); exactly where the tokens read as a
-///   tree that has one. A DECISION is one higher than its question and what stands in its answers.
-/// - [`ParseFault::NoMemory`] where there was not enough memory, in place of any other answer.
+/// - [`ParseFault::Unexpected`] if and only if the tokens read as no tree, however high the part before the fault is.
+///   It holds the index of the first token that doesn't fit, or the number of tokens if they end too early.
+/// - [`ParseFault::TooDeep`] if and only if the tokens read as a tree with a TASK, OUTPUT, SET or DECISION higher than
+///   [`MAX_HEIGHT`](crate::MAX_HEIGHT). It holds the place, in bytes, of the first one. A DECISION is one higher
+///   than the highest of its question and its answers.
+/// - [`ParseFault::NoMemory`] if memory ran out, instead of any other answer.
 pub fn parse(alloc: Global, tokens: &[Token]) -> Result<Block, ParseFault>
-    // what is given is read
+    // a tree that is returned is one that the tokens read as
     ensures found { IfOk result (λ block. Reads tokens.now (block_of block)) }
-    // what is read is given, or refused as too high where it is
+    // a tree that the tokens read as is returned, or refused if it is too high
     ensures exact { (b : PlainBlock) → Reads tokens.now b → Answers result b }
-    // no text that reads begins with the tokens up to an unexpected one
+    // no text that reads begins with the tokens up to and including an unexpected one
     ensures refused { IfErr result (λ fault. Refuses tokens.now fault) }
-    // an unexpected token is the first one at which the grammar, read from the front, stops; what is
-    // too high is named by the first that is, from the front
+    // the unexpected token is the first at which the grammar, read from the front, stops; the place of TooDeep is that
+    // of the first statement that is too high, from the front
     ensures settled { Settled tokens.now result }
 {
     read_text(alloc, tokens)
 }
 
-/// A law: tokens read as one tree at most.
+/// Law: tokens read as at most one tree.
 pub fn reads_once(tokens: &[Token])
     ensures { (b c : PlainBlock) → Reads tokens.now b → Reads tokens.now c → b ≡ c }
 {
