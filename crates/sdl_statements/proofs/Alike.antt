@@ -1,4 +1,4 @@
--- Senders, each party once: what all of them get, all get who are alike.
+-- Senders with each party only once: a signal reaches all senders exactly if it reaches one of each party.
 use Rattle.std.proofs.Common.{◌≡◌, ℕ, suc, Bool, true, false, not, ◌&&◌, ◌||◌, List, [], ◌∷◌, ◌++◌, Option, Some, None, if◌then◌else◌, fold, arith, refl, sym, ap, ◌∙◌, true≢false}
 use Rattle.std.specs.Prelude.{All, slice_get}
 use Rattle.std.specs.List.{list_all}
@@ -22,7 +22,7 @@ use Rattle.sdl_statements.proofs.BackRows.{itself}
 use Rattle.sdl_statements.proofs.Gathering.{carried_same, same_number}
 use Rattle.sdl_statements.proofs.Spreading.{spread, all_on, all_there, rows_there}
 
--- ---- one and the same
+-- ---- the same sender
 
 numbers_itself : (o : Option ℕ) (named : Bool) → named ≡ true → same_numbers o o named ≡ true
 numbers_itself None named h = h
@@ -50,7 +50,7 @@ turned Nobody (By y) h = absurd (true≢false (sym h))
 turned (By x) Nobody h = absurd (true≢false (sym h))
 turned (By x) (By y) h = numbers_turned x.number y.number (same_party x.party y.party) (same_party y.party x.party) (party_turned x.party y.party) h
 
--- ---- each once
+-- ---- each sender once
 
 sender_kept : (us : List Sender) (z y : Sender) → has_sender us y ≡ true → has_sender (add_sender us z) y ≡ true
 sender_kept us z y h = by_test (has_sender us z)
@@ -68,7 +68,7 @@ sender_there us z = by_test (has_sender us z) refl
         list_any-append (λ x. same_sender x z) us (z ∷ [])
         ∙ (ap (λ t. t || (same_sender z z || false)) e ∙ ap (λ t. t || false) (same_itself z))
 
--- all senders of the rows are there
+-- The distinct senders include all senders of the rows.
 pub distinct_there : (rows : List (Vec Sender)) (n : ℕ) (row : Vec Sender) → slice_get rows n ≡ Some row → list_all (has_sender (distinct rows)) row.items ≡ true
 distinct_there rows n row e =
     all_there (λ (r : Vec Sender). list_all (has_sender (distinct rows)) r.items) rows n row
@@ -95,7 +95,7 @@ module _ (P : Sender → Type 0) where
   pub distinct_are : (rows : List (Vec Sender)) → ((n : ℕ) (row : Vec Sender) → slice_get rows n ≡ Some row → All P row.items) → All P (distinct rows)
   distinct_are rows there = rows_more [] rows (All-nil P) there
 
--- ---- what they get
+-- ---- the signals that reach senders
 
 module _ (b : PlainBlock) (p : PlainProcess) (s : List ℕ) where
   parties_same : (x y : Numbered) (o q : Option ℕ) → o ≡ party_number b x.party → q ≡ party_number b y.party
@@ -112,7 +112,7 @@ module _ (b : PlainBlock) (p : PlainProcess) (s : List ℕ) where
   alike (By x) (By y) e f h = carried_same b (party_of p) x.party y.party s (parties_same x y x.number y.number e f h)
 
   module _ (y : Sender) (is : IsSender b y) where
-    -- where it doesn't get to one of them
+    -- If a signal doesn't reach y, it fails to reach one of the senders that are the same as y.
     fails : (us : List Sender) → All (IsSender b) us → gets_back b p s y ≡ false → has_sender us y ≡ true
         → list_all (λ u. not (same_sender y u) || gets_back b p s u) us ≡ false
     fails [] are lost there = absurd (true≢false (sym there))
@@ -128,7 +128,7 @@ module _ (b : PlainBlock) (p : PlainProcess) (s : List ℕ) where
         by_test false e rest =
             ap (λ t. (not (same_sender y u) || gets_back b p s u) && t) (rest e) ∙ and-false (not (same_sender y u) || gets_back b p s u)
 
-    -- where it does
+    -- If a signal reaches y, it reaches all senders that are the same as y.
     gets : (us : List Sender) → All (IsSender b) us → gets_back b p s y ≡ true → list_all (λ u. not (same_sender y u) || gets_back b p s u) us ≡ true
     gets [] are back = refl
     gets (u ∷ us) are back = λ i. by_test (same_sender y u) refl i && gets us (λ k d less. are (suc k) d (omega (arith, less))) back i
@@ -144,7 +144,7 @@ module _ (b : PlainBlock) (p : PlainProcess) (s : List ℕ) where
         by_value true e = gets us are e ∙ sym e
         by_value false e = fails us are e there ∙ sym e
 
-  -- what gets to those who are in a row gets to all of it
+  -- A signal reaches all of a row exactly if it reaches those senders that are in the row.
   pub row_covered : (us row : List Sender) → All (IsSender b) us → All (IsSender b) row → list_all (has_sender us) row ≡ true
       → list_all (λ u. not (has_sender row u) || gets_back b p s u) us ≡ list_all (gets_back b p s) row
   row_covered us row are row_are there =

@@ -1,4 +1,4 @@
--- What is asked of the statements of a transition, over the lists in which the code keeps them.
+-- What a rule checks in the statements of a transition, over the lists in which the code keeps them.
 use Rattle.std.proofs.Common.{◌≡◌, ℕ, false, true≢false, List, [], ◌∷◌, ◌++◌, Option, None, Some, refl, sym, ap, ◌∙◌}
 use Rattle.std.specs.List.{flat_map}
 use Rattle.std.proofs.lemmas.List.{append-nil, append_assoc}
@@ -17,12 +17,12 @@ use Rattle.sdl_statements.specs.declared.statements.StatementRule.TheVariants.{N
 use Rattle.sdl_sound.specs.Parts.{statement_parts, answer_parts, end_parts}
 use Rattle.sdl_ast.proofs.Views.{text_of-is, answer_of-is}
 
--- a statement in front of the others
+-- A statement before the others.
 one_before : (s : PlainStatement) (rest : Text) → statements_of (before s rest) ≡ statements_of (before s falls) ++ statements_of rest
 one_before (act a) rest = refl
 one_before (decide at q c) rest = ap (λ l. asks at q c ∷ (l ++ statements_of rest)) (sym (append-nil (choice_statements q c)))
 
--- statements in front of a text, each asked for by itself
+-- Statements before a text, each checked by itself.
 pub all_asked : (ask : Statement → List ℕ) (ss : List the_statement.Statement) (rest : Text)
     → flat_map ask (statements_of (statements_before ss rest)) ≡ flat_map (λ s. flat_map ask (statement_parts s)) ss ++ flat_map ask (statements_of rest)
 all_asked ask [] rest = refl
@@ -36,7 +36,7 @@ end_asked : (ask : Statement → List ℕ) (e : Option End) → flat_map ask (st
 end_asked ask None = refl
 end_asked ask (Some e) = refl
 
--- a transition
+-- A transition.
 pub text_asked : (ask : Statement → List ℕ) (t : Transition)
     → flat_map ask (statements_of (text_of t)) ≡ flat_map (λ s. flat_map ask (statement_parts s)) t.statements.items ++ flat_map ask (end_parts t.end)
 text_asked ask t =
@@ -44,7 +44,7 @@ text_asked ask t =
     ∙ (all_asked ask t.statements.items (end_text t.end)
     ∙ ap (λ l. flat_map (λ s. flat_map ask (statement_parts s)) t.statements.items ++ l) (end_asked ask t.end))
 
--- the answers of a DECISION
+-- The answers of a DECISION.
 pub answers_asked : (ask : Statement → List ℕ) (q : Tree) (xs : List Answer) (others : Choice)
     → flat_map ask (choice_statements q (answers_before xs others)) ≡ flat_map (λ a. flat_map ask (answer_parts q a)) xs ++ flat_map ask (choice_statements q others)
 answers_asked ask q [] others = refl
@@ -55,7 +55,7 @@ answers_asked ask q (a ∷ xs) others =
     ∙ (ap (λ l. flat_map ask (answer_parts q a) ++ l) (answers_asked ask q xs others)
     ∙ sym (append_assoc (flat_map ask (answer_parts q a)) (flat_map (λ a. flat_map ask (answer_parts q a)) xs) (flat_map ask (choice_statements q others)))))
 
--- what doesn't look at with what transitions begin
+-- A rule that doesn't depend on what starts the transition.
 pub asked_without : (rule : StatementRule) (b : PlainBlock) (p : PlainProcess) (from : List Origin) (xs : List Statement) → asks_origin rule ≡ false
     → asked_all rule b p [] xs ≡ asked_all rule b p from xs
 asked_without Names b p from xs h = refl

@@ -1,4 +1,4 @@
--- To whom the signals get that are sent back: marks by party.
+-- The parties that signals sent back can reach: marks by party.
 use Rattle.std.proofs.Common.{◌≡◌, inl, inr, Option, Some, None, ℕ, zero, suc, ◌+◌, ◌<◌, Bool, true, false, ◌&&◌, List, [], ◌∷◌, ◌++◌, if◌then◌else◌, length, get_or, refl, sym, ap, ◌∙◌, arith, length-append, true≢false}
 use Rattle.std.specs.Prelude.{slice_get, replicate}
 use Rattle.std.specs.List.{list_any, list_all, flat_map}
@@ -27,7 +27,7 @@ pub itself : (q : Party) → same_party q q ≡ true
 itself Environment = refl
 itself (Process id) = folded_same id.name id.name refl
 
--- what paths bring gets to those to whom they bring it
+-- A signal reaches the receivers of the paths that carry it.
 brought_all : (all : List PlainPath) (own : Party) (s : List ℕ) (paths : List PlainPath)
     → ((q : Party) → list_any (brings own q s) paths ≡ true → list_any (brings own q s) all ≡ true)
     → list_all (λ q. list_any (brings own q s) all) (flat_map (path_receivers own s) paths) ≡ true
@@ -51,7 +51,7 @@ pub received : (b : PlainBlock) (own : Party) (s : List ℕ) → list_all (λ q.
 received b own s =
     once_all b own s (flat_map (path_receivers own s) (paths_of b)) ∙ brought_all (paths_of b) own s (paths_of b) (λ q e. e)
 
--- what holds of all holds of one
+-- What holds of all elements holds of one.
 pub all_at : {A : Type 0} (P : A → Bool) (xs : List A) (i : ℕ) (x : A) → i < length xs → x ≡ get_or xs i x → list_all P xs ≡ true → P x ≡ true
 all_at P [] i x lt is h = absurd (omega (arith, lt))
 all_at P (y ∷ ys) zero x lt is h = ap P is ∙ and_left (P y) (list_all P ys) h
@@ -61,7 +61,7 @@ module _ (b : PlainBlock) (p : PlainProcess) where
   pub there_none : (s : List ℕ) (marks : List Bool) (k : ℕ) → marks ≡ replicate k false → GetThere b p s marks
   there_none s marks k is q n number there = absurd (none_marked k n (ap (λ l. is_marked l n) (sym is) ∙ there))
 
-  -- one party more
+  -- One more party.
   pub there_more : (s : List ℕ) (old new : List Bool) (q : Party) (o : Option ℕ) → o ≡ party_number b q → carries b (party_of p) q s ≡ true
       → Marks o old new → GetThere b p s old → GetThere b p s new
   there_more s old new q o number gets marks before r n other there = elim (marks n there) [
@@ -69,7 +69,7 @@ module _ (b : PlainBlock) (p : PlainProcess) where
     | inr was ↦ before r n other was
   ]
 
-  -- one that is marked
+  -- A party that is marked.
   pub there_is : (s : List ℕ) (marks : List Bool) (q : Party) (o : Option ℕ) → o ≡ party_number b q → option_map_or (is_marked marks) o false ≡ true
       → GetThere b p s marks → carries b (party_of p) q s ≡ true
   there_is s marks q None number there h = absurd (true≢false (sym there))
@@ -93,7 +93,7 @@ module _ (b : PlainBlock) (p : PlainProcess) where
         (ap (λ (l : List Identifier). slice_get l n) (sym names) ∙ at) (ap (λ (l : List (Vec Bool)). slice_get l n) (sym rows) ∙ there);
   }
 
-  -- the marks of a name, however it is written
+  -- The marks of a name, in any spelling.
   pub brings_at : (t : BackTable) (name : List ℕ) (n : ℕ) (row : Vec Bool) → number_of t.names name ≡ Some n → slice_get t.rows.items n ≡ Some row
       → Brings b p t → GetThere b p name row.items
   brings_at t name n row number stands brings q k other there =

@@ -1,4 +1,4 @@
--- Where nothing goes TO SENDER, nobody has to know who that is.
+-- If nothing goes TO SENDER, the senders don't matter.
 use Rattle.std.proofs.Common.{◌≡◌, ℕ, List, [], ◌∷◌, ◌++◌, Option, None, Some, refl, ap, ◌∙◌}
 use Rattle.std.specs.List.{flat_map}
 use Rattle.sdl_ast.specs.declared.tree.Destination.{Destination}
@@ -33,7 +33,7 @@ module _ (b : PlainBlock) (p : PlainProcess) (os : List Origin) where
   right_none [] ys h = h
   right_none (x ∷ xs) ys h = let bad : x ∷ (xs ++ ys) ≡ [] = h in absurd (cc)
 
-  -- a transition that sends nothing there loses the same whoever may have sent what it begins with
+  -- If a transition sends nothing TO SENDER, it loses the same signals for all senders.
   pub lost_same : (ss : List Statement) → flat_map back_statement ss ≡ [] → flat_map (lost_statement b p []) ss ≡ flat_map (lost_statement b p os) ss
   lost_same [] h = refl
   lost_same (s ∷ ss) h =

@@ -1,4 +1,4 @@
--- To which connections the transitions come that begin with what a sender may have sent.
+-- The connections to which the transitions lead that are started by signals of a sender.
 use Rattle.std.proofs.Common.{◌≡◌, ◌<◌, ℕ, suc, Bool, true, false, not, ◌&&◌, ◌||◌, List, [], ◌∷◌, ◌++◌, Option, Some, None, if◌then◌else◌, map, fold, length, arith, refl, sym, ap, ◌∙◌, subst, true≢false}
 use Rattle.std.specs.Prelude.{All, slice_get, option_to_list}
 use Rattle.std.specs.List.{list_any, list_all, flat_map}
@@ -58,12 +58,12 @@ takes_is : (t : SenderTable) (u : Sender) (xs : List PlainStimulus)
 takes_is t u [] = refl
 takes_is t u (x ∷ xs) = λ i. bits_at t.rows.items u (number_of t.names x.name.name) i || takes_is t u xs i
 
--- what an INPUT takes
+-- The signals and timers that an INPUT takes.
 pub stimuli_numbered : (names : List Identifier) (xs : List Stimulus) → stimulus_rows names xs ≡ map (λ x. number_of names x.name.name) (map stimulus_of xs)
 stimuli_numbered names [] = refl
 stimuli_numbered names (x ∷ xs) = ap (λ l. number_of names x.name.name ∷ l) (stimuli_numbered names xs)
 
--- ---- what is joined
+-- ---- the connections that are joined
 
 starts_are : (p : PlainProcess) (t : SenderTable) (u : Sender) (inputs : List PlainInput)
     → starts_with (map (λ row. has_sender row.items u) t.rows.items) (map (input_joining t.names p) inputs)
@@ -117,10 +117,10 @@ names_there inputs = rows_there is_in add_stimulus (λ x. x.name.name) name_kept
 marked : {A : Type 0} (f : A → Bool) (xs : List A) (n : ℕ) (x : A) → slice_get xs n ≡ Some x → is_marked (map f xs) n ≡ f x
 marked f xs n x e = ap (λ (o : Option Bool). option_map_or (λ b. b) o false) (slice_get-map f xs n ∙ ap (option_map f) e)
 
--- ---- who may have sent what comes to a connection
+-- ---- the possible senders of what starts the transitions that lead to a connection
 
 module _ (b : PlainBlock) (p : PlainProcess) (t : SenderTable) (told : ToldAll b p t) where
-  -- each row is of a name
+  -- Each row belongs to a name.
   row_are : (n : ℕ) (row : Vec Sender) → slice_get t.rows.items n ≡ Some row → All (IsSender b) row.items
   row_are n row e =
       let within : n < length t.names = subst (λ k. n < k) told.tells.count (slice_get_within t.rows.items n row e) in
@@ -156,7 +156,7 @@ module _ (b : PlainBlock) (p : PlainProcess) (t : SenderTable) (told : ToldAll b
       (λ x. answers b p s x.name.name) i.stimuli there (λ x h. row_told x.name.name s (number_of t.names x.name.name) refl h)
       ∙ sym (list_all-map (answers_origin b p s) takes i.stimuli)
 
-  -- an INPUT that comes to a connection, or doesn't
+  -- An INPUT, whether or not its transition leads to the connection.
   joining_told : (s : List ℕ) (i : PlainInput) (comes_there : Bool) → list_all (λ x. is_in t.names x.name.name) i.stimuli ≡ true
       → list_all (λ u. not (may_begin t u i && comes_there) || gets_back b p s u) (distinct t.rows.items)
       ≡ list_all (answers_origin b p s) (if comes_there then input_origins i else [])

@@ -1,4 +1,4 @@
--- Who may have sent what transitions begin with, gathered one after another.
+-- The possible senders of what starts transitions, gathered one after another.
 use Rattle.std.proofs.Common.{◌≡◌, inl, inr, arith, Option, Some, None, ℕ, zero, suc, ◌+◌, ◌<◌, Bool, true, false, not, ◌&&◌, ◌||◌, List, [], ◌∷◌, ◌++◌, if◌then◌else◌, fold, map, take, length, get_or, bytes_eq, refl, sym, ap, ◌∙◌, subst, true≢false}
 use Rattle.std.specs.Prelude.{All, replicate}
 use Rattle.std.specs.Option.{option_map_or}
@@ -45,7 +45,7 @@ brought [] own q r s h = refl
 brought (path ∷ paths) own q r s h =
     λ i. (same_party own path.from && (left_same q r path.to h i && is_in path.signals s)) || brought paths own q r s h i
 
--- a signal gets to a party however it is written
+-- A signal reaches a party in any spelling of the party's name.
 pub carried_same : (b : PlainBlock) (own q r : Party) (s : List ℕ) → same_party q r ≡ true → carries b own q s ≡ carries b own r s
 carried_same b own q r s h = brought (paths_of b) own q r s h
 
@@ -60,7 +60,7 @@ not_is a true h e = refl
 not_is a false h e = absurd (true≢false (sym h ∙ e))
 
 module _ (b : PlainBlock) (own : Party) (s : List ℕ) where
-  -- what each of some parties gets, each that is one of them gets
+  -- A signal that reaches all of some parties reaches each of them.
   one_of : (ps : List Party) (q : Party) → list_any (same_party q) ps ≡ true → list_all (λ q. carries b own q s) ps ≡ true → carries b own q s ≡ true
   one_of [] q there all = absurd (true≢false (sym there))
   one_of (p ∷ ps) q there all =
@@ -85,7 +85,7 @@ module _ (b : PlainBlock) (own : Party) (s : List ℕ) where
       ∙ (ap (λ r. r && list_all (λ q. carries b own q s) xs) (added ps x)
       ∙ and_assoc (list_all (λ q. carries b own q s) ps) (carries b own x s) (list_all (λ q. carries b own q s) xs))
 
-  -- what parties get, they get each once
+  -- A signal reaches all parties exactly if it reaches each of them once.
   pub once_all : (xs : List Party) → list_all (λ q. carries b own q s) (parties_once xs) ≡ list_all (λ q. carries b own q s) xs
   once_all xs = folded_all [] xs
 
@@ -134,7 +134,7 @@ module _ (b : PlainBlock) (p : PlainProcess) where
     numbered = old.numbered;
   }
 
-  -- START or a timer
+  -- START or a timer, which nobody sends.
   pub gather_nobody : (g n : Senders) (f : List ℕ → Bool) → n.list.items ≡ g.list.items ++ Nobody ∷ [] → n.seen ≡ g.seen → Gathers b p g f
       → Gathers b p n (λ s. f s && false)
   gather_nobody g n f list seen old = record {
@@ -145,7 +145,7 @@ module _ (b : PlainBlock) (p : PlainProcess) where
     numbered = subst (All (IsSender b)) (sym list) (All-push (IsSender b) g.list.items Nobody old.numbered tt);
   }
 
-  -- what a signal that f allows gets back to, once this party is there too
+  -- A party is marked, and the signals that f allows reach it.
   seen_more : (g n : Senders) (f : List ℕ → Bool) (q : Party) (o : Option ℕ) → o ≡ party_number b q → Marks o g.seen.items n.seen.items
       → Gathers b p g f → (s : List ℕ) → (f s && carries b (party_of p) q s) ≡ true → (r : Party) (k : ℕ) → party_number b r ≡ Some k
       → is_marked n.seen.items k ≡ true → carries b (party_of p) r s ≡ true
@@ -156,7 +156,7 @@ module _ (b : PlainBlock) (p : PlainProcess) where
     | inr was ↦ old.seen s (and_left (f s) (carries b (party_of p) q s) e) r k other was
   ]
 
-  -- a party more
+  -- One more party.
   pub gather_party : (g n : Senders) (f : List ℕ → Bool) (x : Numbered) → IsNumbered b x → Marks x.number g.seen.items n.seen.items
       → n.list.items ≡ g.list.items ++ By x ∷ [] → Gathers b p g f → Gathers b p n (λ s. f s && carries b (party_of p) x.party s)
   gather_party g n f x number marks list old = record {
@@ -169,7 +169,7 @@ module _ (b : PlainBlock) (p : PlainProcess) where
     numbered = subst (All (IsSender b)) (sym list) (All-push (IsSender b) g.list.items (By x) old.numbered number);
   }
 
-  -- one whose number was seen
+  -- A party whose number is marked.
   there_gets : (g : Senders) (f : List ℕ → Bool) (q : Party) (o : Option ℕ) → o ≡ party_number b q → option_map_or (is_marked g.seen.items) o false ≡ true
       → Gathers b p g f → (s : List ℕ) → f s ≡ true → carries b (party_of p) q s ≡ true
   there_gets g f q None number there old s e = absurd (true≢false (sym there))
@@ -186,7 +186,7 @@ module _ (b : PlainBlock) (p : PlainProcess) where
     numbered = subst (All (IsSender b)) (sym list) old.numbered;
   }
 
-  -- a row, one more of which is there
+  -- One more sender of a row.
   pub gather_more : (row : List Sender) (i : ℕ) (x : Sender) (g : Senders) (f : List ℕ → Bool) → i < length row → x ≡ get_or row i x
       → Gathers b p g (λ s. (f s && list_all (gets_back b p s) (take i row)) && gets_back b p s x)
       → Gathers b p g (λ s. f s && list_all (gets_back b p s) (take (i + 1) row))
@@ -195,7 +195,7 @@ module _ (b : PlainBlock) (p : PlainProcess) where
       (λ s. and_assoc (f s) (list_all (gets_back b p s) (take i row)) (gets_back b p s x)
       ∙ ap (λ r. f s && r) (sym (all_more (gets_back b p s) row i x lt is))) h
 
-  -- what an INPUT takes, one more of which is there
+  -- One more signal or timer that an INPUT takes.
   asked_stimuli : (s : List ℕ) (xs : List Stimulus) → answers_all b p (map takes (map stimulus_of xs)) s ≡ list_all (λ x. answers b p s x.name.name) xs
   asked_stimuli s xs =
       list_all-map (answers_origin b p s) takes (map stimulus_of xs)
@@ -210,11 +210,11 @@ module _ (b : PlainBlock) (p : PlainProcess) where
       (ap (λ r. r && answers b p s x.name.name) (asked_stimuli s (take i xs))
       ∙ (sym (all_more (λ y. answers b p s y.name.name) xs i x lt is) ∙ sym (asked_stimuli s (take (i + 1) xs))))
 
-  -- nothing more
+  -- Nothing is added.
   pub gather_none : (g : Senders) (f : List ℕ → Bool) → Gathers b p g f → Gathers b p g (λ s. f s && true)
   gather_none g f h = gather_same g f (λ s. f s && true) (λ s. sym (and-true (f s))) h
 
-  -- the row of a signal: its senders, each once
+  -- The row of a signal: its senders, each only once.
   pub row_all : (qs : List Party) (row : List Sender) → row ≡ map (λ q. By (numbered b q)) (parties_once qs) → (s : List ℕ)
       → list_all (gets_back b p s) row ≡ list_all (λ q. carries b (party_of p) q s) qs
   row_all qs row is s =

@@ -1,4 +1,4 @@
--- Senders by the marks of their numbers: one more, and one that is asked for.
+-- Senders by the marks of their numbers: one more sender, and a sender that is looked for.
 use Rattle.std.proofs.Common.{◌≡◌, ◌<◌, ℕ, zero, suc, Bool, true, false, ◌||◌, List, [], ◌∷◌, ◌++◌, Option, Some, None, length, arith, refl, sym, ap, ◌∙◌}
 use Rattle.std.specs.Prelude.{nat_eq, slice_set}
 use lib.Dec.{eqb-zero-suc, eqb-suc-zero, eqb-suc-suc}
@@ -30,7 +30,7 @@ marked_more (b ∷ marks) zero (suc n) lt = or_none (is_marked marks n) ∙ ap (
 marked_more (b ∷ marks) (suc m) zero lt = or_none b ∙ ap (λ t. b || t) (sym (eqb-suc-zero m))
 marked_more (b ∷ marks) (suc m) (suc n) lt = marked_more marks m n (omega (arith, lt)) ∙ ap (λ t. is_marked marks n || t) (sym (eqb-suc-suc m n))
 
--- ---- one sender more
+-- ---- one more sender
 
 numbered_so : (n : ℕ) (u : Sender) (o : Option ℕ) → sender_number u ≡ o → has_number n u ≡ option_map_or (λ m. nat_eq m n) o false
 numbered_so n u o e = ap (λ (k : Option ℕ). option_map_or (λ m. nat_eq m n) k false) e
@@ -44,7 +44,7 @@ noted_one xs marks grown new u m e same lt is have = λ n.
     ∙ (ap (λ b. list_any (has_number n) xs || b) (or_none (nat_eq m n) ∙ ap (λ b. b || false) (sym (numbered_so n u (Some m) e)))
     ∙ sym (list_any-append (has_number n) xs (u ∷ [])))))
 
--- ---- the one that is asked for
+-- ---- the sender that is looked for
 
 by_number : (o : Option ℕ) (n : ℕ) (named : Bool) → option_map_or (λ m. nat_eq m n) o false ≡ same_numbers o (Some n) named
 by_number None n named = refl

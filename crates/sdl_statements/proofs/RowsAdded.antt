@@ -1,4 +1,4 @@
--- Rows of a table that are added each once: who may have sent what transitions begin with.
+-- Rows of a table, each added once: the possible senders of what starts transitions.
 use Rattle.std.proofs.Common.{◌≡◌, inl, inr, Option, Some, None, ℕ, Bool, true, false, ◌&&◌, List, sym, ap, ◌∙◌, subst, true≢false}
 use Rattle.std.specs.Prelude.{replicate}
 use Rattle.std.specs.Option.{option_map_or}
@@ -19,7 +19,7 @@ use Rattle.std.proofs.Math.Bool.{and-true}
 use Rattle.std.proofs.lemmas.Option.{same_Some as some_same}
 
 module _ (b : PlainBlock) (p : PlainProcess) (names : List Identifier) where
-  -- names with one row are alike, and so are those who may have sent them
+  -- Names with the same row are alike, and so are their possible senders.
   row_alike : (x y : List ℕ) (n : ℕ) → number_of names x ≡ Some n → number_of names y ≡ Some n → folded x ≡ folded y
   row_alike x y n e f =
       let one = number_names names x n e in
@@ -27,7 +27,7 @@ module _ (b : PlainBlock) (p : PlainProcess) (names : List Identifier) where
       let same : one.0 ≡ other.0 = some_same one.0 other.0 (sym one.1 ∙ other.1) in
       same_folded x one.0.name one.2 ∙ (ap (λ (id : Identifier). folded id.name) same ∙ sym (same_folded y other.0.name other.2))
 
-  -- no row yet
+  -- No row yet.
   pub asks_none : (g : Gathered) (k : ℕ) → Gathers b p g.senders (λ s. true) → g.asked.items ≡ replicate k false → Asks b p names g (λ s. true)
   asks_none g k gathers is = record {
     gathers = gathers;
@@ -40,7 +40,7 @@ module _ (b : PlainBlock) (p : PlainProcess) (names : List Identifier) where
     asked = λ s e. old.asked s (same s ∙ e);
   }
 
-  -- a row more is marked
+  -- One more row is marked.
   asked_more : (g n : Gathered) (f : List ℕ → Bool) (x : List ℕ) (o : Option ℕ) → o ≡ number_of names x → Marks o g.asked.items n.asked.items
       → Asks b p names g f → (s : List ℕ) → (f s && answers b p s x) ≡ true → (name : List ℕ) (k : ℕ) → number_of names name ≡ Some k
       → is_marked n.asked.items k ≡ true → answers b p s name ≡ true
@@ -56,7 +56,7 @@ module _ (b : PlainBlock) (p : PlainProcess) (names : List Identifier) where
     asked = asked_more g n f x o row marks old;
   }
 
-  -- one that was added
+  -- A row that was added.
   there_answers : (g : Gathered) (f : List ℕ → Bool) (x : List ℕ) (o : Option ℕ) → o ≡ number_of names x
       → option_map_or (is_marked g.asked.items) o false ≡ true → Asks b p names g f → (s : List ℕ) → f s ≡ true → answers b p s x ≡ true
   there_answers g f x None row there old s e = absurd (true≢false (sym there))
@@ -73,6 +73,6 @@ module _ (b : PlainBlock) (p : PlainProcess) (names : List Identifier) where
     asked = asked_more g n f x o row marks old;
   }
 
-  -- nothing more
+  -- Nothing is added.
   pub asks_nothing : (g : Gathered) (f : List ℕ → Bool) → Asks b p names g f → Asks b p names g (λ s. f s && true)
   asks_nothing g f h = asks_same g f (λ s. f s && true) (λ s. sym (and-true (f s))) h

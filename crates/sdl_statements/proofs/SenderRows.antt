@@ -1,4 +1,4 @@
--- The rows of a table of who may have sent what.
+-- The rows of a table of possible senders.
 use Rattle.std.proofs.Common.{◌≡◌, ℕ, zero, suc, ◌+◌, ◌&&◌, not, List, [], ◌∷◌, ◌++◌, if◌then◌else◌, length, None, Some, refl, sym, ap, ◌∙◌, subst, arith, length-append}
 use Rattle.std.specs.Prelude.{slice_get}
 use Rattle.std.specs.List.{list_all, flat_map}
@@ -16,7 +16,7 @@ use Rattle.sdl_statements.specs.declared.sender_table.SenderTable.{SenderTable}
 use Rattle.sdl_sound.proofs.Numbered.{number_names, same_folded, in_alike}
 use Rattle.std.proofs.lemmas.Option.{same_Some as some_same}
 
--- a signal has the same senders however it is written
+-- A signal has the same senders in any spelling.
 sent_alike : (paths : List PlainPath) (own : Party) (s t : List ℕ) → folded s ≡ folded t
     → flat_map (path_senders own s) paths ≡ flat_map (path_senders own t) paths
 sent_alike [] own s t e = refl
@@ -30,7 +30,7 @@ pub answers_alike : (b : PlainBlock) (p : PlainProcess) (s x y : List ℕ) → f
 answers_alike b p s x y e =
     λ i. not (in_alike (timers_of p) x y e i) && list_all (λ q. carries b (party_of p) q s) (senders_alike b (party_of p) x y e i)
 
--- what holds of two lists side by side holds with an element more of each
+-- A relation between two lists also holds with one more element in each.
 pub pushed_at : {A B : Type 0} (R : A → B → Type 0) (xs : List A) (ys : List B) (x : A) (y : B) → length ys ≡ length xs
     → ((n : ℕ) (a : A) (b : B) → slice_get xs n ≡ Some a → slice_get ys n ≡ Some b → R a b) → R x y
     → (n : ℕ) (a : A) (b : B) → slice_get (xs ++ x ∷ []) n ≡ Some a → slice_get (ys ++ y ∷ []) n ≡ Some b → R a b
@@ -62,7 +62,7 @@ module _ (b : PlainBlock) (p : PlainProcess) where
         (ap (λ (l : List Identifier). slice_get l n) (sym names) ∙ at) (ap (λ (l : List (Vec Sender)). slice_get l n) (sym rows) ∙ there);
   }
 
-  -- the row of a name, however it is written
+  -- The row of a name, in any spelling.
   pub tells_at : (t : SenderTable) (name : List ℕ) (n : ℕ) (row : Vec Sender) → number_of t.names name ≡ Some n → slice_get t.rows.items n ≡ Some row
       → Tells b p t → AreSendersOf b p name row.items
   tells_at t name n row number stands tells =

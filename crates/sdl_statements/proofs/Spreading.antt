@@ -1,4 +1,4 @@
--- What is so of each of some things with each of others.
+-- Booleans over all pairs of elements of two lists.
 use Rattle.std.proofs.Common.{◌≡◌, ℕ, zero, suc, Bool, true, false, not, ◌&&◌, ◌||◌, List, [], ◌∷◌, ◌++◌, Some, if◌then◌else◌, fold, arith, refl, sym, ap, ◌∙◌, subst}
 use Rattle.std.specs.Prelude.{All, slice_get}
 use Rattle.std.specs.List.{list_any, list_all, flat_map}
@@ -7,7 +7,7 @@ use Rattle.std.proofs.lemmas.Option.{none-some, same_Some as some_same}
 use Rattle.std.proofs.Math.Bool.{and-false, or-true}
 use Rattle.plain_laws.proofs.Truths.{and_first as and_left, and_second as and_right}
 
--- ---- of all, of any
+-- ---- all, any
 
 pub all_true : {A : Type 0} (f : A → Bool) (xs : List A) → ((x : A) → f x ≡ true) → list_all f xs ≡ true
 all_true f [] h = refl
@@ -17,7 +17,7 @@ pub same_all : {A : Type 0} (f g : A → Bool) (xs : List A) → ((x : A) → f 
 same_all f g [] h = refl
 same_all f g (x ∷ xs) h = λ i. h x i && same_all f g xs h i
 
--- the same, of those of which something is known
+-- As `same_all`, for elements with a known property.
 pub all_on : {A : Type 0} (P : A → Type 0) (q f h : A → Bool) (xs : List A) → All P xs → list_all q xs ≡ true → ((x : A) → P x → q x ≡ true → f x ≡ h x)
     → list_all f xs ≡ list_all h xs
 all_on P q f h [] are there same = refl
@@ -44,7 +44,7 @@ both_all : {A : Type 0} (f g : A → Bool) (xs : List A) → list_all (λ x. f x
 both_all f g [] = refl
 both_all f g (x ∷ xs) = ap (λ b. (f x && g x) && b) (both_all f g xs) ∙ four (f x) (g x) (list_all f xs) (list_all g xs)
 
--- ---- who is one of some has to do so
+-- ---- an element that passes one of several tests
 
 either : (a b c : Bool) → (not (a || b) || c) ≡ ((not a || c) && (not b || c))
 either true b true = sym (or-true (not b))
@@ -66,7 +66,7 @@ pub all_flat : {A B : Type 0} (k : A → List B) (f : B → Bool) (xs : List A) 
 all_flat k f [] = refl
 all_flat k f (x ∷ xs) = list_all-append f (k x) (flat_map k xs) ∙ ap (λ b. list_all f (k x) && b) (all_flat k f xs)
 
--- those that are picked
+-- The elements that are picked.
 pub picked : {Z U : Type 0} (m : Z → Bool) (s : Z → U) (g : U → Bool) (zs : List Z)
     → list_all g (flat_map (λ z. if m z then s z ∷ [] else []) zs) ≡ list_all (λ z. not (m z) || g (s z)) zs
 picked m s g [] = refl
@@ -89,7 +89,7 @@ any_joined t k f (x ∷ xs) =
     by_test true = refl
     by_test false = refl
 
--- ---- what is there once it was added
+-- ---- whatever was added is there
 
 module _ {S X Y : Type 0} (holds : S → Y → Bool) (add : S → X → S) (key : X → Y)
     (kept : (s : S) (x : X) (y : Y) → holds s y ≡ true → holds (add s x) y ≡ true) (there : (s : S) (x : X) → holds (add s x) (key x) ≡ true) where
@@ -101,7 +101,7 @@ module _ {S X Y : Type 0} (holds : S → Y → Bool) (add : S → X → S) (key 
   each_there s [] = refl
   each_there s (x ∷ xs) = λ i. all_kept (add s x) xs (key x) (there s x) i && each_there (add s x) xs i
 
-  -- and the same of rows
+  -- As above, for rows.
   rows_kept : {R : Type 0} (items : R → List X) (s : S) (rows : List R) (y : Y) → holds s y ≡ true → holds (fold (λ s row. fold add s (items row)) s rows) y ≡ true
   rows_kept items s [] y h = h
   rows_kept items s (row ∷ rows) y h = rows_kept items (fold add s (items row)) rows y (all_kept s (items row) y h)

@@ -1,4 +1,4 @@
--- What each rule on statements asks of one.
+-- What each rule on statements checks in a single one.
 use Rattle.std.specs.Prelude.{ℕ, Bool, true, false, List, [], ◌∷◌, Option, None, Some}
 use Rattle.std.specs.List.{flat_map}
 use Rattle.sdl_ast.specs.declared.tree.Destination.{Destination}
@@ -20,7 +20,7 @@ use Rattle.sdl_statements.specs.declared.statements.StatementRule.TheVariants.{O
 use Rattle.sdl_statements.specs.declared.statements.StatementRule.TheVariants.{Divisors}
 use Rattle.sdl_statements.specs.declared.statements.StatementRule.TheVariants.{NothingBack}
 
--- the place at which an OUTPUT says that it goes TO SENDER
+-- The place of TO SENDER, if this is the destination of an OUTPUT.
 abbrev pub back_destination : Option Destination → List ℕ
 back_destination None = []
 back_destination (Some (Sender at)) = at ∷ []
@@ -47,12 +47,12 @@ asked Answers b p from s = statement_unanswered (variables_of p) s
 asked Divisors b p from s = statement_divisors s
 asked NothingBack b p from s = back_statement s
 
--- of some statements
+-- What a rule checks in some statements.
 abbrev pub asked_all :
     StatementRule → PlainBlock → PlainProcess → List Origin → List Statement → List ℕ
 asked_all rule b p from statements = flat_map (asked rule b p from) statements
 
--- whether the rule asks with what a transition begins
+-- Whether a rule depends on what starts the transition.
 abbrev pub asks_origin : StatementRule → Bool
 asks_origin Names = false
 asks_origin Sorts = false

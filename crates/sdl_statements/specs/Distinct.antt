@@ -1,4 +1,4 @@
--- Senders, each party once.
+-- Senders, with each party only once.
 use Rattle.std.specs.Prelude.{◌≡◌, ℕ, Bool, true, false, List, [], ◌∷◌, ◌++◌, Option, None, Some}
 use Rattle.std.specs.Prelude.{if◌then◌else◌, nat_eq, fold}
 use Rattle.std.specs.List.{list_any}
@@ -9,7 +9,7 @@ use Rattle.sdl_scopes.specs.Reaches.{is_marked}
 use Rattle.sdl_scopes.specs.declared.sender.Sender.{Sender}
 use Rattle.sdl_scopes.specs.declared.sender.Sender.TheVariants.{Nobody, Party}
 
--- whether two parties have one number, or one name where neither has a number
+-- Whether two parties have the same number, or neither has one and they have the same name.
 abbrev pub same_numbers : Option ℕ → Option ℕ → Bool → Bool
 same_numbers (Some m) (Some n) named = nat_eq m n
 same_numbers (Some m) None named = false
@@ -34,14 +34,14 @@ sender_number (Party x) = x.number
 abbrev pub has_number : ℕ → Sender → Bool
 has_number n x = option_map_or (λ m. nat_eq m n) (sender_number x) false
 
--- the numbers of some senders have a mark, and no others
+-- Exactly the numbers of these senders have a mark.
 abbrev pub HaveMarks : List Sender → List Bool → Type 0
 HaveMarks xs marks = (n : ℕ) → is_marked marks n ≡ list_any (has_number n) xs
 
--- one more, unless it is there
+-- Adds a sender, unless it is there.
 abbrev pub add_sender : List Sender → Sender → List Sender
 add_sender xs y = if has_sender xs y then xs else xs ++ y ∷ []
 
--- those of some rows
+-- The senders of some rows, each only once.
 abbrev pub distinct : List (Vec Sender) → List Sender
 distinct rows = fold (λ xs (row : Vec Sender). fold add_sender xs row.items) [] rows

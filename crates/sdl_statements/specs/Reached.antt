@@ -1,4 +1,4 @@
--- To which connections the transitions come that begin with what a sender may have sent.
+-- The connections to which the transitions lead that are started by signals of a sender.
 use Rattle.std.specs.Prelude.{◌≡◌, ℕ, Bool, false, List, [], ◌∷◌, Option, Some, if◌then◌else◌, map}
 use Rattle.std.specs.Prelude.{slice_get}
 use Rattle.std.specs.List.{list_any, flat_map}
@@ -21,7 +21,7 @@ use Rattle.sdl_scopes.specs.declared.sender.Sender.{Sender}
 use Rattle.sdl_scopes.specs.declared.sender.Sender.TheVariants.{Nobody}
 use Rattle.sdl_statements.specs.declared.sender_table.SenderTable.{SenderTable}
 
--- the rows of what an INPUT takes, and the numbers of the connections that it joins
+-- The rows of the signals and timers of an INPUT, and the numbers of the connections it joins.
 pub record PlainJoining : Type 0 where
   pub rows : List (Option ℕ)
   pub targets : List ℕ
@@ -36,30 +36,30 @@ input_joining names p i =
       targets = targets_of p (joins_of i.text);
     }
 
--- whether one of these rows is marked
+-- Whether one of these rows is marked.
 abbrev pub takes_one : List Bool → List (Option ℕ) → Bool
 takes_one marks rows = list_any (λ row. option_map_or (is_marked marks) row false) rows
 
--- what is joined by those that take one that is
+-- The connections that INPUTs with a marked row join.
 abbrev pub starts_with : List Bool → List PlainJoining → List ℕ
 starts_with marks js = flat_map (λ j. if takes_one marks j.rows then j.targets else []) js
 
--- who may have sent a signal or timer, by the table
+-- The possible senders of a signal or timer, by the table.
 abbrev pub row_at : SenderTable → List ℕ → List Sender
 row_at t name =
     option_map_or
     (λ n. option_map_or (λ (row : Vec Sender). row.items) (slice_get t.rows.items n) [])
     (number_of t.names name) []
 
--- whether a sender may have sent one of those that an INPUT takes
+-- Whether a sender may have sent one of the signals that an INPUT takes.
 abbrev pub may_begin : SenderTable → Sender → PlainInput → Bool
 may_begin t u i = list_any (λ x. has_sender (row_at t x.name.name) u) i.stimuli
 
--- the JOINs of all INPUTs that take such a one
+-- The JOINs of all INPUTs that take a signal of this sender.
 abbrev pub sent_joins : PlainProcess → SenderTable → Sender → List Join
 sent_joins p t u = flat_map (λ i. if may_begin t u i then joins_of i.text else []) (input_parts p)
 
--- to which connections those come
+-- The connections to which these JOINs lead.
 abbrev pub sent_reach : PlainProcess → SenderTable → Sender → List Bool
 sent_reach p t u =
     map (λ c. list_any (λ j. comes p j.connector.name c.name.name) (sent_joins p t u)) p.connections
@@ -67,7 +67,7 @@ sent_reach p t u =
 abbrev pub sent_by : PlainProcess → SenderTable → Sender → PlainSent
 sent_by p t u = record { sender = u; reached = sent_reach p t u }
 
--- nobody for START, and all senders of the INPUTs
+-- Nobody for START, and all possible senders for the INPUTs.
 abbrev pub sent_all : PlainProcess → SenderTable → List PlainSent
 sent_all p t =
     record {
@@ -76,7 +76,7 @@ sent_all p t =
     }
     ∷ map (sent_by p t) (distinct t.rows.items)
 
--- these tell for each connection who may have sent what the transitions begin with that come there
+-- `sent` has the possible senders of what starts the transitions that lead to each connection.
 abbrev pub AreSent : PlainBlock → PlainProcess → List Sent → Type 0
 AreSent b p sent =
     (n : ℕ) (c : PlainConnection) → slice_get p.connections n ≡ Some c

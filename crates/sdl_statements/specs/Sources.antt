@@ -1,5 +1,5 @@
--- What holds of the senders gathered so far: what gets back to all of them, and which parties and
--- rows are marked.
+-- The senders gathered so far: which signals reach all of them, and which parties and rows are
+-- marked.
 use Rattle.std.specs.Prelude.{◌≡◌, ◌⊎◌, ℕ, Bool, true, Option, Some, List, All}
 use Rattle.std.specs.List.{list_all}
 use Rattle.sdl_ast.specs.Plain.{PlainProcess, PlainBlock}
@@ -12,8 +12,8 @@ use Rattle.sdl_ast.specs.declared.tree.Party as the_party
 use Rattle.sdl_statements.specs.declared.gathered.Gathered.{Gathered}
 use Rattle.sdl_statements.specs.declared.sources.Senders.{Senders}
 
--- What gets back to those who were gathered is what f allows, and whatever f allows gets back to
--- each party whose number was seen.
+-- The signals that reach all gathered senders are those that f allows. They also reach each party
+-- whose number is marked.
 pub record Gathers (b : PlainBlock) (p : PlainProcess) (g : Senders) (f : List ℕ → Bool) :
     Type 0 where
   pub told : (s : List ℕ) → list_all (gets_back b p s) g.list.items ≡ f s
@@ -22,8 +22,8 @@ pub record Gathers (b : PlainBlock) (p : PlainProcess) (g : Senders) (f : List �
       → carries b (party_of p) q s ≡ true
   pub numbered : All (IsSender b) g.list.items
 
--- The same where rows were added: and whatever f allows is allowed for each signal and timer whose
--- row was.
+-- As `Gathers`, when rows are added. A signal that f allows also reaches all possible senders of
+-- each signal and timer whose row is marked.
 pub record Asks (b : PlainBlock) (p : PlainProcess) (names : List Identifier) (g : Gathered)
     (f : List ℕ → Bool) : Type 0 where
   pub gathers : Gathers b p g.senders f
@@ -32,7 +32,7 @@ pub record Asks (b : PlainBlock) (p : PlainProcess) (names : List Identifier) (g
       → is_marked g.asked.items n ≡ true
       → answers b p s name ≡ true
 
--- what has a mark now had one before, or is this number
+-- Each number with a mark now had one before, or is this number.
 abbrev pub Marks : Option ℕ → List Bool → List Bool → Type 0
 Marks number old new =
     (n : ℕ) → is_marked new n ≡ true → (number ≡ Some n) ⊎ (is_marked old n ≡ true)

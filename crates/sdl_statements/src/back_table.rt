@@ -1,4 +1,4 @@
-//! To whom the signals get that a process sends back: the routes are asked once for each.
+//! Which parties the signals that a process sends back can reach. The routes are searched once for each signal.
 ghost use Rattle.std.specs.Prelude.{◌≡◌, false, All, IfOk, OnOk, IfSome};
 ghost use Rattle.std.specs.List.{list_all};
 ghost use Rattle.std.specs.Option.{option_map_or};
@@ -16,7 +16,7 @@ use sdl_scopes::{Sender, is_marked};
 use sdl_tables::{BlockTable, NameKey, NameTable, ProcessTable};
 use std::alloc::{AllocError, Global};
 
-/// A mark for each party to which a process gets a signal, by number.
+/// A mark for each party, by number, that a signal from the process can reach.
 fn find_marks(
     alloc: Global,
     block: &BlockTable,
@@ -34,7 +34,7 @@ fn find_marks(
     Ok(marks)
 }
 
-/// Whether a number is there and has a mark.
+/// Whether there is a number and it has a mark.
 pub(crate) fn is_there(marks: &[bool], number: Option<usize>) -> bool
     ensures { result ≡ option_map_or (is_marked marks.now) number false }
 {
@@ -44,8 +44,8 @@ pub(crate) fn is_there(marks: &[bool], number: Option<usize>) -> bool
     }
 }
 
-/// Whether a signal gets back to who sent what a transition begins with, where it gets to the parties that are marked: of the
-/// others the routes are asked.
+/// Whether a signal reaches the sender of what started a transition. It reaches the marked parties; the routes are
+/// searched only for the others.
 fn gets_back(
     block: &BlockTable,
     process: &ProcessTable,
@@ -64,7 +64,7 @@ fn gets_back(
     }
 }
 
-/// The same for all of them.
+/// Whether a signal reaches all of these senders.
 pub(crate) fn all_get_back(
     block: &BlockTable,
     process: &ProcessTable,
@@ -83,7 +83,7 @@ pub(crate) fn all_get_back(
     true
 }
 
-/// To whom some signals of a process get.
+/// The parties that some signals of a process can reach.
 #[derive(Drop)]
 pub(crate) struct BackTable {
     names: NameTable,
@@ -91,7 +91,7 @@ pub(crate) struct BackTable {
 }
 
 impl BackTable {
-    /// No signal so far. The table hashes by this key.
+    /// A table without signals, which hashes by this key.
     pub(crate) fn new(alloc: Global, key: NameKey) -> Self
         ensures { (b : PlainBlock) (p : PlainProcess) → Brings b p result }
     {
@@ -101,7 +101,7 @@ impl BackTable {
         }
     }
 
-    /// The marks of a signal, if it is there.
+    /// The marks of a signal, if the table has it.
     fn get(&self, signal: Name) -> Option<&[bool]>
         ensures { IfSome result (λ marks. (b : PlainBlock) (p : PlainProcess) → Brings b p self.now → GetThere b p signal marks.now) }
     {
@@ -112,7 +112,7 @@ impl BackTable {
         }
     }
 
-    /// Asks to whom a signal gets, unless that is known.
+    /// Searches the routes of a signal, unless the table has it.
     pub(crate) fn learn(
         &mut self,
         alloc: Global,
@@ -131,7 +131,7 @@ impl BackTable {
         Ok(())
     }
 
-    /// Whether a signal gets back to all of these.
+    /// Whether a signal reaches all of these senders.
     pub(crate) fn all_get(
         &self,
         block: &BlockTable,

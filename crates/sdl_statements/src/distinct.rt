@@ -1,4 +1,4 @@
-//! Senders, each party once.
+//! Senders, with each party only once.
 ghost use Rattle.std.specs.Prelude.{◌≡◌, ◌<◌, ◌++◌, ◌∷◌, [], ℕ, List, length, fold, map, IfOk, OnOk};
 ghost use Rattle.sdl_tables.specs.Routes.{same_party};
 ghost use Rattle.sdl_statements.specs.Distinct.{same_numbers, same_sender, has_sender, sender_number, HaveMarks, add_sender, distinct};
@@ -9,7 +9,7 @@ use sdl_ast::Party;
 use sdl_scopes::{Numbered, Sender, is_marked};
 use std::alloc::{AllocError, Global};
 
-/// Whether two parties have one name, or are both the environment.
+/// Whether two parties have the same name, or are both the environment.
 fn is_named_alike(one: &Party, other: &Party) -> bool
     ensures { result ≡ same_party one.now other.now }
 {
@@ -25,7 +25,7 @@ fn is_named_alike(one: &Party, other: &Party) -> bool
     }
 }
 
-/// Whether two parties have one number, or one name where neither has a number.
+/// Whether two parties have the same number, or neither has a number and they have the same name.
 fn is_same_party(one: &Numbered, other: &Numbered) -> bool
     ensures { result ≡ same_numbers one.now.number other.now.number (same_party one.now.party other.now.party) }
 {
@@ -41,7 +41,7 @@ fn is_same_party(one: &Numbered, other: &Numbered) -> bool
     }
 }
 
-/// Whether two senders are one party, or both nobody.
+/// Whether two senders are the same party, or both nobody.
 fn is_same(one: &Sender, other: &Sender) -> bool
     ensures { result ≡ same_sender one.now other.now }
 {
@@ -57,7 +57,7 @@ fn is_same(one: &Sender, other: &Sender) -> bool
     }
 }
 
-/// Whether one of these is a sender.
+/// Whether `sender` is one of these.
 fn has_sender(senders: &[Sender], sender: &Sender) -> bool
     ensures { result ≡ has_sender senders.now sender.now }
 {
@@ -79,7 +79,7 @@ fn number_in(sender: &Sender) -> Option<usize>
     }
 }
 
-/// Marks up to this one.
+/// Adds unset marks up to the number `last`.
 fn grow(marks: &mut Vec<bool>, last: usize) -> Result<(), AllocError>
     ensures kept { OnOk result ((n : ℕ) → is_marked marks.new.items n ≡ is_marked marks.old.items n) }
     ensures there { OnOk result (last < length marks.new.items) }
@@ -104,7 +104,7 @@ fn note(marks: &mut Vec<bool>, sender: &Sender) -> Result<(), AllocError>
     }
 }
 
-/// Whether one of these is a sender, where the numbers of all of them are marked: it is looked for only where it has none.
+/// Whether `sender` is one of these, whose numbers are all marked. Only a sender without a number is searched for.
 fn is_one_of(senders: &[Sender], marks: &[bool], sender: &Sender) -> bool
     requires { HaveMarks senders.now marks.now }
     ensures { result ≡ has_sender senders.now sender.now }
@@ -115,7 +115,7 @@ fn is_one_of(senders: &[Sender], marks: &[bool], sender: &Sender) -> bool
     }
 }
 
-/// One sender more, unless it is there.
+/// Adds a sender, unless it is there.
 fn add_sender(
     senders: &mut Vec<Sender>,
     marks: &mut Vec<bool>,
@@ -133,7 +133,7 @@ fn add_sender(
     Ok(())
 }
 
-/// The senders of a row, each unless it is there.
+/// Adds the senders of a row, each unless it is there.
 fn add_senders(
     senders: &mut Vec<Sender>,
     marks: &mut Vec<bool>,
@@ -149,7 +149,7 @@ fn add_senders(
     Ok(())
 }
 
-/// The senders in some rows, each once.
+/// The senders of some rows, each only once.
 pub(crate) fn distinct_senders(
     alloc: Global,
     rows: &[Vec<Sender>],
@@ -183,7 +183,7 @@ fn mark_row<'a>(alloc: Global, row: &'a Vec<Sender>) -> Result<MarkedRow<'a>, Al
     Ok(MarkedRow { row, marks })
 }
 
-/// Some rows with their marks, so that a sender is found in each without a search.
+/// Some rows with their marks, which save a search for a sender in each.
 pub(crate) fn mark_rows<'a>(
     alloc: Global,
     rows: &'a [Vec<Sender>],
@@ -197,7 +197,7 @@ pub(crate) fn mark_rows<'a>(
     Ok(marked)
 }
 
-/// A mark for each row: whether a sender is there.
+/// A mark for each row that has this sender.
 pub(crate) fn rows_with(
     alloc: Global,
     rows: &[MarkedRow],

@@ -1,4 +1,4 @@
-//! Who may have sent what an INPUT takes.
+//! The possible senders of the signals that an INPUT takes.
 ghost use Rattle.std.specs.Prelude.{◌≡◌, ◌&&◌, true, ℕ, Bool, List, None, map, slice_get, IfOk, OnOk};
 ghost use Rattle.std.specs.Option.{option_map_or};
 ghost use Rattle.sdl_ast.specs.Plain.{PlainBlock, PlainProcess};
@@ -27,16 +27,16 @@ fn row_at(rows: &[Option<usize>], place: usize) -> Option<usize>
     }
 }
 
-/// Who may have sent some signals: each row of the table is added once.
+/// The possible senders of some signals. Each row of the table is added once.
 #[derive(Drop)]
 pub(crate) struct Gathered {
-    /// The rows that are there, by number.
+    /// The rows that have been added, by number.
     asked: Vec<bool>,
     senders: Senders,
 }
 
 impl Gathered {
-    /// Nobody so far, and no row of the table.
+    /// No senders yet, and no row of the table.
     fn new(alloc: Global, block: &BlockTable, table: &SenderTable) -> Result<Self, AllocError>
         ensures { IfOk result (λ g. (b : PlainBlock) (p : PlainProcess) → Asks b p table.now.names g (λ s. true)) }
     {
@@ -45,7 +45,7 @@ impl Gathered {
         Ok(Gathered { asked, senders })
     }
 
-    /// Who may have sent a signal to a process, or a timer, unless its row is there.
+    /// Adds the possible senders of a signal or timer, unless its row has been added.
     fn add_row(
         &mut self,
         alloc: Global,
@@ -68,7 +68,7 @@ impl Gathered {
         Ok(())
     }
 
-    /// Who may have sent the signals and timers that an INPUT names, each unless its row is there.
+    /// Adds the possible senders of the signals and timers of an INPUT, each unless its row has been added.
     fn add_stimuli(
         &mut self,
         alloc: Global,
@@ -92,7 +92,7 @@ impl Gathered {
     }
 }
 
-/// Who may have sent what an INPUT takes.
+/// The possible senders of the signals that an INPUT takes.
 pub(crate) fn input_senders(
     alloc: Global,
     block: &BlockTable,

@@ -1,5 +1,5 @@
-//! Who may have sent what a transition begins with, and of the signals that it sends back whether they get to all of those: for
-//! each of them that is asked of every sender once.
+//! The possible senders of what starts a transition, and whether each signal that the transition sends back reaches all
+//! of them. The routes are searched once for each signal and sender.
 ghost use Rattle.std.specs.Prelude.{◌≡◌, [], List, IfOk, OnOk};
 ghost use Rattle.sdl_ast.specs.Plain.{PlainProcess, PlainBlock};
 ghost use Rattle.sdl_ast.specs.Views.{process_of, block_of};
@@ -15,7 +15,7 @@ use sdl_scopes::KnownSenders;
 use sdl_tables::{BlockTable, NameTable, ProcessTable};
 use std::alloc::{AllocError, Global};
 
-/// Whether a signal gets back to all of them.
+/// Whether a signal reaches all possible senders.
 pub(crate) fn all_get(
     known: &KnownSenders,
     block: &BlockTable,
@@ -34,7 +34,7 @@ pub(crate) fn all_get(
     all_get_back(block, process, &[], signal, &known.list)
 }
 
-/// The same where the routes were asked before.
+/// As `all_get`, with the marks of a table that has searched the routes.
 fn all_get_by(
     known: &KnownSenders,
     table: &BackTable,
@@ -48,12 +48,12 @@ fn all_get_by(
     table.all_get(block, process, signal, &known.list)
 }
 
-/// Whether it is known of a signal.
+/// Whether this is known for a signal.
 fn knows(known: &KnownSenders, signal: Name) -> bool {
     known.back.contains(signal) || known.lost.contains(signal)
 }
 
-/// Whether a signal gets back to all of them, and asks the routes if that isn't known.
+/// Whether a signal reaches all possible senders. Searches the routes if this isn't known.
 fn ask(
     known: &KnownSenders,
     alloc: Global,
@@ -73,7 +73,7 @@ fn ask(
     Ok(all_get_by(known, table, block, process, signal.name))
 }
 
-/// Asks of a signal, unless it is known.
+/// Finds this out for a signal, unless it is known.
 fn learn(
     known: &mut KnownSenders,
     alloc: Global,
@@ -90,7 +90,7 @@ fn learn(
     Ok(())
 }
 
-/// Asks of each signal of these sendings.
+/// Finds this out for each signal of these sendings.
 fn learn_sendings(
     known: &mut KnownSenders,
     alloc: Global,
@@ -108,7 +108,7 @@ fn learn_sendings(
     Ok(())
 }
 
-/// Asks of each signal of an OUTPUT that goes TO SENDER.
+/// Finds this out for each signal of an OUTPUT that goes TO SENDER.
 fn learn_output(
     known: &mut KnownSenders,
     alloc: Global,
@@ -130,7 +130,7 @@ fn learn_output(
     }
 }
 
-/// Asks of each signal that an action sends back.
+/// Finds this out for each signal that an action sends back.
 fn learn_action(
     known: &mut KnownSenders,
     alloc: Global,
@@ -160,7 +160,7 @@ fn learn_action(
     }
 }
 
-/// Asks of each signal that a transition sends back.
+/// Finds this out for each signal that a transition sends back.
 #[cycle(learning)]
 pub(crate) fn learn_transition(
     known: &mut KnownSenders,
@@ -179,7 +179,7 @@ pub(crate) fn learn_transition(
     Ok(())
 }
 
-/// Asks of each signal that a statement sends back.
+/// Finds this out for each signal that a statement sends back.
 #[cycle(learning)]
 fn learn_statement(
     known: &mut KnownSenders,
@@ -200,7 +200,7 @@ fn learn_statement(
     }
 }
 
-/// Asks of each signal that the bodies of a DECISION send back.
+/// Finds this out for each signal that the bodies of a DECISION send back.
 #[cycle(learning)]
 fn learn_decision(
     known: &mut KnownSenders,
@@ -220,7 +220,7 @@ fn learn_decision(
     Ok(())
 }
 
-/// Asks of each signal that the body of ELSE sends back, if there is one.
+/// Finds this out for each signal that the body of ELSE sends back, if there is one.
 #[cycle(learning)]
 fn learn_else(
     known: &mut KnownSenders,

@@ -1,4 +1,4 @@
-//! The rules that statements are asked for one by one, over a whole block: names (S2), sorts (S3), receivers (S5, S6), answers
+//! The rules for single statements, checked over a whole block: names (S2), sorts (S3), receivers (S5, S6), answers
 //! (S8) and divisors (S9).
 #![tactic(auto)]
 

@@ -1,5 +1,5 @@
-//! The signals that nobody gets, statement by statement: of those that go TO SENDER it is known who may have sent what a
-//! transition begins with.
+//! The signals that nobody receives, statement by statement. A signal TO SENDER must reach all possible senders of what
+//! starts its transition.
 ghost use Rattle.std.specs.Prelude.{◌≡◌, false, List, [], ◌∷◌, Some, map, slice_get, IfOk, OnOk};
 ghost use Rattle.std.specs.List.{flat_map};
 ghost use Rattle.sdl_ast.specs.Views.{text_of, input_of, connection_of, process_of, block_of};
@@ -26,7 +26,7 @@ use sdl_scopes::{KnownSenders, Sender, Sent, senders_at};
 use sdl_tables::{BlockTable, ProcessTable, earlier};
 use std::alloc::{AllocError, Global};
 
-/// The place of a signal in a transition that nobody gets, where these may have sent what it begins with.
+/// The place of a signal in a transition that nobody receives, given the possible senders of what starts it.
 fn lost_in_transition(
     alloc: Global,
     backs: &mut BackTable,
@@ -79,7 +79,7 @@ fn lost_in_start(
     Ok(lost)
 }
 
-/// The place of a signal in an INPUT's transition that nobody gets.
+/// The place of a signal in the transition of an INPUT that nobody receives.
 fn lost_in_input(
     alloc: Global,
     backs: &mut BackTable,
@@ -122,8 +122,8 @@ fn lost_in_inputs(
     Ok(place)
 }
 
-/// The place of a signal in a connection that nobody gets: TO SENDER is asked with every transition that comes there, and who
-/// may have sent what those begin with is gathered only where something goes there.
+/// The place of a signal in a connection that nobody receives. TO SENDER concerns every transition that leads there;
+/// the possible senders of what starts these are gathered only if the connection sends something TO SENDER.
 fn lost_in_connection(
     alloc: Global,
     backs: &mut BackTable,
@@ -206,7 +206,7 @@ fn lost_in_processes(
     Ok(place)
 }
 
-/// The place of a signal in an OUTPUT that nobody gets. (S5; Z.100: output, signal route.)
+/// The place of a signal in an OUTPUT that nobody receives, or `None`. (S5; Z.100: output, signal route.)
 pub fn lost_output(alloc: Global, block: &BlockTable) -> Result<Option<u32>, AllocError>
     ensures { IfOk result (λ place. Marks place (without_receiver (block_of block.now))) }
 {

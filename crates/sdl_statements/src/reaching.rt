@@ -1,5 +1,5 @@
-//! Who may have sent what those transitions begin with that come to a connection: for each sender one search, from all connections
-//! that are joined by INPUTs of what it may have sent.
+//! The possible senders of what starts the transitions that lead to a connection. For each sender one search starts
+//! from all connections that the INPUTs of its signals join.
 ghost use Rattle.std.specs.Prelude.{◌≡◌, ◌<◌, [], length, map, All, IfOk};
 ghost use Rattle.sdl_ast.specs.Plain.{PlainBlock};
 ghost use Rattle.sdl_ast.specs.Views.{input_of, process_of};
@@ -21,8 +21,8 @@ use sdl_scopes::{Sender, Sent};
 use sdl_tables::ProcessTable;
 use std::alloc::{AllocError, Global};
 
-/// An INPUT: the row of each signal and timer that it takes in the table of who may have sent them, and the connections that its
-/// transition joins, by number.
+/// An INPUT: for each signal and timer that it takes, the row in the table of possible senders; and the numbers of the
+/// connections that its transition joins.
 #[derive(Drop)]
 struct Joining {
     rows: Vec<Option<usize>>,
@@ -72,7 +72,7 @@ fn takes_one(marks: &[bool], rows: &[Option<usize>]) -> bool
     false
 }
 
-/// The connections that are joined by INPUTs of which a row has a mark.
+/// The connections that INPUTs with a marked row join.
 fn starts_with(
     alloc: Global,
     joinings: &[Joining],
@@ -89,7 +89,7 @@ fn starts_with(
     Ok(starts)
 }
 
-/// A mark for each connection to which an INPUT comes of what a sender may have sent.
+/// A mark for each connection to which an INPUT of this sender's signals leads.
 fn reached_by(
     alloc: Global,
     process: &ProcessTable,
@@ -112,7 +112,7 @@ fn reached_by(
     Ok(reached)
 }
 
-/// Each sender of what the transitions of a process begin with: nobody for START, and then those of its INPUTs.
+/// Each possible sender of what starts the transitions of a process: nobody for START, then the senders for its INPUTs.
 pub(crate) fn find_sent(
     alloc: Global,
     process: &ProcessTable,

@@ -1,4 +1,4 @@
-//! The rules on receivers: the first OUTPUT that nobody gets, or more than one.
+//! The rules on receivers: the first OUTPUT that no party receives, or that more than one receives.
 ghost use Rattle.std.specs.Prelude.{◌≡◌, List, Some, map};
 ghost use Rattle.std.specs.List.{flat_map};
 ghost use Rattle.sdl_ast.specs.Views.{sending_of, action_of, process_of, block_of};
@@ -16,7 +16,7 @@ use sdl_lex::Name;
 use sdl_scopes::{KnownSenders, Recipients, find_receivers};
 use sdl_tables::{BlockTable, ProcessTable, earlier};
 
-/// Whether a signal that says to whom it goes gets there.
+/// Whether a signal reaches the destination that it names.
 fn arrives_at(
     block: &BlockTable,
     process: &ProcessTable,
@@ -35,7 +35,7 @@ fn arrives_at(
     }
 }
 
-/// Whether a signal gets to whom it goes; where it doesn't say to whom, whether anybody gets it.
+/// Whether a signal reaches its destination or, if it names none, any party.
 fn arrives(
     block: &BlockTable,
     process: &ProcessTable,
@@ -56,7 +56,7 @@ fn arrives(
     }
 }
 
-/// The place of a signal that nobody gets, in a sending.
+/// The place of a signal in a sending that nobody receives.
 fn lost_sending(
     block: &BlockTable,
     process: &ProcessTable,
@@ -74,7 +74,7 @@ fn lost_sending(
     }
 }
 
-/// The place of a signal that nobody gets, in sendings.
+/// The place of a signal in sendings that nobody receives.
 fn lost_sendings(
     block: &BlockTable,
     process: &ProcessTable,
@@ -92,7 +92,7 @@ fn lost_sendings(
     place
 }
 
-/// The place of a signal in an action that nobody gets.
+/// The place of a signal in an action that nobody receives.
 pub(crate) fn lost_in_action(
     block: &BlockTable,
     process: &ProcessTable,
@@ -112,7 +112,7 @@ pub(crate) fn lost_in_action(
     }
 }
 
-/// Whether two parties or more get a signal that doesn't say to whom it goes.
+/// Whether two or more parties receive a signal that names no destination.
 fn is_doubtful(
     block: &BlockTable,
     process: &ProcessTable,
@@ -131,7 +131,7 @@ fn is_doubtful(
     }
 }
 
-/// The place of a signal that two parties or more get, in a sending.
+/// The place of a signal in a sending that two or more parties receive.
 fn doubtful_sending(
     block: &BlockTable,
     process: &ProcessTable,
@@ -147,7 +147,7 @@ fn doubtful_sending(
     }
 }
 
-/// The place of a signal that two parties or more get, in sendings.
+/// The place of a signal in sendings that two or more parties receive.
 fn doubtful_sendings(
     block: &BlockTable,
     process: &ProcessTable,
@@ -163,7 +163,7 @@ fn doubtful_sendings(
     place
 }
 
-/// The place of a signal in an action that two parties or more get.
+/// The place of a signal in an action that two or more parties receive.
 pub(crate) fn doubtful_in_action(
     block: &BlockTable,
     process: &ProcessTable,
@@ -179,7 +179,7 @@ pub(crate) fn doubtful_in_action(
     }
 }
 
-/// The place of TO SENDER, if a signal goes there.
+/// The place of TO SENDER, if this is the destination.
 fn back_to(to: &Option<Destination>) -> Option<u32>
     ensures { Marks result (back_destination to.now) }
 {
@@ -190,7 +190,7 @@ fn back_to(to: &Option<Destination>) -> Option<u32>
     }
 }
 
-/// The place at which an action says that it goes TO SENDER.
+/// The place of TO SENDER in an action, if this is its destination.
 pub(crate) fn back_in_action(action: &Action) -> Option<u32>
     ensures { Marks result (back_action (action_of action.now)) }
 {

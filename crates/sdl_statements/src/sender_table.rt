@@ -1,4 +1,4 @@
-//! Who may have sent each signal and timer that a process takes: the routes are asked once for each.
+//! The possible senders of each signal and timer that a process takes. The routes are searched once for each.
 ghost use Rattle.std.specs.Prelude.{◌≡◌, ◌∷◌, [], map, fold, IfOk, OnOk, IfSome, List, ℕ};
 ghost use Rattle.sdl_ast.specs.Plain.{PlainBlock, PlainProcess};
 ghost use Rattle.sdl_ast.specs.Views.{stimulus_of, input_of, process_of, block_of};
@@ -21,7 +21,7 @@ pub(crate) fn party_of(process: &ProcessTable) -> Party
     Party::Process(process.process().name)
 }
 
-/// The number of a party: that of its process, or one past all of these for the environment; none where there is no such process.
+/// The number of a party: that of its process, or the number of processes for the environment; `None` for no process.
 pub(crate) fn party_number(block: &BlockTable, party: &Party) -> Option<usize>
     ensures { result ≡ party_number (block_of block.now) party.now }
 {
@@ -50,7 +50,7 @@ fn number_parties(
     Ok(rows)
 }
 
-/// Who may have sent a signal to a process: nobody, where it is a timer.
+/// The possible senders of a signal to a process: nobody, if it is a timer.
 pub(crate) fn senders_of(
     alloc: Global,
     block: &BlockTable,
@@ -68,7 +68,7 @@ pub(crate) fn senders_of(
     Ok(senders)
 }
 
-/// Who may have sent some signals and timers to a process.
+/// The possible senders of some signals and timers to a process.
 #[derive(Drop)]
 pub(crate) struct SenderTable {
     names: NameTable,
@@ -76,7 +76,7 @@ pub(crate) struct SenderTable {
 }
 
 impl SenderTable {
-    /// No signal or timer so far. The table hashes by this key.
+    /// A table without signals and timers, which hashes by this key.
     fn new(alloc: Global, key: NameKey) -> Self
         ensures names { result.names ≡ [] }
         ensures tells { (b : PlainBlock) (p : PlainProcess) → Tells b p result }
@@ -92,7 +92,7 @@ impl SenderTable {
         self.names.len()
     }
 
-    /// Who may have sent each of them, by number.
+    /// The possible senders of each signal and timer, by number.
     pub(crate) fn rows(&self) -> &[Vec<Sender>]
         ensures { result.now ≡ self.now.rows.items }
     {
@@ -114,7 +114,7 @@ impl SenderTable {
         Ok(rows)
     }
 
-    /// The row with a number.
+    /// The row with this number.
     pub(crate) fn get(&self, number: Option<usize>) -> Option<&[Sender]>
         ensures { IfSome result (λ row. (b : PlainBlock) (p : PlainProcess) (name : List ℕ) → Tells b p self.now
             → number ≡ number_of self.now.names name → AreSendersOf b p name row.now) }
@@ -126,7 +126,7 @@ impl SenderTable {
         }
     }
 
-    /// Asks who may have sent a signal, unless that is known.
+    /// Finds the possible senders of a signal, unless the table has them.
     fn learn(
         &mut self,
         alloc: Global,
@@ -146,7 +146,7 @@ impl SenderTable {
         Ok(())
     }
 
-    /// Asks who may have sent what an INPUT names, each unless that is known.
+    /// Finds the possible senders of the signals and timers of an INPUT, each unless the table has them.
     fn learn_stimuli(
         &mut self,
         alloc: Global,
@@ -163,7 +163,7 @@ impl SenderTable {
         Ok(())
     }
 
-    /// Asks who may have sent what these INPUTs name, each unless that is known.
+    /// Finds the possible senders of the signals and timers of these INPUTs, each unless the table has them.
     fn learn_inputs(
         &mut self,
         alloc: Global,
@@ -181,7 +181,7 @@ impl SenderTable {
     }
 }
 
-/// Who may have sent each signal that a process takes.
+/// The possible senders of each signal and timer that a process takes.
 pub(crate) fn find_senders(
     alloc: Global,
     block: &BlockTable,

@@ -1,4 +1,4 @@
-//! Who may have sent signals: each party once.
+//! The possible senders of signals, with each party only once.
 ghost use Rattle.std.specs.Prelude.{◌≡◌, ◌&&◌, false, not, ℕ, Bool, [], ◌∷◌, ◌++◌, List, All, IfOk, OnOk};
 ghost use Rattle.std.specs.Option.{option_map_or};
 ghost use Rattle.std.specs.List.{list_all};
@@ -19,7 +19,7 @@ use sdl_scopes::{Numbered, Sender, is_marked, nobody};
 use sdl_tables::{BlockTable, ProcessTable};
 use std::alloc::{AllocError, Global};
 
-/// Marks a number, if there is one and a mark for it: whether it wasn't marked.
+/// Marks a number, if there is one and it has a place among the marks. Returns whether it wasn't marked before.
 pub(crate) fn mark(marks: &mut Vec<bool>, number: Option<usize>) -> bool
     ensures new { result ≡ not (option_map_or (is_marked marks.old.items) number false) }
     ensures marks { Marks number marks.old.items marks.new.items }
@@ -38,16 +38,16 @@ pub(crate) fn mark(marks: &mut Vec<bool>, number: Option<usize>) -> bool
     }
 }
 
-/// Who may have sent what some transitions begin with: each party once.
+/// The possible senders of what starts some transitions, with each party only once.
 #[derive(Drop)]
 pub(crate) struct Senders {
-    /// The parties that are there, by number.
+    /// The parties that have been added, by number.
     seen: Vec<bool>,
     pub(crate) list: Vec<Sender>,
 }
 
 impl Senders {
-    /// Nobody so far, with a mark for each party of a block.
+    /// No senders yet, with an unset mark for each party of a block.
     pub(crate) fn new(alloc: Global, block: &BlockTable) -> Result<Self, AllocError>
         ensures { IfOk result (λ g. (b : PlainBlock) (p : PlainProcess) → Gathers b p g (λ s. list_all (λ q. carries b (party_of p) q s) [])) }
     {
@@ -57,7 +57,7 @@ impl Senders {
         Ok(Senders { seen, list })
     }
 
-    /// One more party, unless it is there.
+    /// Adds a party, unless it is there.
     fn add_party(&mut self, party: &Numbered) -> Result<(), AllocError>
         ensures { OnOk result ((b : PlainBlock) (p : PlainProcess) (f : List ℕ → Bool) → IsNumbered b party.now → Gathers b p self.old f
             → Gathers b p self.new (λ s. f s && carries b (party_of p) party.now.party s)) }
@@ -68,7 +68,7 @@ impl Senders {
         Ok(())
     }
 
-    /// Puts a party at the end, or nobody.
+    /// Adds a party, or nobody, at the end.
     fn put(&mut self, party: Option<Numbered>) -> Result<(), AllocError>
         ensures list { OnOk result (self.new.list.items ≡ self.old.list.items ++ sender_of party ∷ []) }
         ensures seen { self.new.seen ≡ self.old.seen }
@@ -81,7 +81,7 @@ impl Senders {
         Ok(())
     }
 
-    /// One more: a party, or nobody.
+    /// Adds a sender: a party, or nobody.
     pub(crate) fn add(&mut self, sender: &Sender) -> Result<(), AllocError>
         ensures { OnOk result ((b : PlainBlock) (p : PlainProcess) (f : List ℕ → Bool) → IsSender b sender.now → Gathers b p self.old f
             → Gathers b p self.new (λ s. f s && gets_back b p s sender.now)) }
@@ -93,7 +93,7 @@ impl Senders {
         Ok(())
     }
 
-    /// Each of these, unless it is there.
+    /// Adds each of these senders, unless it is there.
     fn add_all(&mut self, senders: &[Sender]) -> Result<(), AllocError>
         ensures { OnOk result ((b : PlainBlock) (p : PlainProcess) (f : List ℕ → Bool) → All (IsSender b) senders.now → Gathers b p self.old f
             → Gathers b p self.new (λ s. f s && list_all (gets_back b p s) senders.now)) }
@@ -104,7 +104,7 @@ impl Senders {
         Ok(())
     }
 
-    /// Who may have sent a signal to a process, or a timer, whose row has this number.
+    /// Adds the possible senders of a signal or timer, whose row has this number.
     pub(crate) fn add_row(
         &mut self,
         alloc: Global,
@@ -131,7 +131,7 @@ impl Senders {
     }
 }
 
-/// Who may have sent what START begins with: nobody.
+/// The possible senders for the transition of START: nobody.
 pub(crate) fn start_senders(alloc: Global) -> Result<Vec<Sender>, AllocError>
     ensures { IfOk result (λ v. (b : PlainBlock) (p : PlainProcess) → AreSenders b p v.items (begins ∷ [])) }
 {

@@ -1,4 +1,4 @@
-//! The rules that each statement of a process is asked for by itself: on names, sorts, receivers, answers and divisors.
+//! The rules for each single statement of a process: on names, sorts, receivers, answers and divisors.
 ghost use Rattle.std.specs.Prelude.{◌≡◌, false, List, [], ◌∷◌, map};
 ghost use Rattle.std.specs.List.{flat_map};
 ghost use Rattle.sdl_ast.specs.Plain.{Tree, PlainBlock};
@@ -33,23 +33,23 @@ use std::alloc::Global;
 /// A rule on statements.
 #[derive(Clone, Copy)]
 pub(crate) enum StatementRule {
-    /// Each name is there.
+    /// Each name is declared.
     Names,
-    /// Each operand and each answer has the sort that it has to have.
+    /// Each operand and each answer has the sort that it needs.
     Sorts,
-    /// Somebody gets what is sent.
+    /// Some party receives each signal sent.
     Receivers,
-    /// No two parties get it.
+    /// No two parties receive it.
     OneReceiver,
-    /// Each value of a question is answered.
+    /// Each value of a question has an answer.
     Answers,
     /// Each divisor is a literal of 1 or more.
     Divisors,
-    /// Nothing goes TO SENDER: no rule of the language, but where it holds nobody has to know who that is.
+    /// Nothing goes TO SENDER. This is no rule of the language, but if it holds, the senders don't matter.
     NothingBack,
 }
 
-/// The place at which an action breaks a rule, where these may have sent what its transition begins with.
+/// The place at which an action breaks a rule, given the possible senders of what starts its transition.
 fn in_action(
     rule: StatementRule,
     block: &BlockTable,
@@ -71,7 +71,7 @@ fn in_action(
     }
 }
 
-/// What is asked of a DECISION itself.
+/// The place at which the question of a DECISION breaks a rule.
 fn in_question(rule: StatementRule, process: &ProcessTable, decision: &Decision) -> Option<u32>
     ensures { (b : PlainBlock) (from : List Origin) → Marks result (asked rule b (process_of process.now) from (question_of decision.now)) }
 {
@@ -86,7 +86,7 @@ fn in_question(rule: StatementRule, process: &ProcessTable, decision: &Decision)
     }
 }
 
-/// What is asked of the values of an answer.
+/// The place at which the values of an answer break a rule.
 fn in_ranges(
     rule: StatementRule,
     process: &ProcessTable,
@@ -106,7 +106,7 @@ fn in_ranges(
     }
 }
 
-/// The place at which an end breaks a rule: of ends only names are asked.
+/// The place at which an end breaks a rule. For ends there are only rules on names.
 fn at_end(rule: StatementRule, process: &ProcessTable, end: End) -> Option<u32>
     ensures { (b : PlainBlock) (from : List Origin) → Marks result (asked rule b (process_of process.now) from (finishes end)) }
 {
@@ -131,7 +131,7 @@ fn in_end(rule: StatementRule, process: &ProcessTable, end: Option<End>) -> Opti
     }
 }
 
-/// The least place at which a transition breaks a rule, where these may have sent what it begins with.
+/// The least place at which a transition breaks a rule, given the possible senders of what starts it.
 #[cycle(statements)]
 pub(crate) fn in_transition(
     rule: StatementRule,
@@ -150,7 +150,7 @@ pub(crate) fn in_transition(
     earlier(place, in_end(rule, process, transition.end))
 }
 
-/// The least place at which a statement breaks a rule, where these may have sent what its transition begins with.
+/// The least place at which a statement breaks a rule, given the possible senders of what starts its transition.
 #[cycle(statements)]
 fn in_statement(
     rule: StatementRule,
@@ -212,7 +212,7 @@ fn in_else(
     }
 }
 
-/// The least place at which START's transition breaks a rule.
+/// The least place at which the transition of START breaks a rule.
 fn in_start(
     alloc: Global,
     rule: StatementRule,
@@ -227,7 +227,7 @@ fn in_start(
     in_transition(rule, block, process, &from, transition)
 }
 
-/// What a rule asks that doesn't look at with what transitions begin.
+/// The least place at which the transition of an INPUT breaks a rule that doesn't depend on senders.
 fn in_input(
     alloc: Global,
     rule: StatementRule,
@@ -331,7 +331,7 @@ fn in_processes(
     place
 }
 
-/// The place of a name in a process that its class and scope lack.
+/// The place of a name in a process that isn't declared in its class and scope.
 fn unknown_in_process(alloc: Global, block: &BlockTable, process: &ProcessTable) -> Option<u32>
     ensures { Marks result (process_unknown (block_of block.now) (process_of process.now)) }
 {
@@ -358,7 +358,7 @@ fn unknown_in_processes(
     place
 }
 
-/// The place of a name that its class and scope lack.
+/// The place of a name that isn't declared in its class and scope, or `None`.
 pub fn unknown_name(alloc: Global, block: &BlockTable) -> Option<u32>
     ensures { Marks result (unknown_names (block_of block.now)) }
 {
@@ -366,7 +366,7 @@ pub fn unknown_name(alloc: Global, block: &BlockTable) -> Option<u32>
     earlier(routes, unknown_in_processes(alloc, block, block.tables()))
 }
 
-/// The place of a wrong sort, or of a signal with a wrong number of parameters or too many places.
+/// The place of a wrong sort, or of a signal with a wrong number of parameters or too many places; or `None`.
 pub fn wrong_sort(alloc: Global, block: &BlockTable) -> Option<u32>
     ensures { Marks result (wrong_sorts (block_of block.now)) }
 {
@@ -377,21 +377,21 @@ pub fn wrong_sort(alloc: Global, block: &BlockTable) -> Option<u32>
     )
 }
 
-/// The place of a signal in an OUTPUT that two parties or more get. (S6; Z.100: output.)
+/// The place of a signal in an OUTPUT that two or more parties receive, or `None`. (S6; Z.100: output.)
 pub fn doubtful_output(alloc: Global, block: &BlockTable) -> Option<u32>
     ensures { Marks result (with_two_receivers (block_of block.now)) }
 {
     in_processes(alloc, StatementRule::OneReceiver, block, block.tables())
 }
 
-/// The place of a DECISION of Integers without ELSE, or of one of Booleans that doesn't answer each of TRUE and FALSE once. (S8; Z.100: decision.)
+/// The place of an Integer DECISION without ELSE, or a Boolean one without TRUE or FALSE once. (S8; Z.100: decision.)
 pub fn missing_answer(alloc: Global, block: &BlockTable) -> Option<u32>
     ensures { Marks result (unanswered (block_of block.now)) }
 {
     in_processes(alloc, StatementRule::Answers, block, block.tables())
 }
 
-/// The place of a divisor that is no literal of 1 or more.
+/// The place of a divisor that is no literal of 1 or more, or `None`.
 pub fn bad_divisor(alloc: Global, block: &BlockTable) -> Option<u32>
     ensures { Marks result (bad_divisors (block_of block.now)) }
 {

@@ -1,4 +1,4 @@
--- Bits of variables, and what transitions do one after another.
+-- Bits of variables, and the flows of transitions one after another.
 use Rattle.std.proofs.Common.{◌≡◌, ◌≢◌, ℕ, zero, suc, ◌-◌, ◌*◌, ◌%◌, ◌^◌, ◌<◌, ◌≤◌, Bool, true, false, not, ◌&&◌, ◌||◌, if◌then◌else◌, eqb, List, [], ◌∷◌, ◌++◌, None, Some, get_or, refl, sym, ap, ◌∙◌, subst, arith, inl, inr}
 use Rattle.std.specs.Prelude.{slice_get}
 use Rattle.std.specs.Int.{bit_at, bit_not, w32}
@@ -98,7 +98,7 @@ does_after firsts p xs ys f g d e = (
 
 -- ---- the variable with a name
 
--- where no name is there twice, two places of one name are one
+-- If no name occurs twice, two places with the same name are equal.
 pub one_place : (before ids : List Identifier) (i j : ℕ) (a b : Identifier) → repeats before ids ≡ []
     → slice_get ids i ≡ Some a → slice_get ids j ≡ Some b → same_name b.name a.name ≡ true → i ≡ j
 one_place before [] i j a b h p q s = cc
@@ -124,7 +124,7 @@ differs x y h = elim (cases_Bool (same_name x y)) [
   | inr other ↦ other
 ]
 
--- only the variable with its number has a name
+-- Only the variable with number n has its name.
 other_name : (ids : List Identifier) (x : List ℕ) (n v : ℕ) (id : Identifier) → repeats [] ids ≡ [] → number_of ids x ≡ Some n
     → slice_get ids v ≡ Some id → v ≢ n → same_name id.name x ≡ false
 other_name ids x n v id distinct is there ne = elim (cases_Bool (same_name id.name x)) [

@@ -14,9 +14,9 @@ use Rattle.sdl_sound.specs.Chances.{Chances, no_chances, event_chances, behind, 
 use Rattle.sdl_sound.proofs.Walks.{reads_first-append, sets_in-append, reads-later}
 use Rattle.sdl_unset.proofs.WalkChances.{walk_chances, IsPart, walk-at, CountsWalks, walks-part}
 
--- ---- what may happen, some walk does
+-- ---- each chance has a walk that takes it
 
--- each DECISION of a text has a body, and `P` holds of the connector of each JOIN
+-- Each DECISION of a text has a body, and `P` holds for the connector of each JOIN.
 abbrev pub HasBody : Choice → Type 0
 HasBody nothing_else = ⊥
 HasBody (otherwise body) = ⊤
@@ -53,7 +53,7 @@ mutual
   choice-more P Q f (otherwise body) h = whole-more P Q f body h
   choice-more P Q f (answer at ranges body others) h = (whole-more P Q f body h.0, choice-more P Q f others h.1)
 
--- there is a walk
+-- There is a walk.
 abbrev pub HasWalk : (List Event → Way → Type 0) → Type 0
 HasWalk walks = (events : List Event) × (way : Way) × walks events way
 
@@ -83,7 +83,7 @@ mutual
   has_chosen join P some (answer at ranges body others) there h =
       let one = has_walk join P some body h.0 in (one.0, one.1, inl one.2)
 
--- what may happen, one of these walks does
+-- Each chance is taken by one of these walks.
 pub record AreShown (walks : List Event → Way → Type 0) (states : List Identifier) (x : List ℕ) (q : ℕ) (c : Chances) : Type 0 where
   pub reads : c.reads ≡ true → (events : List Event) × (way : Way) × walks events way × (reads_first events x ≡ true)
   pub leaves : c.leaves ≡ true → (events : List Event) × walks events onward × (sets_in events x ≡ false)
@@ -97,7 +97,7 @@ shown-by one other states x q c f h = record {
   enters = λ e. let w = h.enters e in (w.0, w.1, f w.0 (into w.1) w.2, w.3, w.4);
 }
 
--- walks, and others behind them
+-- Walks, each followed by one of the others.
 abbrev pub Then : (List Event → Way → Type 0) → (List Event → Way → Type 0) → List Event → Way → Type 0
 Then one rest events way = (chosen after : List Event) × (between : Way) × (events ≡ chosen ++ after) × one chosen between × GoesOn between rest after way
 
@@ -139,7 +139,7 @@ shown-behind one rest states x q c d first some second = record {
   ];
 }
 
--- these events alone
+-- Only these events.
 abbrev pub Only : List Event → List Event → Way → Type 0
 Only es events way = (events ≡ es) × (way ≡ onward)
 
@@ -225,15 +225,15 @@ mutual
 
 -- ---- through connections
 
--- there is a connection with the name, and its rank is below n
+-- There is a connection with this name, and its rank is below n.
 abbrev pub IsBefore : PlainProcess → (List ℕ → ℕ) → ℕ → List ℕ → Type 0
 IsBefore p rank n y = (rank y < n) × (c : PlainConnection) × (connection_named p y ≡ Some c)
 
--- each JOIN of a connection leads to one of lesser rank, and each DECISION has a body
+-- Each JOIN of a connection leads to one of lower rank, and each DECISION has a body.
 abbrev pub AreRanked : PlainProcess → (List ℕ → ℕ) → Type 0
 AreRanked p rank = (y : List ℕ) (c : PlainConnection) → connection_named p y ≡ Some c → IsWhole (IsBefore p rank (rank y)) c.text
 
--- those of a connection that fewer JOINs follow
+-- A connection of rank n or lower joins only connections of rank below n.
 inner-whole : (p : PlainProcess) (rank : List ℕ → ℕ) → AreRanked p rank → (n : ℕ) (y : List ℕ) (c : PlainConnection) → rank y < suc n
     → connection_named p y ≡ Some c → IsWhole (IsBefore p rank n) c.text
 inner-whole p rank ranked n y c lt is =
@@ -344,7 +344,7 @@ by_same p rank x q ranked (suc n) (suc m) y below under c is =
     ap (λ (o : Option PlainConnection). option_map_or (told n) o no_chances) is
     ∙ (ap last_chances inner ∙ sym (ap (λ (o : Option PlainConnection). option_map_or (told m) o no_chances) is))
 
--- what a walk does is among what may happen
+-- What a walk does is among the chances of the text.
 pub walk_tells : (p : PlainProcess) (rank : List ℕ → ℕ) (x : List ℕ) (q : ℕ) → AreRanked p rank → (t : Text) → IsWhole (IsBefore p rank (length p.connections)) t
     → (n : ℕ) (events : List Event) (way : Way) → Walks (Follows p n) t events way → IsPart (walk_chances (states_of p) x q events way) (text_chances p t x q)
 walk_tells p rank x q ranked t whole n events way w =
@@ -355,7 +355,7 @@ walk_tells p rank x q ranked t whole n events way w =
     (λ y h. by_same p rank x q ranked (m + n) m y (omega (arith, h.0)) h.0 h.1 h.2) t whole in
     subst (IsPart (walk_chances (states_of p) x q events way)) same told
 
--- and what may happen, some walk does
+-- Each chance of the text has a walk that takes it.
 pub walk_shown : (p : PlainProcess) (rank : List ℕ → ℕ) (x : List ℕ) (q : ℕ) → AreRanked p rank → (t : Text) → IsWhole (IsBefore p rank (length p.connections)) t
     → AreShown (Walks (Follows p (length p.connections)) t) (states_of p) x q (text_chances p t x q)
 walk_shown p rank x q ranked t whole =

@@ -1,4 +1,4 @@
--- Spellings of one name, and that what an action or a question reads is declared.
+-- Spellings of one name; and whatever an action or a question reads is declared.
 use Rattle.std.proofs.Common.{◌≡◌, ℕ, Bool, true, false, not, ◌&&◌, ◌||◌, List, [], ◌∷◌, ◌++◌, map, refl, sym, ap, ◌∙◌, bytes_eq, if◌then◌else◌, is_some, true≢false, inl, inr, ◌⊎◌}
 use Rattle.std.specs.List.{flat_map}
 use Rattle.std.proofs.lemmas.List.Folds.{list_any-append}
@@ -27,9 +27,9 @@ sets_in-same (reads z ∷ events) x y e = sets_in-same events x y e
 sets_in-same (sets z ∷ events) x y e =
     ap (λ f. bytes_eq f (folded z) || sets_in events x) e ∙ ap (λ r. same_name y z || r) (sets_in-same events x y e)
 
--- ---- what is read is declared
+-- ---- each variable that is read is declared
 
--- whether some event reads x
+-- Whether some event reads x.
 abbrev pub reads_some : List Event → List ℕ → Bool
 reads_some [] x = false
 reads_some (reads y ∷ events) x = same_name x y || reads_some events x
@@ -55,12 +55,12 @@ reads_some-append (reads y ∷ es) fs x h = elim (or_cases (same_name x y) (read
 ]
 reads_some-append (sets y ∷ es) fs x h = reads_some-append es fs x h
 
--- nothing is read before the text of a transition
+-- Nothing is read before the text of a transition.
 pub sets_read_nothing : (ids : List Identifier) (x : List ℕ) → reads_some (map (λ id. sets id.name) ids) x ≡ true → ⊥
 sets_read_nothing [] x h = true≢false (sym h)
 sets_read_nothing (id ∷ ids) x h = sets_read_nothing ids x h
 
--- one variable more, with an initial value or without
+-- One more variable, with an initial value or without.
 initial_more : (b : Bool) (x y : List ℕ) (rest : List Event) → (reads_some rest x ≡ true → ⊥)
     → reads_some ((if b then sets y ∷ [] else []) ++ rest) x ≡ true → ⊥
 initial_more true x y rest none h = none h
@@ -120,7 +120,7 @@ sendings_known b p (s ∷ ss) x none h = elim (reads_some-append (sending_events
   | inr there ↦ sendings_known b p ss x (append-nil_right (sending_unknown b p s) _ none) there
 ]
 
--- where an action names nothing unknown, what it reads is declared
+-- If an action names nothing unknown, each variable that it reads is declared.
 pub action_known : (b : PlainBlock) (p : PlainProcess) (a : PlainAction) (x : List ℕ) → action_unknown b p a ≡ []
     → reads_some (action_events a) x ≡ true → is_in (variable_names p) x ≡ true
 action_known b p (task at list) x none h = known_in (variable_names p) (flat_map assignment_names list) x none (assignments_read list x h)
@@ -130,7 +130,7 @@ action_known b p (set_timer at delay timer) x none h =
     (sym (reads_of_names (tree_names delay) x) ∙ h)
 action_known b p (reset_timer at timer) x none h = absurd (true≢false (sym h))
 
--- where a question names nothing unknown, what it reads is declared
+-- If a question names nothing unknown, each variable that it reads is declared.
 pub question_known : (p : PlainProcess) (t : Tree) (x : List ℕ) → unknown (variable_names p) (tree_names t) ≡ [] → reads_some (tree_events t) x ≡ true → is_in (variable_names p) x ≡ true
 question_known p t x none h = known_in (variable_names p) (tree_names t) x none (sym (reads_of_names (tree_names t) x) ∙ h)
 

@@ -1,4 +1,4 @@
--- The search finds the first path: visits stand in order, and the one by the path that is named first is kept.
+-- The search finds the first path: visits are in order, and each state keeps the visit by the path that comes first.
 use Rattle.std.proofs.Common.{◌≡◌, ℕ, ◌+◌, ◌<◌, ◌≤◌, Bool, true, false, List, [], ◌∷◌, ◌++◌, length, take, refl, ap, sym, ◌∙◌, subst, arith, inl, inr, Option, Some, None, Vec, Global, append_assoc, length-append}
 use Rattle.std.specs.Prelude.{All, slice_get, Contains, IfSome, option_and_then}
 use Rattle.std.proofs.lemmas.List.Elements.{All-contains, All-cons, All-nil, Contains-append_left, Contains-append_cases}
@@ -19,7 +19,7 @@ use Rattle.sdl_unset.proofs.Levels.{last_place, reads_within, place_before}
 use Rattle.sdl_unset.proofs.Orders.{before_trans, before_by, not_after_trans, no_longer, one_more, before_last, not_after_more, before_steps, not_after_step, comes_before}
 use Rattle.plain_laws.proofs.Places.{among_at as reached_place}
 
--- ---- one visit more
+-- ---- one more visit
 
 pub kept_push : (path : List Step) (s q : ℕ) (visits : List Visit) (v : Visit) → v.path.items ≡ path → v.state ≡ s → s < q → AreKept path s visits
     → AreKept path q (visits ++ v ∷ [])
@@ -48,7 +48,7 @@ kept_push path s q visits v by at lt h = record {
   ];
 }
 
--- the same, of what is written another way
+-- As above, for lists that are equal to these.
 pub kept_added : (path : List Step) (s q : ℕ) (visits new : List Visit) (v : Visit) → v.path.items ≡ path → v.state ≡ s → s < q → new ≡ visits ++ v ∷ []
     → AreKept path s visits → AreKept path q new
 kept_added path s q visits new v by at lt all h =
@@ -60,7 +60,7 @@ under_kept path q visits h = record {
   most = λ v here. elim (h.most v here) [ inl l ↦ inr l | inr e ↦ inl e.0 ];
 }
 
--- visits that are under a path are before one that is named after it
+-- If no path of the visits comes after a path, they all come before any later path.
 pub kept_under : (path later : List Step) (visits : List Visit) → Before path later → AreUnder path visits → AreKept later 0 visits
 kept_under path later visits less h = record {
   order = h.order;
@@ -72,11 +72,11 @@ kept_none path q = record { order = λ i j v w less at_i at_j. absurd (cc); most
 
 -- ---- the passages of a transition
 
--- the states of the first so many are below q
+-- The states of the first n passages are below q.
 abbrev pub AreBelow : List Passage → ℕ → ℕ → Type 0
 AreBelow ps n q = (j : ℕ) (p : Passage) → j < n → slice_get ps j ≡ Some p → p.state < q
 
--- where the visits were before a path, and some passages have been gone through
+-- The visits after some passages have been gone through, if the visits were before a path.
 abbrev pub IsEntered : List Passage → ℕ → List Step → List Visit → List Visit → Type 0
 IsEntered ps n path old new = AreSorted ps → AreKept path 0 old
     → AreUnder path new × ((q : ℕ) → AreBelow ps n q → AreKept path q new)
@@ -95,7 +95,7 @@ entered_more ps n p path old visits new there see h = λ sorted k.
 
 -- ---- where transitions lead
 
--- what was seen has a visit, and none is by a path that is named later
+-- The states that were seen have visits, none by a path that comes later.
 pub near_by : (x count : ℕ) (seen : List Bool) (visits : List Visit) (path : List Step) (t : Summary) → count ≤ length seen
     → AreVisited seen visits → AreUnder path visits → Covers t.passages.items x seen → LeadsBy count x visits path t
 near_by x count seen visits path t states visited under covers q passes within =
@@ -105,7 +105,7 @@ near_by x count seen visits path t states visited under covers q passes within =
     let found = visited q (here (omega (arith, states, within))) in
     record { visit = found.0; among = found.1; at = found.2; by = under.most found.0 found.1 }
 
--- what was visited still is
+-- The states that were visited still are.
 pub near_on : (x count : ℕ) (visits new : List Visit) (path : List Step) (t : Summary) → ((v : Visit) → Contains visits v → Contains new v)
     → LeadsBy count x visits path t → LeadsBy count x new path t
 near_on x count visits new path t more near q passes within =
@@ -117,7 +117,7 @@ pub more_visits : (old : List Bool) (visits : List Visit) (new : List Bool) (new
 more_visits old visits new new_visits grows v h =
     let P : List Visit → Type 0 = λ xs. Contains xs v in subst P (sym grows.all) (Contains-append_left visits grows.added v h)
 
--- one input more
+-- One more input.
 pub near_more : (x count : ℕ) (seen : List Bool) (visits new : List Visit) (path : List Step) (state : ℕ) (inputs : List Summary) (n : ℕ) (t : Summary)
     → slice_get inputs n ≡ Some t → ((v : Visit) → Contains visits v → Contains new v) → count ≤ length seen → AreVisited seen new
     → AreUnder (path ++ Input state n ∷ []) new → Covers t.passages.items x seen
@@ -131,12 +131,12 @@ near_more x count seen visits new path state inputs n t there more states visite
   | inr ne ↦ near_on x count visits new (path ++ Input state i ∷ []) u more (before i u (omega (arith, lt, ne)) at)
 ]
 
--- the next input of the same state
+-- The next input of the same state.
 pub kept_next : (path : List Step) (state n : ℕ) (visits : List Visit) → AreUnder (path ++ Input state n ∷ []) visits → AreKept (path ++ Input state (n + 1) ∷ []) 0 visits
 kept_next path state n visits h =
     kept_under (path ++ Input state n ∷ []) (path ++ Input state (n + 1) ∷ []) visits (before_last path (Input state n) (Input state (n + 1)) (inr (refl, omega arith))) h
 
--- what holds of each of the first ones
+-- What holds of each of the first n elements holds of one of them.
 pub taken_at : {A : Type 0} (P : A → Type 0) (xs : List A) (n i : ℕ) (x : A) → n ≤ length xs → All P (take n xs) → i < n → slice_get xs i ≡ Some x → P x
 taken_at P xs n i x within all lt at =
     subst P (get_or-take n xs i x lt ∙ get_or_from_slice_get xs i x x at) (all i x (omega (arith, lt, length-take-le n xs within)))
@@ -184,7 +184,7 @@ least_on g x next v inputs old visits new new_visits n l there grows state kept 
       ];
     }
 
--- the same, of what the turn says
+-- As above, stated by the contract of the turn.
 pub least_turn : (g : Graph) (x next : ℕ) (v : Visit) (inputs : Vec Summary Global) (path : List Step) (old : List Bool) (visits : List Visit) (new : List Bool) (new_visits : List Visit)
     → IsSorted g → AreLeast g x visits next → slice_get visits next ≡ Some v → path ≡ v.path.items → slice_get g.states.items v.state ≡ Some inputs
     → Grows old visits new new_visits → length old ≡ length g.states.items → AreVisited old visits
@@ -202,7 +202,7 @@ least_turn g x next v inputs path old visits new new_visits sorted l there by st
     let S : ℕ → Type 0 = λ count. AreNear count x new_visits path v.state inputs.items (length inputs.items) in
     least_on g x next v inputs old visits new new_visits n.0 l there grows state (subst Q by n.1) (subst R by (subst S states (nears all kept visited)))
 
--- a turn at a state that isn't there
+-- A turn at a state that doesn't exist.
 pub least_past : (g : Graph) (x next : ℕ) (v : Visit) (visits : List Visit) → AreLeast g x visits next → slice_get visits next ≡ Some v
     → length g.states.items ≤ v.state → AreLeast g x visits (next + 1)
 least_past g x next v visits l there past =
@@ -230,7 +230,7 @@ least_past g x next v visits l there past =
       ];
     }
 
--- as the search begins: all visits are by START
+-- At the start of the search all visits are by START.
 pub least_from : (g : Graph) (x : ℕ) (seen : List Bool) (visits : List Visit) → length seen ≡ length g.states.items → AreVisited seen visits
     → Covers g.start.passages.items x seen → AreUnder (Start ∷ []) visits → ((v : Visit) → Contains visits v → v.path.items ≡ Start ∷ []) → AreLeast g x visits 0
 least_from g x seen visits states visited covers under all = record {
@@ -254,7 +254,7 @@ all_start ps x path visits one enters v here = elim (enters v here) [
 
 -- ---- the path that is found
 
--- the inputs of the next visit, the first of which that reads x has been found
+-- The inputs of the next visit, and the first of them that reads x.
 pub record IsFound (g : Graph) (x : ℕ) (v : Visit) (number : ℕ) : Type 0 where
   pub quiet : (i : ℕ) (t : Summary) → i < number → Leads g (Some v.state) (Input v.state i) t → has t.reads x ≡ false
 
@@ -264,12 +264,12 @@ quiet_inputs g x v inputs number state first = record {
   quiet = λ i t lt leads. first i t lt (sym (ap (λ o. option_and_then (λ (l : Vec Summary Global). slice_get l.items i) o) state) ∙ leads.1);
 }
 
--- a step from a state
+-- A step that leads from a state is an input of this state.
 step_from : (g : Graph) (s : ℕ) (step : Step) (t : Summary) → Leads g (Some s) step t → (i : ℕ) × (step ≡ Input s i)
 step_from g s Start t leads = absurd leads
 step_from g s (Input q i) t leads = (i, ap (λ n. Input n i) leads.0)
 
--- where a path to a state, not named before its visit, goes on by a step that reads x, it isn't named before what was found
+-- If a path isn't before the visit of its state and goes on by a step that reads x, it isn't before the path found.
 last_step : (g : Graph) (x next : ℕ) (v : Visit) (seen : List Bool) (visits : List Visit) (number : ℕ) → AreLeast g x visits next
     → AreExpanded g x seen visits next → slice_get visits next ≡ Some v → IsFound g x v number
     → (s i : ℕ) (t : Summary) (b : List Step) (w : IsVisitedBy visits s b) → Leads g (Some s) (Input s i) t → has t.reads x ≡ true
@@ -350,7 +350,7 @@ no_later g x next v seen visits number levels l expanded there found (Start ∷ 
     follow g x next v seen visits number levels l expanded there found (step ∷ path) s (Start ∷ []) one (omega (arith, long)) reads
 no_later g x next v seen visits number levels l expanded there found (Input q i ∷ step ∷ path) long some (t, s, leads, passes, reads) = absurd leads
 
--- what is found by the first input that reads x, of the next visit, is the first path
+-- The path found by the first input of the next visit that reads x is the first path.
 pub first_by : (g : Graph) (x next : ℕ) (v : Visit) (seen : List Bool) (visits : List Visit) (number : ℕ) (path : List Step) → AreLevels g x visits next → AreLeast g x visits next
     → AreExpanded g x seen visits next → slice_get visits next ≡ Some v → IsFound g x v number → 1 ≤ length v.path.items → path ≡ v.path.items ++ Input v.state number ∷ []
     → IsShortest g x path → IsFirst g x path
@@ -362,7 +362,7 @@ first_by g x next v seen visits number path levels l expanded there found some i
       | inr ne ↦ inr (inl (omega (arith, ne, shortest other reads)))
     ]
 
--- START alone is the first path of all
+-- The path with only START is the first path of all.
 pub first_start : (g : Graph) (x : ℕ) (path : List Step) → path ≡ Start ∷ [] → IsFirst g x path
 first_start g x path is [] reads = absurd reads
 first_start g x path is (Start ∷ []) reads = inl is

@@ -1,4 +1,4 @@
--- The walkers of the connections: one at a time, in an order in which each stands behind those that it joins.
+-- The walkers of the connections, one at a time, in an order in which each comes after those that it joins.
 use Rattle.std.proofs.Common.{◌≡◌, ℕ, zero, suc, ◌+◌, ◌<◌, ◌≤◌, Bool, true, false, if◌then◌else◌, cond, List, [], ◌∷◌, map, length, Option, None, Some, get_or, set, refl, sym, ap, ◌∙◌, subst, arith, inl, inr}
 use Rattle.std.specs.Prelude.{slice_get, option_and_then, nat_lt, All}
 use Rattle.std.specs.Option.{option_map, option_map_or}
@@ -22,14 +22,14 @@ use Rattle.plain_laws.proofs.Places.{there_is}
 use Rattle.plain_laws.proofs.Searches.{position-map}
 use Rattle.sdl_sound.proofs.Numbered.{unnumbered as not_named}
 
--- what is told when the first i connections of the order have been walked
+-- The chances that are known when the first i connections of the order have been walked.
 abbrev pub told_upto : PlainProcess → List ℕ → ℕ → List ℕ → ℕ → List ℕ → Chances
 told_upto p order i x q y = if nat_lt (rank_of p order y) i then joined_chances p x q y else no_chances
 
 none_some : {A : Type 0} (o : Option A) (a : A) → o ≡ None → o ≡ Some a → ⊥
 none_some o a h k = let bad : None ≡ Some a = sym h ∙ k in cc
 
--- a name that has a number is that of a connection
+-- A name with a number is the name of a connection.
 numbers : (p : PlainProcess) (y : List ℕ) → number_of (connector_names p) y ≡ cond (nat_lt (number_at p y) (length p.connections)) (Some (number_at p y)) None
 numbers p y = position-map (λ (id : Identifier). same_name y id.name) (λ (c : PlainConnection). c.name) p.connections
 
@@ -66,7 +66,7 @@ upto_there p order i x q y h = ap (λ (b : Bool). if b then joined_chances p x q
 upto_not : (p : PlainProcess) (order : List ℕ) (i : ℕ) (x : List ℕ) (q : ℕ) (y : List ℕ) → i ≤ rank_of p order y → told_upto p order i x q y ≡ no_chances
 upto_not p order i x q y h = ap (λ (b : Bool). if b then joined_chances p x q y else no_chances) (le-ltb (rank_of p order y) i h)
 
--- the others stay as they were
+-- The others stay unchanged.
 upto_other : (p : PlainProcess) (order : List ℕ) (i : ℕ) (x : List ℕ) (q : ℕ) (y : List ℕ) → (rank_of p order y ≡ i → ⊥)
     → told_upto p order i x q y ≡ told_upto p order (i + 1) x q y
 upto_other p order i x q y other = elim (cases_lt (rank_of p order y) i) [
@@ -74,7 +74,7 @@ upto_other p order i x q y other = elim (cases_lt (rank_of p order y) i) [
   | inr ge ↦ upto_not p order i x q y ge ∙ sym (upto_not p order (i + 1) x q y (omega (arith, ge, other)))
 ]
 
--- the text of the connection at place i joins those before it, so that it tells all that may happen in it
+-- The connection at place i joins only those before it, so its chances are all that may happen in it.
 pub this_one : (p : PlainProcess) (order : List ℕ) (i : ℕ) (y : List ℕ) (c : PlainConnection) (x : List ℕ) (q : ℕ) → AreRanked p (rank_of p order)
     → connection_named p y ≡ Some c → rank_of p order y ≡ i → i < length p.connections
     → last_chances (chances (states_of p) (told_upto p order i x q) x q c.text) ≡ told_upto p order (i + 1) x q y
@@ -93,7 +93,7 @@ this_one p order i y c x q ranked named at within =
         ap last_chances (chances-same (states_of p) x q (told_upto p order i x q) (chances_by p m x q) (IsBefore p (rank_of p order) (rank_of p order y)) (agree m h) c.text (ranked y c named))
         ∙ sym (ap (λ (k : ℕ). chances_by p k x q y) h ∙ ap (λ (o : Option PlainConnection). option_map_or told o no_chances) named)
 
--- ---- one walker more
+-- ---- one more walker
 
 pub told_first : (p : PlainProcess) (order : List ℕ) (walkers : List Walker) → length walkers ≡ length p.connections → All (Stands p (λ x q. no_chances)) walkers
     → AreTold p (told_upto p order 0) walkers
@@ -105,7 +105,7 @@ told_first p order walkers count idle = (
   λ y none x q. upto_not p order 0 x q y (omega arith),
 )
 
--- where no walker is told for a name, there is no such connection
+-- If no walker is known for a name, no connection has this name.
 not_told : (p : PlainProcess) (walkers : List Walker) (y : List ℕ) → length walkers ≡ length p.connections
     → option_and_then (slice_get walkers) (number_of (connector_names p) y) ≡ None → connection_named p y ≡ None
 not_told p walkers y count none = by_number (number_of (connector_names p) y) refl none
@@ -171,7 +171,7 @@ told_all p order walkers i is past count told = (
 pub number_within : (p : PlainProcess) (order : List ℕ) (i : ℕ) → IsOrder p order → i < length order → get_or order i 0 < length p.connections
 number_within p order i is within = is.known i (get_or order i 0) (slice_get-get_or order i 0 within)
 
--- the same of the connections that the code holds
+-- As above, for the connections that the code holds.
 pub code_within : (p : PlainProcess) (order : List ℕ) (i : ℕ) (connections : List Connection) → IsOrder p order → i < length order → map connection_of connections ≡ p.connections
     → get_or order i 0 < length connections
 code_within p order i connections is within same =

@@ -1,4 +1,4 @@
--- The search goes by levels: what it finds first has the fewest steps.
+-- The search goes by levels: the path that it finds first has the fewest steps.
 use Rattle.std.proofs.Common.{◌≡◌, ℕ, suc, zero, ◌+◌, ◌<◌, ◌≤◌, Bool, true, false, List, [], ◌∷◌, ◌++◌, length, refl, ap, sym, ◌∙◌, subst, arith, inl, inr, Option, Some, None, Vec, Global}
 use Rattle.std.specs.Prelude.{slice_get, Contains, IfSome, option_and_then}
 use Rattle.std.proofs.lemmas.List.Elements.{All-contains, All-cons, All-nil, Contains-append_left, Contains-append_cases}
@@ -31,7 +31,7 @@ last_place [] (suc j) v w past at = absurd (cc)
 last_place (u ∷ visits) zero v w past at = absurd (omega (arith, past))
 last_place (u ∷ visits) (suc j) v w past at = last_place visits j v w (omega (arith, past)) at
 
--- one visit more, which is as far as any
+-- One more visit, whose path is as long as any.
 pub order_push : (n : ℕ) (visits : List Visit) (v : Visit) → length v.path.items ≡ n → StayInOrder n visits (visits ++ v ∷ [])
 order_push n visits v long h = record {
   order = λ i j u w le at_i at_j. elim (cases_lt j (length visits)) [
@@ -47,7 +47,7 @@ order_push n visits v long h = record {
   most = λ w here. most_push n visits v w long h here;
 }
 
--- the same, of what is written another way
+-- As above, for lists that are equal to these.
 pub order_added : (n : ℕ) (visits new : List Visit) (v : Visit) → length v.path.items ≡ n → new ≡ visits ++ v ∷ [] → StayInOrder n visits new
 order_added n visits new v long all h = let P : List Visit → Type 0 = λ l. AreInOrder n l in subst P (sym all) (order_push n visits v long h)
 
@@ -56,14 +56,14 @@ order_none n = record { order = λ i j v w le at_i at_j. absurd (cc); most = λ 
 
 -- ---- where transitions lead
 
--- what was visited still is
+-- The states that were visited still are.
 near_on : (g : Graph) (x : ℕ) (visits new : List Visit) (n : ℕ) (t : Summary) → ((v : Visit) → Contains visits v → Contains new v)
     → LeadsWithin g x visits n t → LeadsWithin g x new n t
 near_on g x visits new n t more near q passes within =
     let w = near q passes within in
     record { visit = w.visit; among = more w.visit w.among; at = w.at; most = w.most }
 
--- what was seen has a visit, and no visit is further
+-- The states that were seen have visits, and no visit is further from START.
 pub near_by : (g : Graph) (x : ℕ) (seen : List Bool) (visits : List Visit) (n : ℕ) (t : Summary) → length seen ≡ length g.states.items
     → AreVisited seen visits → ((v : Visit) → Contains visits v → length v.path.items ≤ n) → Covers t.passages.items x seen
     → LeadsWithin g x visits n t
@@ -74,7 +74,7 @@ near_by g x seen visits n t states visited most covers q passes within =
     let found = visited q (here (omega (arith, states, within))) in
     record { visit = found.0; among = found.1; at = found.2; most = most found.0 found.1 }
 
--- a turn of the search
+-- A turn of the search.
 pub levels_on : (g : Graph) (x next : ℕ) (v : Visit) (old : List Bool) (visits : List Visit) (new : List Bool) (new_visits : List Visit)
     → AreLevels g x visits next → slice_get visits next ≡ Some v → Grows old visits new new_visits → length new ≡ length g.states.items
     → AreVisited new new_visits → IsExpanded g x new v.state → StayInOrder (length v.path.items + 1) visits new_visits
@@ -104,7 +104,7 @@ levels_on g x next v old visits new new_visits l there grows states visited expa
       ];
     }
 
--- as the search begins
+-- At the start of the search.
 pub levels_from : (g : Graph) (x : ℕ) (seen : List Bool) (visits : List Visit) → has g.start.reads x ≡ false → length seen ≡ length g.states.items
     → AreVisited seen visits → Covers g.start.passages.items x seen → AreInOrder 1 visits → AreLevels g x visits 0
 levels_from g x seen visits quiet states visited covers ordered = record {
@@ -130,7 +130,7 @@ reads_within g x s [] reads = absurd reads
 reads_within g x s (step ∷ []) (t, leads, reads) = leads_within g s step t leads
 reads_within g x s (step ∷ next ∷ path) (t, q, leads, passes, reads) = leads_within g s step t leads
 
--- a visit that is nearer than the next one stands before it
+-- A visit that is nearer to START than the next one comes before it.
 pub place_before : (g : Graph) (x next : ℕ) (v : Visit) (visits : List Visit) (k : ℕ) (w : Visit) → AreLevels g x visits next → slice_get visits next ≡ Some v
     → slice_get visits k ≡ Some w → length w.path.items < length v.path.items → k < next
 place_before g x next v visits k w l there at nearer = elim (cases_lt k next) [
@@ -138,7 +138,7 @@ place_before g x next v visits k w l there at nearer = elim (cases_lt k next) [
   | inr le ↦ absurd (omega (arith, nearer, (l.order v there).order next k v w le there at))
 ]
 
--- from a state that is visited near enough nothing is found before the next visit
+-- From a state with a nearer visit, no path reads x before the next visit is expanded.
 none_nearer : (g : Graph) (x next : ℕ) (v : Visit) (seen : List Bool) (visits : List Visit) → AreLevels g x visits next
     → AreExpanded g x seen visits next → slice_get visits next ≡ Some v → (path : List Step) (s n : ℕ) → IsVisitedWithin visits s n
     → n + length path ≤ length v.path.items → ReadsFrom g x (Some s) path → ⊥
@@ -174,7 +174,7 @@ none_before g x next v seen visits l expanded there (Start ∷ step ∷ path) le
     none_nearer g x next v seen visits l expanded there (step ∷ path) s 1 one (omega (arith, le)) reads
 none_before g x next v seen visits l expanded there (Input q i ∷ step ∷ path) le (t, s, leads, passes, reads) = absurd leads
 
--- what is found by a step from the next visit has the fewest steps
+-- The path found by a step from the next visit has the fewest steps.
 pub shortest_by : (g : Graph) (x next : ℕ) (v : Visit) (seen : List Bool) (visits : List Visit) → AreLevels g x visits next
     → AreExpanded g x seen visits next → slice_get visits next ≡ Some v → (path : List Step) → length path ≡ length v.path.items + 1
     → IsShortest g x path
@@ -183,7 +183,7 @@ shortest_by g x next v seen visits l expanded there path long other reads = elim
   | inr ge ↦ ge
 ]
 
--- a path has a step
+-- A path has at least one step.
 pub shortest_start : (g : Graph) (x : ℕ) (path : List Step) → length path ≡ 1 → IsShortest g x path
 shortest_start g x path one [] reads = absurd reads
 shortest_start g x path one (step ∷ other) reads = omega (arith, one)

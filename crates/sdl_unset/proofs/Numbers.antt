@@ -33,7 +33,7 @@ use Rattle.plain_laws.proofs.Lists.{append-nil_left, append-nil_right}
 use Rattle.plain_laws.proofs.Places.{among_at, at_among}
 use Rattle.sdl_unset.proofs.DeclaredReads.{reads_first-same, sets_in-same, reads_some, reads_some-first, reads_some-append, sets_read_nothing, initial_reads_nothing, action_known, question_known, no_event}
 
--- where an action, a question or a connection reads nothing but what is declared, a walk doesn't
+-- If an action, a question or a connection reads only declared variables, so does a walk.
 abbrev Declares : PlainProcess → List ℕ → (List Event → Way → Type 0) → Type 0
 Declares p x walks = (events : List Event) (way : Way) → walks events way → reads_some events x ≡ true → is_in (variable_names p) x ≡ true
 
@@ -76,7 +76,7 @@ mutual
         | inr other ↦ chosen_known b p x join told t others (each_back f (statements_of body) (choice_statements t others) known.1) events way other h
       ]
 
--- no text of a process names what is unknown
+-- No text of a process names anything unknown.
 abbrev AreKnown : PlainBlock → PlainProcess → Type 0
 AreKnown b p = (t : Text) → IsTextOf p t → HasNone (statement_unknown b p) t
 
@@ -92,7 +92,7 @@ follows_known b p x known zero y events way w h = absurd w
 follows_known b p x known (suc n) y events way (c, is, inner, w, last) h =
     walks_known b p x (Follows p n) (follows_known b p x known n) c.text (known c.text (inr (inr (c, connection_there p y c is, refl)))) events inner w h
 
--- and so is what a walk of a text reads
+-- Each variable that a walk of a text reads is declared.
 walk_known : (b : PlainBlock) (p : PlainProcess) (t : Text) (events : List Event) (end : Option (List ℕ)) (x : List ℕ) → AreKnown b p → IsTextOf p t
     → IsWalk p t events end → reads_some events x ≡ true → is_in (variable_names p) x ≡ true
 walk_known b p t events end x known text (n, way, w, e) h = walks_known b p x (Follows p n) (follows_known b p x known n) t (known t text) events way w h
@@ -118,7 +118,7 @@ none_at f (y ∷ xs) (suc i) x none e = none_at f xs i x (append-nil_right (f y)
 abbrev IsDeclared : PlainProcess → List ℕ → Type 0
 IsDeclared p x = is_in (variable_names p) x ≡ true
 
--- a step by name is one by number
+-- A step by names is one by numbers.
 abbrev pub IsTaken : PlainProcess → List ℕ → Input → Type 0
 IsTaken p s inp =
     (q : ℕ) × (id : Identifier) × (i : ℕ) × (number_of (states_of p) s ≡ Some q) × (slice_get (states_of p) q ≡ Some id)
@@ -161,7 +161,7 @@ input_declared b p s inp t events end x known among is walk first =
       | inr there ↦ walk_known b p inp.text events end x known (inr (inl (here.0, inp, among_at (inputs_of p here.0) here.2 inp here.5, refl))) text there
     ]
 
--- what is read at the end of a path is declared
+-- The variable that is read at the end of a path is declared.
 read_declared : (b : PlainBlock) (p : PlainProcess) → AreKnown b p → (steps : List Step) (place : Place) (x : List ℕ)
     → ReadsFrom p place steps x → IsDeclared p x
 read_declared b p known [] place x r = absurd r
@@ -174,13 +174,13 @@ read_declared b p known (step ∷ next ∷ steps) place x (t, leads, events, s, 
 
 -- ---- the path by numbers
 
--- one step in front
+-- One more step at the front.
 longer : (g : Graph) (v : ℕ) (place : graph.Place) (step : number.Step) (t : Summary) (r : ℕ) → graph.Leads g place step t → Passes t v r
     → (path : List number.Step) → graph.ReadsFrom g v (Some r) path → graph.ReadsFrom g v place (step ∷ path)
 longer g v place step t r leads passes [] rest = absurd rest
 longer g v place step t r leads passes (next ∷ path) rest = (t, r, leads, passes, rest)
 
--- where the next step leads from is a state
+-- The next step leads from a state that exists.
 state_there : (p : PlainProcess) (s : List ℕ) (steps : List Step) (x : List ℕ) → ReadsFrom p (Some s) steps x → (q : ℕ) × (number_of (states_of p) s ≡ Some q)
 state_there p s [] x r = absurd r
 state_there p s (Start ∷ []) x r = absurd r.1
@@ -188,7 +188,7 @@ state_there p s (Start ∷ next ∷ steps) x r = absurd r.1
 state_there p s (Takes state signal ∷ []) x r = let here = taken p s r.1.1 r.1.2 in (here.0, here.3)
 state_there p s (Takes state signal ∷ next ∷ steps) x r = let here = taken p s r.1.1 r.1.2 in (here.0, here.3)
 
--- a walk that reads x unset
+-- A walk that reads x unset.
 read_by : (p : PlainProcess) (u t : Transition) (sum : Summary) (v : ℕ) (id : Identifier) (x : List ℕ) (events : List Event) (end : Option (List ℕ))
     → IsSummaryOf p u sum → slice_get (variable_names p) v ≡ Some id → folded x ≡ folded id.name → t ≡ u → IsWalk p t.text events end
     → reads_first (t.first ++ events) x ≡ true → has sum.reads v ≡ true
@@ -202,7 +202,7 @@ read_by p u t sum v id x events end is var same e walk first =
           ∙ ap (λ (w : Transition). reads_first (w.first ++ events) x) (sym e) ∙ first;
     })
 
--- a walk that leaves x unset
+-- A walk that leaves x unset.
 passes_by : (p : PlainProcess) (u t : Transition) (sum : Summary) (v : ℕ) (id : Identifier) (x : List ℕ) (events : List Event) (s : List ℕ) (q : ℕ)
     → IsSummaryOf p u sum → slice_get (variable_names p) v ≡ Some id → folded x ≡ folded id.name → t ≡ u → IsWalk p t.text events (Some s)
     → number_of (states_of p) s ≡ Some q → sets_in (t.first ++ events) x ≡ false → Passes sum v q
@@ -217,7 +217,7 @@ passes_by p u t sum v id x events s q is var same e walk state unset =
           ∙ ap (λ (w : Transition). sets_in (w.first ++ events) x) (sym e) ∙ unset;
     })
 
--- where a step by names stands
+-- The place of a step by names.
 stands : (p : PlainProcess) (s name signal : List ℕ) (q i : ℕ) (id : Identifier) (inp : Input) → number_of (states_of p) s ≡ Some q → slice_get (states_of p) q ≡ Some id
     → slice_get (inputs_of p q) i ≡ Some inp → same_name s name ≡ true → same_name signal inp.stimulus.name.name ≡ true → StandsAt p (Takes name signal) q i
 stands p s name signal q i id inp number there input spelled heard =
@@ -251,7 +251,7 @@ numbers_from p g v id x is var same (Takes name signal ∷ next ∷ steps) s q s
       (stands p s name signal here.0 here.2 here.1 inp here.3 here.4 here.5 spelled heard, path.3),
     )
 
--- a path by names that reads a declared variable unset is one by numbers, as long
+-- A path by names that reads a declared variable unset is a path by numbers of the same length.
 numbers_of : (p : PlainProcess) (g : Graph) (v : ℕ) (id : Identifier) (x : List ℕ) → IsGraphOf p g → slice_get (variable_names p) v ≡ Some id
     → folded x ≡ folded id.name → (steps : List Step) → ReadsUnset p steps x
     → (path : List number.Step) × graph.ReadsUnset g v path × (length path ≡ length steps) × AllZip (IsAt p) path steps
@@ -267,7 +267,7 @@ numbers_of p g v id x is var same (Start ∷ next ∷ steps) (t, leads, events, 
     let path = numbers_from p g v id x is var same (next ∷ steps) s2 after.0 after.1 rest in
     (First ∷ path.0, longer g v None First g.start after.0 refl passes path.0 path.1, ap suc path.2, (refl, path.3))
 
--- a path by names that reads some variable unset is one by numbers of a declared one
+-- A path by names that reads some variable unset is a path by numbers for a declared variable.
 pub numbered_path : (b : PlainBlock) (p : PlainProcess) (g : Graph) → process_unknown b p ≡ [] → IsGraphOf p g → (steps : List Step) (x : List ℕ)
     → ReadsUnset p steps x
     → (v : ℕ) × (id : Identifier) × (slice_get (variable_names p) v ≡ Some id) × (path : List number.Step) × graph.ReadsUnset g v path
@@ -277,7 +277,7 @@ numbered_path b p g known is steps x r =
     let path = numbers_of p g named.0 named.1 x is named.2 named.3 steps r in
     (named.0, named.1, named.2, path.0, path.1, path.2, path.3)
 
--- where no path by numbers reads a variable unset, none by names does
+-- If no path by numbers reads a variable unset, no path by names does.
 pub never_reads : (b : PlainBlock) (p : PlainProcess) (g : Graph) → process_unknown b p ≡ [] → IsGraphOf p g
     → ((v : ℕ) (id : Identifier) → slice_get (variable_names p) v ≡ Some id → (path : List number.Step) → graph.ReadsUnset g v path → ⊥)
     → NeverReadsUnset p

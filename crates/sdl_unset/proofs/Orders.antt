@@ -58,7 +58,7 @@ no_longer a b h = elim h [
   | inr l ↦ elim l [ inl lt ↦ omega (arith, lt) | inr e ↦ omega (arith, e.0) ]
 ]
 
--- ---- one step more
+-- ---- one more step
 
 pub one_more : (a : List Step) (x : Step) → length (a ++ x ∷ []) ≡ length a + 1
 one_more a x = length-append a (x ∷ [])
@@ -90,20 +90,20 @@ not_after_more a b x h = elim h [
   | inr l ↦ inr (before_more a b x x l)
 ]
 
--- what goes on from the one goes on before what goes on from the other
+-- If a visit comes before another one, so do the paths that go on from it.
 pub before_steps : (a : List Step) (s : ℕ) (b : List Step) (q i j : ℕ) → ComesBefore a s b q → Before (a ++ Input s i ∷ []) (b ++ Input q j ∷ [])
 before_steps a s b q i j h = elim h [
   | inl l ↦ before_more a b (Input s i) (Input q j) l
   | inr e ↦ subst (λ (u : List Step). Before (a ++ Input s i ∷ []) (u ++ Input q j ∷ [])) e.0 (before_last a (Input s i) (Input q j) (inl e.1))
 ]
 
--- and no step of a state comes before a lesser one
+-- A later step from the same state doesn't come before an earlier one.
 pub not_after_step : (a b : List Step) (s i j : ℕ) → NotAfter a b → i < j → NotAfter (a ++ Input s i ∷ []) (b ++ Input s j ∷ [])
 not_after_step a b s i j h lt =
     not_after_trans (a ++ Input s i ∷ []) (b ++ Input s i ∷ []) (b ++ Input s j ∷ []) (not_after_more a b (Input s i) h)
     (inr (before_last b (Input s i) (Input s j) (inr (refl, lt))))
 
--- a state by a path that comes before one by a path that is not named after this one
+-- A visit before one by path c is also before one by path b, if c isn't after b.
 pub comes_before : (a : List Step) (s : ℕ) (c b : List Step) (q : ℕ) → ComesBefore a s c q → NotAfter c b → ComesBefore a s b q
 comes_before a s c b q h k = elim h [
   | inl l ↦ inl (by_before a c b l k)
@@ -112,7 +112,7 @@ comes_before a s c b q h k = elim h [
 
 -- ---- finding which of two paths comes first
 
--- two steps that are not in order, either way, are one
+-- Two steps of which neither precedes the other are equal.
 pub one_step : (a b : Step) → (Precedes a b → ⊥) → (Precedes b a → ⊥) → a ≡ b
 one_step Start Start h k = refl
 one_step Start (Input q j) h k = absurd (h tt)
@@ -137,7 +137,7 @@ some_step a b h = cc
 tails : (x y : Step) (xs ys : List Step) → x ∷ xs ≡ y ∷ ys → (x ≡ y) × (xs ≡ ys)
 tails x y xs ys h = (cc, cc)
 
--- where two paths are the same up to a place, and their steps there are in order
+-- Two paths are equal up to a place, and their steps there are in order.
 pub earlier_at : (path other : List Step) (n : ℕ) (a b : Step) → take n path ≡ take n other → slice_get path n ≡ Some a → slice_get other n ≡ Some b
     → Precedes a b → Earlier path other
 earlier_at [] other n a b same at there h = let bad : None ≡ Some a = at in absurd (let k : ⊥ = cc in k)

@@ -24,7 +24,7 @@ use Rattle.plain_laws.proofs.Options.{some_of}
 use Rattle.plain_laws.proofs.Pairwise.{zip_beside as all_zip_left}
 use Rattle.plain_laws.proofs.Places.{among_at}
 
--- ---- lists side by side
+-- ---- lists paired by place
 
 pub all_zip_right : {A B : Type 0} (R : A → B → Type 0) (xs : List A) (ys : List B) (i : ℕ) (y : B) → AllZip R xs ys
     → slice_get ys i ≡ Some y → (x : A) × (slice_get xs i ≡ Some x) × R x y
@@ -54,7 +54,7 @@ enumerated_back f (y ∷ xs) k (suc q) is e =
     let rest = enumerated_back f xs (k + 1) q is e in
     (omega (arith, rest.0), rest.1 ∙ ap f same)
 
--- the inputs of a state that there is
+-- The inputs of a state that exists.
 pub inputs_at : (p : PlainProcess) (q : ℕ) (id : Identifier) → slice_get (states_of p) q ≡ Some id
     → slice_get (inputs_by_state p) q ≡ Some (inputs_of p q)
 inputs_at p q id e = let same : 0 + q ≡ q = omega arith in enumerated (inputs_of p) (states_of p) 0 q id e ∙ ap (λ n. Some (inputs_of p n)) same
@@ -71,7 +71,7 @@ inputs_back p q is e =
 abbrev pub AreSummaries : PlainProcess → List Input → Vec Summary → Type 0
 AreSummaries p is v = AllZip (λ i s. IsSummaryOf p (input_transition i) s) is v.items
 
--- an input of the graph is one of the process
+-- An input of the graph is one of the process.
 pub input_of_graph : (p : PlainProcess) (g : Graph) (q i : ℕ) (t : Summary) → IsGraphOf p g → input_at g q i ≡ Some t
     → (inp : Input) × (slice_get (inputs_of p q) i ≡ Some inp) × (q < length (states_of p)) × IsSummaryOf p (input_transition inp) t
 input_of_graph p g q i t is e =
@@ -81,7 +81,7 @@ input_of_graph p g q i t is e =
     let input = all_zip_right (λ inp s. IsSummaryOf p (input_transition inp) s) state.0 row.0.items i t state.2 row.2 in
     (input.0, ap (λ l. slice_get l i) (sym back.1) ∙ input.1, back.0, input.2)
 
--- and an input of the process is one of the graph
+-- An input of the process is one of the graph.
 pub input_in_graph : (p : PlainProcess) (g : Graph) (q i : ℕ) (id : Identifier) (inp : Input) → IsGraphOf p g
     → slice_get (states_of p) q ≡ Some id → slice_get (inputs_of p q) i ≡ Some inp
     → (t : Summary) × (input_at g q i ≡ Some t) × IsSummaryOf p (input_transition inp) t
@@ -90,13 +90,13 @@ input_in_graph p g q i id inp is state there =
     let input = all_zip_left (λ j s. IsSummaryOf p (input_transition j) s) (inputs_of p q) row.0.items i inp row.2 there in
     (input.0, ap (option_and_then (λ (v : Vec Summary). slice_get v.items i)) row.1 ∙ input.1, input.2)
 
--- its passages are in order
+-- The passages of a graph are in order.
 pub graph_sorted : (p : PlainProcess) (g : Graph) → IsGraphOf p g → IsSorted g
 graph_sorted p g is = record { start = is.start.sorted; states = λ s i t at. (input_of_graph p g s i t is at).3.sorted }
 
 -- ---- a path by numbers, with its names
 
--- the step that a state takes on an input
+-- The step that a state takes on an input.
 leads_named : (p : PlainProcess) (s : List ℕ) (q i : ℕ) (n : Step) → number_of (states_of p) s ≡ Some q
     → IsNamed p (By q i) n → (inp : Input) → slice_get (inputs_of p q) i ≡ Some inp → Leads p (Some s) n (input_transition inp)
 leads_named p s q i n state (id, here, j, there, signal, same, is) inp inp_is =
@@ -136,7 +136,7 @@ names_from p g v id is var (By k i ∷ next ∷ path) (n ∷ n2 ∷ steps) q s s
       names_from p g v id is var (next ∷ path) (n2 ∷ steps) r left.state left.number rest named.1,
     )
 
--- a path by numbers that reads a variable unset is one by names
+-- A path by numbers that reads a variable unset is one by names.
 pub named_reads : (p : PlainProcess) (g : Graph) (v : ℕ) (id : Identifier) → IsGraphOf p g → slice_get (variable_names p) v ≡ Some id
     → (path : List number.Step) (steps : List Step) → graph.ReadsUnset g v path → AllZip (IsNamed p) path steps → ReadsUnset p steps id.name
 named_reads p g v id is var [] steps reads named = absurd reads
@@ -163,7 +163,7 @@ named_reads p g v id is var (First ∷ next ∷ path) (n ∷ n2 ∷ steps) (t, r
       names_from p g v id is var (next ∷ path) (n2 ∷ steps) r left.state left.number rest named.1,
     )
 
--- ---- each step of such a path is there
+-- ---- the process has each step of such a path
 
 step_there : (p : PlainProcess) (g : Graph) (q s i : ℕ) (t : Summary) → IsGraphOf p g → graph.Leads g (Some s) (By q i) t → IsStep p (By q i)
 step_there p g q s i t is leads =

@@ -1,4 +1,4 @@
--- What a search finds is there, and what it doesn't find isn't.
+-- The path that a search finds exists, and if it finds none there is none.
 use Rattle.std.proofs.Common.{◌≡◌, ℕ, suc, zero, ◌+◌, ◌<◌, ◌≤◌, Bool, true, false, List, [], ◌∷◌, ◌++◌, length, refl, ap, sym, ◌∙◌, subst, arith, inl, inr, Option, Some, None, Vec, Global, take, get_or, length-append}
 use Rattle.std.specs.Prelude.{slice_get, Contains, IfSome, IfNone, is_some, replicate, option_and_then}
 use Rattle.std.proofs.lemmas.List.Elements.{All-contains, All-more}
@@ -16,7 +16,7 @@ use Rattle.sdl_unset.specs.Graph.{has, Place, Leads, Passes, ReadsFrom, ReadsUns
 use Rattle.sdl_unset.specs.Visits.{unseen, AreSafe, Grows, Enters, IsBy, IsByInput, ReadsBy, AreReached, AreVisited, AreExpanded}
 use Rattle.plain_laws.proofs.Places.{among_at as reached_place, all_at}
 
--- one step more, which reads x
+-- One more step, which reads x.
 pub reads_after : (g : Graph) (x : ℕ) (place : Place) (path : List Step) (s : ℕ) (step : Step) (t : Summary)
     → Reached g x place path s → Leads g (Some s) step t → has t.reads x ≡ true → ReadsFrom g x place (path ++ step ∷ [])
 reads_after g x place [] s step t here leads reads =
@@ -26,7 +26,7 @@ reads_after g x place (one ∷ []) s step t (u, q, first, passes, rest) leads re
 reads_after g x place (one ∷ two ∷ path) s step t (u, q, first, passes, rest) leads reads =
     (u, q, first, passes, reads_after g x (Some q) (two ∷ path) s step t rest leads reads)
 
--- one step more, which leaves x unset
+-- One more step, which leaves x unset.
 pub reached_after : (g : Graph) (x : ℕ) (place : Place) (path : List Step) (s : ℕ) (step : Step) (t : Summary) (r : ℕ)
     → Reached g x place path s → Leads g (Some s) step t → Passes t x r → Reached g x place (path ++ step ∷ []) r
 reached_after g x place [] s step t r here leads passes =
@@ -34,7 +34,7 @@ reached_after g x place [] s step t r here leads passes =
 reached_after g x place (one ∷ path) s step t r (u, q, first, passed, rest) leads passes =
     (u, q, first, passed, reached_after g x (Some q) path s step t r rest leads passes)
 
--- there is nothing to find from a state that was seen, once all is expanded
+-- From a state that was seen no path reads x unset, once all states that were seen are expanded.
 pub none_from_seen : (g : Graph) (x : ℕ) (seen : List Bool) → IsClosed g x seen → (path : List Step) (s : ℕ)
     → IsSeen seen s → ReadsFrom g x (Some s) path → ⊥
 none_from_seen g x seen closed [] s here reads = reads
@@ -47,11 +47,11 @@ none_from_seen g x seen closed (step ∷ next ∷ path) s here (t, q, leads, pas
 
 -- ---- the inputs of a state
 
--- what is safe is so once more was seen
+-- A safe transition stays safe when more states are seen.
 pub safe_on : (t : Summary) (x : ℕ) (old new : List Bool) → ((s : ℕ) → IsSeen old s → IsSeen new s) → IsSafe t x old → IsSafe t x new
 safe_on t x old new stays safe = record { reads = safe.reads; covers = covers_on t.passages.items x old new stays safe.covers }
 
--- one input more
+-- One more input.
 pub safe_more : (inputs : List Summary) (i x : ℕ) (t : Summary) (old new : List Bool) → i < length inputs → t ≡ get_or inputs i t
     → ((s : ℕ) → IsSeen old s → IsSeen new s) → AreSafe (take i inputs) x old → has t.reads x ≡ false
     → Covers t.passages.items x new → AreSafe (take (i + 1) inputs) x new
@@ -63,7 +63,7 @@ safe_more inputs i x t old new within is stays before quiet covers =
 pub safe_all : (inputs : List Summary) (i x : ℕ) (seen : List Bool) → length inputs ≤ i → AreSafe (take i inputs) x seen → AreSafe inputs x seen
 safe_all inputs i x seen past h = let P : List Summary → Type 0 = λ l. AreSafe l x seen in subst P (take_all i inputs past) h
 
--- a visit by the passages of an input, whose path has that input as its last step
+-- A visit by the passages of an input, whose path has that input as its last step.
 pub by_input : (inputs : List Summary) (i x state : ℕ) (t : Summary) (path longer : List Step) (passages : List Passage) → slice_get inputs i ≡ Some t
     → passages ≡ t.passages.items → longer ≡ path ++ Input state i ∷ [] → (v : Visit) → IsBy passages x longer v → IsByInput inputs x state path v
 by_input inputs i x state t path longer passages there ps all v by = record {
@@ -82,7 +82,7 @@ pub some_weaker : {A : Type 0} (P Q : A → Type 0) (o : Option A) → ((a : A) 
 some_weaker P Q None weaker h = h
 some_weaker P Q (Some a) weaker h = weaker a h
 
--- the input of a state that is there
+-- The input of a state that exists.
 pub leads_by : (g : Graph) (s i : ℕ) (inputs : Vec Summary Global) (t : Summary) → slice_get g.states.items s ≡ Some inputs
     → slice_get inputs.items i ≡ Some t → Leads g (Some s) (Input s i) t
 leads_by g s i inputs t state there = (refl, ap (λ o. option_and_then (λ (l : Vec Summary Global). slice_get l.items i) o) state ∙ there)
@@ -103,7 +103,7 @@ reached_by g x s path inputs old new reached state before enters v here = elim (
       subst P (sym b.by.visit.by) (reached_after g x None path s (Input s b.number) b.summary v.state reached (leads_by g s b.number inputs b.summary state b.there) passes)
 ]
 
--- a state whose inputs are safe is expanded
+-- A state whose inputs are safe is expanded.
 pub expanded_by : (g : Graph) (x s : ℕ) (inputs : Vec Summary Global) (seen : List Bool) → slice_get g.states.items s ≡ Some inputs
     → AreSafe inputs.items x seen → IsExpanded g x seen s
 expanded_by g x s inputs seen state safe Start t leads = absurd leads
@@ -111,7 +111,7 @@ expanded_by g x s inputs seen state safe (Input q i) t leads =
     let there : slice_get inputs.items i ≡ Some t = sym (ap (λ o. option_and_then (λ (l : Vec Summary Global). slice_get l.items i) o) state) ∙ leads.1 in
     all_at (λ u. IsSafe u x seen) inputs.items i t safe there
 
--- a state that isn't there has no input
+-- A state that doesn't exist has no input.
 pub expanded_past : (g : Graph) (x s : ℕ) (seen : List Bool) → length g.states.items ≤ s → IsExpanded g x seen s
 expanded_past g x s seen past Start t leads = absurd leads
 expanded_past g x s seen past (Input q i) t leads =
@@ -121,13 +121,13 @@ expanded_past g x s seen past (Input q i) t leads =
 pub expanded_on : (g : Graph) (x s : ℕ) (old new : List Bool) → ((q : ℕ) → IsSeen old q → IsSeen new q) → IsExpanded g x old s → IsExpanded g x new s
 expanded_on g x s old new stays before step t leads = safe_on t x old new stays (before step t leads)
 
--- the first of two lists keeps its places
+-- Elements of the first of two lists keep their places.
 pub slice_get_front : {A : Type 0} (xs ys : List A) (k : ℕ) → k < length xs → slice_get (xs ++ ys) k ≡ slice_get xs k
 slice_get_front [] ys k h = absurd (omega arith)
 slice_get_front (x ∷ xs) ys zero h = refl
 slice_get_front (x ∷ xs) ys (suc k) h = slice_get_front xs ys k (omega (arith, h))
 
--- what was expanded still is, and one visit more
+-- The expanded visits stay expanded, and one more is.
 pub expanded_more : (g : Graph) (x next : ℕ) (v : Visit) (old : List Bool) (visits : List Visit) (new : List Bool) (new_visits : List Visit)
     → Grows old visits new new_visits → slice_get visits next ≡ Some v → IsExpanded g x new v.state
     → AreExpanded g x old visits next → AreExpanded g x new new_visits (next + 1)
@@ -144,7 +144,7 @@ expanded_more g x next v old visits new new_visits grows there expanded before k
       | inr ne ↦ expanded_on g x w.state old new grows.stays (before k w (omega (arith, lt, ne)) was)
     ]
 
--- once all visits are expanded, so is each state that was seen
+-- Once all visits are expanded, so is each state that was seen.
 pub closed_by : (g : Graph) (x next : ℕ) (seen : List Bool) (visits : List Visit) → length seen ≡ length g.states.items
     → length visits ≤ next → AreVisited seen visits → AreExpanded g x seen visits next → IsClosed g x seen
 closed_by g x next seen visits states past visited expanded s here = elim (cases_lt s (length seen)) [
@@ -158,14 +158,14 @@ closed_by g x next seen visits states past visited expanded s here = elim (cases
   | inr ge ↦ expanded_past g x s seen (omega (arith, ge, states))
 ]
 
--- a state that was seen has a visit, and so a path to it
+-- A state that was seen has a visit, and so a path to it.
 pub entered_by : (g : Graph) (x : ℕ) (seen : List Bool) (visits : List Visit) → AreReached g x visits → AreVisited seen visits → AreEntered g x seen
 entered_by g x seen visits reached visited s here =
     let found = visited s here in
     let P : ℕ → Type 0 = λ q. Reached g x None found.0.path.items q in
     (found.0.path.items, subst P found.2 (reached found.0 found.1))
 
--- what holds between two turns of the search
+-- The invariant between two turns of the search.
 pub record Progress (g : Graph) (x : ℕ) (seen : List Bool) (visits : List Visit) (next : ℕ) : Type 0 where
   pub states : length seen ≡ length g.states.items
   pub reached : AreReached g x visits
@@ -174,7 +174,7 @@ pub record Progress (g : Graph) (x : ℕ) (seen : List Bool) (visits : List Visi
   pub expanded : AreExpanded g x seen visits next
   pub within : next ≤ length visits
 
--- a turn that went through the inputs of a state
+-- A turn that went through the inputs of a state.
 pub progress_on : (g : Graph) (x next : ℕ) (v : Visit) (inputs : Vec Summary Global) (path : List Step) (old : List Bool) (visits : List Visit)
     (new : List Bool) (new_visits : List Visit) → Progress g x old visits next → slice_get visits next ≡ Some v → path ≡ v.path.items
     → slice_get g.states.items v.state ≡ Some inputs → Grows old visits new new_visits
@@ -193,7 +193,7 @@ progress_on g x next v inputs path old visits new new_visits p there by state gr
       within = omega (arith, within, longer);
     }
 
--- a turn at a state that isn't there
+-- A turn at a state that doesn't exist.
 pub progress_past : (g : Graph) (x next : ℕ) (v : Visit) (seen : List Bool) (visits : List Visit) → Progress g x seen visits next
     → slice_get visits next ≡ Some v → length g.states.items ≤ v.state → Progress g x seen visits (next + 1)
 progress_past g x next v seen visits p there past =
@@ -211,9 +211,9 @@ pub when_none : {A : Type 0} (o : Option A) (P : Type 0) → is_some o ≡ false
 when_none None P e h = h
 when_none (Some a) P e h = let bad : true ≡ false = e in absurd (cc)
 
--- ---- the whole
+-- ---- the whole search
 
--- what START's transition leads to is reached
+-- The states to which the transition of START leads are reached.
 pub reached_from_start : (g : Graph) (x : ℕ) (passages : List Passage) (path : List Step) (new : List Visit) → passages ≡ g.start.passages.items
     → path ≡ Start ∷ [] → Enters (IsBy passages x path) [] new → AreReached g x new
 reached_from_start g x passages path new ps all enters v here = elim (enters v here) [
@@ -224,7 +224,7 @@ reached_from_start g x passages path new ps all enters v here = elim (enters v h
       subst Q (sym (by.visit.by ∙ all)) (g.start, v.state, refl, record { passage = by.passage; among = among; keeps = by.keeps; ends = sym by.visit.at }, refl)
 ]
 
--- nothing was seen, and nothing has to have a visit
+-- If no state was seen, none needs a visit.
 pub visited_none : (n : ℕ) → AreVisited (replicate n false) []
 visited_none n s h = absurd (not_seen n s h)
   where
@@ -238,7 +238,7 @@ unfolding unseen
 unseen_all zero = refl
 unseen_all (suc n) = ap suc (unseen_all n)
 
--- no path reads x unset, where START's transition doesn't, and all that can be reached is safe
+-- No path reads x unset, if the transition of START doesn't and all states that can be reached are safe.
 pub none_at_all : (g : Graph) (x : ℕ) (seen : List Bool) → has g.start.reads x ≡ false → Covers g.start.passages.items x seen → IsClosed g x seen
     → (path : List Step) → ReadsUnset g x path → ⊥
 none_at_all g x seen quiet covers closed [] reads = reads
@@ -252,7 +252,7 @@ none_at_all g x seen quiet covers closed (Start ∷ next ∷ path) (t, s, leads,
     none_from_seen g x seen closed (next ∷ path) s (subst P passes.ends covered) reads
 none_at_all g x seen quiet covers closed (Input q i ∷ next ∷ path) (t, s, leads, passes, reads) = absurd leads
 
--- where START's transition is safe, and all that can be reached, the states are a closed set
+-- The states are a closed set, if the transition of START and all states that can be reached are safe.
 pub closed_set : (g : Graph) (x : ℕ) (seen after : List Bool) → length after ≡ length g.states.items → has g.start.reads x ≡ false
     → Covers g.start.passages.items x seen → ((s : ℕ) → IsSeen seen s → IsSeen after s) → IsClosed g x after → IsClosedSet g x after
 closed_set g x seen after count quiet covers stays closed = record {
@@ -261,6 +261,6 @@ closed_set g x seen after count quiet covers stays closed = record {
   states = closed;
 }
 
--- no path reads x unset, where there is a closed set of states
+-- No path reads x unset, if there is a closed set of states.
 pub none_with : (g : Graph) (x : ℕ) (marks : List Bool) → IsClosedSet g x marks → (path : List Step) → ReadsUnset g x path → ⊥
 none_with g x marks set = none_at_all g x marks set.start.reads set.start.covers set.states

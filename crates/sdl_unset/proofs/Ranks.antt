@@ -1,4 +1,4 @@
--- The texts of a sound process: each DECISION has a body, and each JOIN leads to a connection, for which an order gives a rank.
+-- The texts of a sound process: each DECISION has a body, and an order ranks the connection to which each JOIN leads.
 use Rattle.std.proofs.Common.{◌≡◌, ℕ, zero, suc, ◌<◌, ◌≤◌, Bool, true, false, ◌||◌, if◌then◌else◌, cond, List, [], ◌∷◌, ◌++◌, length, map, None, Some, find, position, refl, sym, ap, ◌∙◌, subst, arith, inl, inr}
 use Rattle.std.specs.Prelude.{⊤, slice_get, Contains, nat_eq, nat_lt}
 use Rattle.std.specs.List.{list_any, flat_map, position_or_len}
@@ -56,9 +56,9 @@ mutual
     choice-by P q others (each_back (StandsWell P) (statements_of body) (choice_statements q others) h.1),
   )
 
--- ---- what the rules say of a statement
+-- ---- what the rules require of a statement
 
--- its connectors are known, and if it is a DECISION, it has a body
+-- The connectors of a statement are known, and if it is a DECISION, it has a body.
 abbrev pub IsFine : PlainProcess → Statement → Type 0
 IsFine p (acts a) = ⊤
 IsFine p (asks at q c) = HasBody c
@@ -80,7 +80,7 @@ has_body vs at q nothing_else h = absurd (no_answer vs q (is_truth vs q) refl (n
 has_body vs at q (otherwise body) h = tt
 has_body vs at q (answer a ranges body others) h = tt
 
--- the first of the connections that has a name
+-- The first of the connections that has this name.
 found : (y : List ℕ) (cs : List PlainConnection) → list_any (λ (id : Identifier). same_name y id.name) (map (λ c. c.name) cs) ≡ true
     → (c : PlainConnection) × (find (λ c. same_name y c.name.name) cs ≡ Some c)
 found y [] h = absurd (let bad : false ≡ true = h in let k : ⊥ = cc in k)
@@ -103,7 +103,7 @@ fine_statement b p (finishes (Join j)) known answered =
 
 -- ---- ranks
 
--- the place of a number in an order
+-- The place of a number in an order.
 abbrev pub place_in : List ℕ → ℕ → ℕ
 place_in [] n = 0
 place_in (m ∷ ms) n = if nat_eq m n then 0 else suc (place_in ms n)
@@ -135,11 +135,11 @@ place_least (m ∷ ms) n i h = by_test (nat_eq m n) refl i h (place_least ms n)
     by_test false e zero h rest = absurd (other_place m n e h)
     by_test false e (suc i) h rest = omega (arith, rest i h)
 
--- the number of the first connection with a name
+-- The number of the first connection with this name.
 abbrev pub number_at : PlainProcess → List ℕ → ℕ
 number_at p y = position_or_len (λ (c : PlainConnection). same_name y c.name.name) p.connections
 
--- and that its rank is its place
+-- The number of the connection, and the rank as its place in the order.
 pub record IsNumber (p : PlainProcess) (order : List ℕ) (y : List ℕ) (c : PlainConnection) : Type 0 where
   pub at : slice_get p.connections (number_at p y) ≡ Some c
   pub is : number_of (connector_names p) y ≡ Some (number_at p y)
@@ -158,7 +158,7 @@ numbered p order y c is named =
     let there = is.each (number_at p y) within in
     record { at = at; is = number_is y p.connections (number_at p y) refl within; place = place_there order (number_at p y) there.0 there.1 }
 
--- a JOIN of a connection leads to one of lesser rank
+-- A JOIN of a connection leads to one of lower rank.
 lesser : (p : PlainProcess) (order : List ℕ) (y : List ℕ) (c : PlainConnection) (j : tree.Join) (d : PlainConnection) → IsOrder p order
     → connection_named p y ≡ Some c → Contains (joins_of c.text) j → connection_named p j.connector.name ≡ Some d
     → rank_of p order j.connector.name < rank_of p order y
@@ -175,11 +175,11 @@ below_all p order y c is named =
 
 -- ---- the statements of a sound process
 
--- where no statement has places, those of each text have none
+-- `f` reports no place for any statement of a text.
 abbrev pub HasNone : (Statement → List ℕ) → Text → Type 0
 HasNone f t = Each (λ s. f s ≡ []) (statements_of t)
 
--- what each INPUT tells of what it takes holds of what the states take
+-- What holds of each signal of each INPUT holds of the inputs of the states.
 
 clause_each : (Q : PlainInput → Type 0) (P : Input → Type 0) → ((i : PlainInput) → Q i → Each P (clause_inputs (input i))) → (c : PlainClause)
     → Each Q (clause_parts c) → Each P (clause_inputs c)
@@ -206,7 +206,7 @@ inputs_by Q P f p s h =
     (λ id. given_each P (is_state (states_of p) s id.name) (part_inputs part) (part_each Q P f part e)) part.names)) p.states
     (each_unflat Q (λ (part : PlainState). flat_map clause_parts part.clauses) p.states h))
 
--- what holds of the text of each INPUT holds of those of the states
+-- What holds of the text of each INPUT holds of the texts of the inputs of the states.
 pub inputs_each : (P : Text → Type 0) (p : PlainProcess) (s : ℕ) → Each (λ (i : PlainInput). P i.text) (input_parts p) → Each (λ (i : Input). P i.text) (inputs_of p s)
 inputs_each P =
     inputs_by (λ (i : PlainInput). P i.text) (λ (i : Input). P i.text)
@@ -232,7 +232,7 @@ texts_none f p h t among =
       ]
     ]
 
--- each statement of each text is fine
+-- Each statement of each text is fine.
 pub record AreFine (p : PlainProcess) : Type 0 where
   pub of : (t : Text) → IsTextOf p t → Each (IsFine p) (statements_of t)
 
@@ -250,7 +250,7 @@ are_fine b p known answered = record {
       (both_nil f g (statements_of t) (texts_none f p known t among) (texts_none g p answered t among));
 }
 
--- a statement of a text, with its JOINs among those of the text
+-- A statement of a text, with its JOINs among those of the text.
 joined_well : (p : PlainProcess) (P : List ℕ → Type 0) (js : List tree.Join)
     → ((j : tree.Join) (c : PlainConnection) → Contains js j → connection_named p j.connector.name ≡ Some c → P j.connector.name)
     → (s : Statement) → IsFine p s → Each (λ j. Contains js j) (statement_joins s) → StandsWell P s
@@ -275,7 +275,7 @@ connection_there p y c named =
     let at : slice_get p.connections (number_at p y) ≡ Some c = sym (find_at (λ (d : PlainConnection). same_name y d.name.name) p.connections) ∙ named in
     (number_at p y, slice_get_within p.connections (number_at p y) c at, get_or_from_slice_get p.connections (number_at p y) c c at)
 
--- the connections are ranked by an order, and each text joins such
+-- An order ranks the connections, and each text joins only ranked connections.
 pub are_ranked : (p : PlainProcess) (order : List ℕ) → AreFine p → IsOrder p order → AreRanked p (rank_of p order)
 are_ranked p order fine is = λ y c named.
     text_whole p (IsBefore p (rank_of p order) (rank_of p order y)) c.text

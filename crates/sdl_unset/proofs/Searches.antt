@@ -74,11 +74,11 @@ first_is fates best other r one found last = elim one [
   | inr e ↦ subst (λ (o : Option ℕ). IfSome o (IsUnsetAt fates)) e found
 ]
 
--- none of the variables below a number that are read unset is so by a path that is named before
+-- No variable below a number that is read unset has a path before this one.
 abbrev pub HasFirstBelow : List Fate → ℕ → ℕ → Type 0
 HasFirstBelow fates k v = (w : ℕ) → w < k → IsUnsetAt fates w → NotAfter (fate_path fates v) (fate_path fates w)
 
--- one that is set
+-- One more variable, which is set.
 pub first_past : (fates : List Fate) (k : ℕ) (f : Fate) (marks : Vec Bool) (best : Option ℕ) → k < length fates → f ≡ get_or fates k f → f ≡ Set marks
     → IfSome best (HasFirstBelow fates k) → IfSome best (HasFirstBelow fates (k + 1))
 first_past fates k f marks None within read is before = tt
@@ -89,7 +89,7 @@ first_past fates k f marks (Some v) within read is before = λ w lt u. elim (cas
   | inr other ↦ before w (omega (arith, lt, other)) u
 ]
 
--- the path of the one that is named is not after one before, by way of the best before
+-- The path of the named variable isn't after an earlier one, by comparison with the best one before.
 first_before : (fates : List Fate) (k r w : ℕ) (best : Option ℕ) → IfSome best (λ one. NotAfter (fate_path fates r) (fate_path fates one))
     → (best ≡ None → AreSetBelow fates k) → IfSome best (HasFirstBelow fates k) → w < k → IsUnsetAt fates w
     → NotAfter (fate_path fates r) (fate_path fates w)
@@ -97,7 +97,7 @@ first_before fates k r w None than none before below u = absurd (none refl w u.0
 first_before fates k r w (Some one) than none before below u =
     not_after_trans (fate_path fates r) (fate_path fates one) (fate_path fates w) than (before w below u)
 
--- one that is read unset
+-- One more variable, which is read unset.
 pub first_more : (fates : List Fate) (k r : ℕ) (best : Option ℕ) → NotAfter (fate_path fates r) (fate_path fates k)
     → IfSome best (λ one. NotAfter (fate_path fates r) (fate_path fates one)) → (best ≡ None → AreSetBelow fates k)
     → IfSome best (HasFirstBelow fates k) → HasFirstBelow fates (k + 1) r

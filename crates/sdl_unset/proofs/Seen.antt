@@ -1,4 +1,4 @@
--- Lists of what was seen, and of visits.
+-- Lists of states that were seen, and of visits.
 use Rattle.std.proofs.Common.{◌≡◌, ℕ, zero, suc, ◌+◌, ◌/◌, ◌^◌, ◌<◌, ◌≤◌, Bool, true, false, ◌==◌, List, [], ◌∷◌, ◌++◌, length, refl, ap, sym, ◌∙◌, subst, arith, inl, inr, Some, take, get_or, append_assoc, append-nil, length-append}
 use Rattle.std.specs.Prelude.{slice_get, slice_set}
 use Rattle.std.proofs.lemmas.Nat.Bits.{shr_and_one}
@@ -25,14 +25,14 @@ unseen_set (false ∷ seen) zero e = refl
 unseen_set (true ∷ seen) (suc k) e = unseen_set seen k e
 unseen_set (false ∷ seen) (suc k) e = ap suc (unseen_set seen k e)
 
--- what was seen stays seen
+-- A state that was seen stays seen.
 stays_at : (seen : List Bool) (k s : ℕ) → k < length seen → IsSeen seen s → IsSeen (slice_set seen k true) s
 stays_at seen k s within old h = elim (cases_eq s k) [
   | inl e ↦ rw e (get_set_same seen k true within)
   | inr ne ↦ get_set_other seen k s true ne ∙ old (omega (arith, h, length-set seen k true))
 ]
 
--- what is seen now has a visit
+-- The state that is seen now has a visit.
 visited_at : (seen : List Bool) (visits : List Visit) (k : ℕ) (v : Visit) → k < length seen → v.state ≡ k
     → AreVisited seen visits → AreVisited (slice_set seen k true) (visits ++ v ∷ [])
 visited_at seen visits k v within at old s h = elim (cases_eq s k) [
@@ -40,7 +40,7 @@ visited_at seen visits k v within at old s h = elim (cases_eq s k) [
   | inr ne ↦ let w = old s (sym (get_set_other seen k s true ne) ∙ h) in (w.0, Contains-append_left visits (v ∷ []) w.0 w.1, w.2)
 ]
 
--- one state more was seen, and is visited
+-- One more state was seen, and is visited.
 pub grows_by : (seen : List Bool) (visits : List Visit) (k : ℕ) (v : Visit) (new_seen : List Bool) (new_visits : List Visit)
     → k < length seen → slice_get seen k ≡ Some false → v.state ≡ k
     → new_seen ≡ slice_set seen k true → new_visits ≡ visits ++ v ∷ []
@@ -60,7 +60,7 @@ grows_by seen visits k v new_seen new_visits within not_seen at seen_is visits_a
       omega (arith, count_is, less);
 }
 
--- nothing was added
+-- Nothing was added.
 pub grows_not : (seen : List Bool) (visits : List Visit) → Grows seen visits seen visits
 grows_not seen visits = record {
   states = refl;
@@ -82,7 +82,7 @@ grows_on a u b v c w g h = record {
   count = h.count ∙ g.count;
 }
 
--- what is visited now was visited before, or is of a kind, over two steps
+-- Each visit after two steps was there before, or is of the kind of one of the steps.
 pub enters_on : (P Q R : Visit → Type 0) (u v w : List Visit) → Enters P u v → Enters Q v w
     → ((x : Visit) → P x → R x) → ((x : Visit) → Q x → R x) → Enters R u w
 enters_on P Q R u v w first second from_first from_second x h = elim (second x h) [
@@ -90,7 +90,7 @@ enters_on P Q R u v w first second from_first from_second x h = elim (second x h
   | inr new ↦ inr (from_second x new)
 ]
 
--- one passage more
+-- One more passage.
 pub covers_more : (ps : List Passage) (i x : ℕ) (d : Passage) (old new : List Bool) → i < length ps
     → ((s : ℕ) → IsSeen old s → IsSeen new s) → Covers (take i ps) x old
     → (has (get_or ps i d).keeps x ≡ true → IsSeen new (get_or ps i d).state) → Covers (take (i + 1) ps) x new
@@ -98,7 +98,7 @@ covers_more ps i x d old new within stays before last =
     let P : Passage → Type 0 = λ p. has p.keeps x ≡ true → IsSeen new p.state in
     All-more P ps i d within (λ k e lt keeps. stays _ (before k e lt keeps)) last
 
--- what was covered is so once more was seen
+-- Passages that were covered stay covered when more states are seen.
 pub covers_on : (ps : List Passage) (x : ℕ) (old new : List Bool) → ((s : ℕ) → IsSeen old s → IsSeen new s) → Covers ps x old
     → Covers ps x new
 covers_on ps x old new stays before = λ k e lt keeps. stays _ (before k e lt keeps)
@@ -112,6 +112,6 @@ by_passage ps i x d path within keeps v visit = record {
   visit = visit;
 }
 
--- the passages up to a place past the last one are all
+-- The passages up to a place after the last one are all passages.
 pub covers_all : (ps : List Passage) (i x : ℕ) (seen : List Bool) → length ps ≤ i → Covers (take i ps) x seen → Covers ps x seen
 covers_all ps i x seen past h = let P : List Passage → Type 0 = λ l. Covers l x seen in subst P (take_all i ps past) h

@@ -37,7 +37,7 @@ numbered_length f (x ∷ xs) k = ap suc (numbered_length f xs (k + 1))
 
 -- ---- the fate of a declared variable
 
--- it is set, and these are the marks
+-- A declared variable is set, and these are its marks.
 pub record IsMarked (p : PlainProcess) (g : Graph) (fates : List Fate) (v : ℕ) : Type 0 where
   pub marks : Vec Bool
   pub there : slice_get fates v ≡ Some (Set marks)
@@ -74,12 +74,12 @@ bit_of : (fates : List Fate) (q v : ℕ) (marks : Vec Bool) → slice_get fates 
     → set_bit fates q v ≡ bit_if (slice_get marks.items q)
 bit_of fates q v marks there = ap (λ o. option_map_or (λ f. if is_set_in f q then 1 else 0) o 0) there
 
--- a variable that is in the set of a state isn't marked there
+-- A variable in the set of a state isn't marked there.
 unmarked : (fates : List Fate) (q v set : ℕ) (marks : Vec Bool) → slice_get fates v ≡ Some (Set marks) → bit_at set v ≡ set_bit fates q v
     → bit_at set v ≡ 1 → slice_get marks.items q ≡ Some false
 unmarked fates q v set marks there bit one = bit_cases (slice_get marks.items q) (sym (bit_of fates q v marks there) ∙ sym bit ∙ one)
 
--- one that isn't marked is in the set
+-- A variable that isn't marked is in the set.
 bit_from : (fates : List Fate) (q v set : ℕ) (marks : Vec Bool) → slice_get fates v ≡ Some (Set marks) → bit_at set v ≡ set_bit fates q v
     → slice_get marks.items q ≡ Some false → bit_at set v ≡ 1
 bit_from fates q v set marks there bit free =
@@ -95,11 +95,11 @@ mark_cases marks q = mark_by marks q (slice_get marks q) refl
 
 -- ---- a transition
 
--- the bits of the sets are those of the fates
+-- The bits of the sets are those of the fates.
 abbrev pub AreBits : List Fate → List ℕ → Type 0
 AreBits fates sets = (q set : ℕ) → slice_get sets q ≡ Some set → (v : ℕ) → bit_at set v ≡ set_bit fates q v
 
--- each variable is set before the transition, or the transition is safe
+-- Each variable is set before the transition, or the transition is safe for it.
 abbrev IsCovered : PlainProcess → Graph → List Fate → ℕ → Summary → Type 0
 IsCovered p g fates before sum = (v : ℕ) (m : IsMarked p g fates v) → (bit_at before v ≡ 1) ⊎ IsSafe sum v m.marks.items
 
@@ -140,7 +140,7 @@ settled_by p fates sets before u sum a set bits is covered = record {
   states = settled_states p fates sets before u sum a set bits is covered;
 }
 
--- an input of a state
+-- An input of a state.
 input_covered : (p : PlainProcess) (fates : List Fate) (sets : List ℕ) (q i set : ℕ) (t : Summary) (a : AreFates p fates) → AreBits fates sets
     → slice_get sets q ≡ Some set → graph.input_at a.graph q i ≡ Some t → IsCovered p a.graph fates set t
 input_covered p fates sets q i set t a bits there leads v m = elim (mark_cases m.marks.items q) [
@@ -181,6 +181,6 @@ settled p fates sets a all count bits = record {
       input_settled p fates sets q k set (get_or is k d) a all bits there back.0 input);
 }
 
--- and no path reads a variable unset
+-- No path reads a variable unset.
 pub never : (b : PlainBlock) (p : PlainProcess) (fates : List Fate) → process_unknown b p ≡ [] → AreFates p fates → AreSet fates → NeverReadsUnset p
 never b p fates known a set = never_reads b p a.graph known a.is (λ v id var. (marked p fates v id a set var).none)

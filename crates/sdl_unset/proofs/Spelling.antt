@@ -23,7 +23,7 @@ use Rattle.sdl_unset.proofs.Numbers.{has_number}
 use Rattle.plain_laws.proofs.Lists.{test_known, append-nil_left as nil_front}
 use Rattle.plain_laws.proofs.Places.{among_at}
 
--- ---- what a state takes is declared
+-- ---- the signals and timers that a state takes are declared
 
 stimulus_known : (b : PlainBlock) (p : PlainProcess) (s : PlainStimulus) → stimulus_unknown b p s ≡ [] → is_in (trigger_names b p) s.name.name ≡ true
 stimulus_known b p s none =
@@ -56,14 +56,14 @@ spelling_of ids id there = (there.0, id, there.1, there.2, refl)
 pub spelling_at : (ids : List Identifier) (k : ℕ) (id : Identifier) → slice_get ids k ≡ Some id → IsSpelling ids id.name
 spelling_at ids k id at = spelling_of ids id (among_at ids k id at)
 
--- where no signal has a name, it is that of another identifier
+-- If no signal has a name, only the other identifiers can have it.
 not_signal : (ss : List PlainSignal) (x : List ℕ) → Each (λ (s : PlainSignal). same_name x s.name.name ≡ false) ss → (ids : List Identifier)
     → is_in (map (λ (s : PlainSignal). s.name) ss ++ ids) x ≡ is_in ids x
 not_signal [] x none ids = refl
 not_signal (s ∷ ss) x none ids =
     ap (λ (b : Bool). b || is_in (map (λ (s : PlainSignal). s.name) ss ++ ids) x) none.0 ∙ not_signal ss x none.1 ids
 
--- the name of a timer
+-- The name of a timer.
 abbrev timer_by : List Identifier → Option ℕ → List ℕ → List ℕ
 timer_by ids o x = option_map_or (λ (id : Identifier). id.name) (option_and_then (slice_get ids) o) x
 

@@ -1,4 +1,4 @@
--- The summary of a transition from what its walks may do, and the graph of a process.
+-- The summary of a transition, made from its chances; and the graph of a process.
 use Rattle.std.proofs.Common.{◌≡◌, ℕ, zero, suc, ◌+◌, ◌<◌, ◌≤◌, true, false, List, [], ◌∷◌, ◌++◌, map, take, length, None, Some, get_or, refl, sym, ap, ◌∙◌, subst, arith, inl, inr}
 use Rattle.std.specs.Prelude.{slice_get, Contains}
 use Rattle.std.specs.List.{AllZip, enumerate_from}
@@ -84,7 +84,7 @@ more_passages masks m passages are = λ v q. (
   ],
 )
 
--- an empty mask needs none
+-- An empty mask needs no passage.
 skipped_passage : (masks : List ℕ) (m : ℕ) (passages : List Passage) → m ≡ 0 → ArePassages masks passages → ArePassages (masks ++ m ∷ []) passages
 skipped_passage masks m passages none are = λ v q. (
   λ h.
@@ -114,7 +114,7 @@ passage_skipped masks i passages within none are =
 
 -- ---- the order of the passages
 
--- the passages are in order, and lead to states below n
+-- The passages are in order, and lead to states below n.
 abbrev pub AreBelow : List Passage → ℕ → Type 0
 AreBelow ps n = AreSorted ps × ((i : ℕ) (p : Passage) → slice_get ps i ≡ Some p → p.state < n)
 
@@ -186,7 +186,7 @@ summary_of p rank t s ranked whole by = record {
 
 -- ---- the graph
 
--- one row more
+-- One more row.
 pub zip_more : {X A B : Type 0} (R : A → B → Type 0) (g : X → A) (xs : List X) (i : ℕ) (x : X) (ys : List B) (y : B) → i < length xs → x ≡ get_or xs i x
     → AllZip R (map g (take i xs)) ys → R (g x) y → AllZip R (map g (take (i + 1) xs)) (ys ++ y ∷ [])
 zip_more R g xs i x ys y within is h r =

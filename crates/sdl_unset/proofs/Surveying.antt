@@ -44,7 +44,7 @@ use Rattle.plain_laws.proofs.Pairwise.{zip_at as all_zip_at, zip_length}
 use Rattle.plain_laws.proofs.Places.{there_is, among_at}
 use Rattle.plain_laws.proofs.Options.{some_none}
 
--- ---- what a limit says
+-- ---- what the limits state
 
 none_before : {A : Type 0} (b : Bool) (x : A) (o : Option A) → cond b (Some x) o ≡ None → (b ≡ false) × (o ≡ None)
 none_before true x o e = absurd (some_none e)
@@ -61,7 +61,7 @@ none_many (q ∷ ps) zero p none e =
     subst (λ (r : PlainProcess). length (variables_of r) ≤ 32) same (few_of (length (variables_of q)) (or_false _ _ none).0)
 none_many (q ∷ ps) (suc k) p none e = none_many ps k p (or_false _ _ none).1 e
 
--- no process has more than 32 variables
+-- No process has more than 32 variables.
 pub few_variables : (b : PlainBlock) → first_limit b ≡ None → All (λ p. length (variables_of p) ≤ 32) (processes_of b)
 few_variables b none k d within =
     let after_one = States ∷ Variables ∷ Timers ∷ Signals ∷ Params ∷ Pieces ∷ later_limits in
@@ -72,13 +72,13 @@ few_variables b none k d within =
     let three : exceeds b Variables ≡ false = (none_before (exceeds b Variables) Variables (find (exceeds b) after_three) two).0 in
     none_many (processes_of b) k (get_or (processes_of b) k d) three (slice_get-get_or (processes_of b) k d within)
 
--- each process has known names alone
+-- Each process has only known names.
 pub known_names : (b : PlainBlock) → unknown_names b ≡ [] → All (λ p. process_unknown b p ≡ []) (processes_of b)
 known_names b none k d within =
     none_at (process_unknown b) (processes_of b) k (get_or (processes_of b) k d)
     (append-nil_right (flat_map (route_unknown b) (routes_of b)) _ none) (slice_get-get_or (processes_of b) k d within)
 
--- each process has answers for each value
+-- Each process has answers for every value.
 pub answered_names : (b : PlainBlock) → unanswered b ≡ [] → All (λ p. in_statements (λ from. statement_unanswered (variables_of p)) p ≡ []) (processes_of b)
 answered_names b none k d within =
     none_at (λ p. in_statements (λ from. statement_unanswered (variables_of p)) p) (processes_of b) k (get_or (processes_of b) k d) none (slice_get-get_or (processes_of b) k d within)
@@ -104,7 +104,7 @@ order_at ts ps orders i t order same are within read has =
     (ap (λ (l : List PlainProcess). slice_get l i) (sym same) ∙ (slice_get-map process_of ts i ∙ ap (option_map process_of) (slice_get-get_or ts i t within ∙ ap Some (sym read))))
     (slice_get-get_or orders i order (order_within ts ps orders i same are within) ∙ ap Some (sym has))
 
--- ---- the processes so far
+-- ---- the processes surveyed so far
 
 abbrev pub plain : List the_process.Process → List PlainProcess
 plain ts = map process_of ts
@@ -115,7 +115,7 @@ plain_more ts i t within read =
     ap plain (take_more ts i t within) ∙ (map-append process_of (take i ts) (get_or ts i t ∷ [])
     ∙ ap (λ (u : the_process.Process). plain (take i ts) ++ process_of u ∷ []) (sym read))
 
--- one of the processes, the first of those so far that has so short a path
+-- The first of the processes so far with a path as short as this.
 abbrev pub IsUnsetAmong : PlainBlock → List PlainProcess → List PlainProcess → Unset → Type 0
 IsUnsetAmong b ps far u = (p : PlainProcess) × Contains ps p × IsUnset b p u × IsFirstWith far p u.path.steps.items × IsFirst p u.path.steps.items
 
@@ -135,17 +135,17 @@ first_more far p q path h = record {
 among_more : (b : PlainBlock) (ps far : List PlainProcess) (q : PlainProcess) (u : Unset) → IsUnsetAmong b ps far u → IsUnsetAmong b ps (far ++ q ∷ []) u
 among_more b ps far q u (p, among, is, first, whole) = (p, among, is, first_more far p q u.path.steps.items first, whole)
 
--- one process more, no path of which reads a variable unset
+-- One more process, of which no path reads a variable unset.
 pub among_past : (b : PlainBlock) (ps far : List PlainProcess) (q : PlainProcess) (best : Option Unset) → IfSome best (IsUnsetAmong b ps far)
     → IfSome best (IsUnsetAmong b ps (far ++ q ∷ []))
 among_past b ps far q None h = tt
 among_past b ps far q (Some u) h = among_more b ps far q u h
 
--- and no path of the processes so far is shorter
+-- No path of the processes so far is shorter.
 abbrev pub AreShortest : List PlainProcess → Unset → Type 0
 AreShortest ps u = All (λ q. IsShortest q u.path.steps.items) ps
 
--- what stands of the best so far, where those so far are all
+-- What holds of the best one so far holds of all processes at the end.
 pub found_of_all : (b : PlainBlock) (ps far all : List PlainProcess) (u : Unset) → ps ≡ all → far ≡ all → IsUnsetAmong b ps far u → AreShortest far u
     → (p : PlainProcess) × Contains all p × IsUnset b p u × All (λ q. IsShortest q u.path.steps.items) all × IsFirstWith all p u.path.steps.items × IsFirst p u.path.steps.items
 found_of_all b ps far all u same whole (p, among, is, first, least) short = (
@@ -157,28 +157,28 @@ found_of_all b ps far all u same whole (p, among, is, first, least) short = (
   least,
 )
 
--- a path that is no longer than one that is shortest
+-- A path that is no longer than a shortest one is a shortest one.
 shortest_for : (q : PlainProcess) (short long : List Step) → length short ≤ length long → IsShortest q long → IsShortest q short
 shortest_for q short long le h other x reads = omega (arith, le, h other x reads)
 
 never_shortest : (q : PlainProcess) (path : List Step) → NeverReadsUnset q → IsShortest q path
 never_shortest q path never other x reads = absurd (never other x reads)
 
--- one process more, no path of which reads a variable unset
+-- One more process, of which no path reads a variable unset.
 pub shortest_past : (ps : List PlainProcess) (q : PlainProcess) (best : Option Unset) → NeverReadsUnset q → IfSome best (AreShortest ps)
     → IfSome best (AreShortest (ps ++ q ∷ []))
 shortest_past ps q None never before = tt
 shortest_past ps q (Some u) never before =
     All-push (λ z. IsShortest z u.path.steps.items) ps q before (never_shortest q u.path.steps.items never)
 
--- the path that is named is no longer than those before, by way of the best before
+-- The named path is no longer than those before, by comparison with the best one before.
 shortest_before : (ps : List PlainProcess) (best : Option Unset) (r : Unset)
     → IfSome best (λ one. length r.path.steps.items ≤ length one.path.steps.items) → (best ≡ None → All NeverReadsUnset ps)
     → IfSome best (AreShortest ps) → AreShortest ps r
 shortest_before ps None r than none before = λ k d within. never_shortest (get_or ps k d) r.path.steps.items (none refl k d within)
 shortest_before ps (Some one) r than none before = λ k d within. shortest_for (get_or ps k d) r.path.steps.items one.path.steps.items than (before k d within)
 
--- one process more, with a path that does
+-- One more process, with a path that reads a variable unset.
 pub shortest_more : (ps : List PlainProcess) (q : PlainProcess) (best : Option Unset) (other r : Unset)
     → length r.path.steps.items ≤ length other.path.steps.items
     → IfSome best (λ one. length r.path.steps.items ≤ length one.path.steps.items) → (best ≡ None → All NeverReadsUnset ps)
@@ -187,14 +187,14 @@ shortest_more ps q best other r fewer than none before last =
     All-push (λ z. IsShortest z r.path.steps.items) ps q (shortest_before ps best r than none before)
     (shortest_for q r.path.steps.items other.path.steps.items fewer last)
 
--- a shorter path than the best before: all those before are longer
+-- If a path is shorter than the best one before, all those before are longer.
 longer_before : (ps : List PlainProcess) (best : Option Unset) (other : Unset)
     → IfSome best (λ one. length other.path.steps.items < length one.path.steps.items) → (best ≡ None → All NeverReadsUnset ps)
     → IfSome best (AreShortest ps) → All (AreLonger other.path.steps.items) ps
 longer_before ps None other less none before = λ k d within path x reads. absurd (none refl k d within path x reads)
 longer_before ps (Some one) other less none before = λ k d within path x reads. omega (arith, less, before k d within path x reads)
 
--- the path that is named is that of the first process with one as short
+-- The named path is that of the first process with a path as short as this.
 pub shorter_is : (b : PlainBlock) (ps far : List PlainProcess) (q : PlainProcess) (best : Option Unset) (other r : Unset)
     → ((r ≡ other) × IfSome best (λ one. length other.path.steps.items < length one.path.steps.items)) ⊎ (best ≡ Some r)
     → IfSome best (IsUnsetAmong b ps far) → (best ≡ None → All NeverReadsUnset far) → IfSome best (AreShortest far)
@@ -205,7 +205,7 @@ shorter_is b ps far q best other r one found none before among last whole = elim
   | inr e ↦ among_more b ps far q r (subst (λ (o : Option Unset). IfSome o (IsUnsetAmong b ps far)) e found)
 ]
 
--- what holds of each process holds of the one at a place
+-- What holds of each process holds of the process at a place.
 pub all_at_table : (P : PlainProcess → Type 0) (ts : List the_process.Process) (ps : List PlainProcess) (i : ℕ) (t : the_process.Process)
     → map process_of ts ≡ ps → All P ps → i < length ts → t ≡ get_or ts i t → P (process_of t)
 all_at_table P ts ps i t same all within read =
@@ -213,14 +213,14 @@ all_at_table P ts ps i t same all within read =
 
 -- ---- one process
 
--- the fate of a variable that is read unset
+-- The fate of a variable that is read unset.
 pub unset_fate : (p : PlainProcess) (fates : List Fate) (n : ℕ) (a : AreFates p fates) (u : IsUnsetAt fates n) (shown : List number.Step)
     → shown ≡ fate_path fates n → graph.ReadsUnset a.graph n shown
 unset_fate p fates n a u shown is =
     let path : shown ≡ u.0.items = is ∙ ap (λ (o : Option Fate). option_map_or path_of o []) u.1 in
     subst (graph.ReadsUnset a.graph n) (sym path) (a.each n (Path u.0) u.1).0
 
--- a path that reads a variable unset is no shorter than that which its fate is
+-- A path that reads a variable unset is no shorter than the path of its fate.
 fate_fewest : (g : graphs.Graph) (fates : List Fate) (v : ℕ) (f : Fate) (path : List number.Step) → slice_get fates v ≡ Some f → IsFate g v f
     → graph.ReadsUnset g v path → IsUnsetAt fates v × (length (fate_path fates v) ≤ length path)
 fate_fewest g fates v (Marks marks) path there fate reads = absurd (fate.0 path reads)
@@ -228,7 +228,7 @@ fate_fewest g fates v (Path found) path there fate reads =
     let long : length (fate_path fates v) ≡ length found.items = ap (λ (o : Option Fate). length (option_map_or path_of o [])) there in
     ((found, there), omega (arith, long, fate.1 path reads))
 
--- no path of the process is shorter than one to the variable that is named
+-- No path of the process is shorter than that of the named variable.
 pub survey_shortest : (b : PlainBlock) (p : PlainProcess) (fates : List Fate) (n : ℕ) → process_unknown b p ≡ [] → AreFates p fates → HasFirst fates n
     → (shown : List number.Step) → shown ≡ fate_path fates n → (steps : List Step) → AllZip (IsNamed p) shown steps → IsShortest p steps
 survey_shortest b p fates n known a fewest shown is steps named other x reads =
@@ -241,7 +241,7 @@ survey_shortest b p fates n known a fewest shown is steps named other x reads =
     let same : length shown ≡ length (fate_path fates n) = ap length is in
     omega (arith, told.1, no_longer (fate_path fates n) (fate_path fates path.0) (fewest path.0 told.0), long, same, path.5)
 
--- the first path that a variable's fate is
+-- The path of a variable's fate comes first.
 fate_first : (g : graphs.Graph) (fates : List Fate) (v : ℕ) (f : Fate) (path : List number.Step) → slice_get fates v ≡ Some f → IsFate g v f
     → graph.ReadsUnset g v path → IsUnsetAt fates v × NotAfter (fate_path fates v) path
 fate_first g fates v (Marks marks) path there fate reads = absurd (fate.0 path reads)
@@ -249,7 +249,7 @@ fate_first g fates v (Path found) path there fate reads =
     let is : fate_path fates v ≡ found.items = ap (λ (o : Option Fate). option_map_or path_of o []) there in
     ((found, there), subst (λ (l : List number.Step). NotAfter l path) (sym is) (fate.2 path reads))
 
--- none of them comes first
+-- No path of the process comes before that of the named variable.
 pub survey_first : (b : PlainBlock) (p : PlainProcess) (fates : List Fate) (n : ℕ) → process_unknown b p ≡ [] → AreFates p fates → HasFirst fates n
     → (shown : List number.Step) → shown ≡ fate_path fates n → (steps : List Step) → AllZip (IsNamed p) shown steps → IsFirst p steps
 survey_first b p fates n known a first shown is steps named other x reads =
@@ -273,7 +273,7 @@ pub survey_reads : (p : PlainProcess) (fates : List Fate) (n : ℕ) → AreFates
 survey_reads p fates n a u shown is id var steps named =
     named_reads p a.graph n id a.is var shown steps (unset_fate p fates n a u shown is) named
 
--- and its names are spelled as they are declared
+-- The names of the path are spelled as they are declared.
 pub survey_names : (b : PlainBlock) (p : PlainProcess) (n : ℕ) (id : Identifier) (shown : List number.Step) (steps : List Step) → process_unknown b p ≡ []
     → slice_get (variable_names p) n ≡ Some id → AllZip (IsNamed p) shown steps → AllZip (IsSpelled b p) shown steps → AreDeclared b p id.name steps
 survey_names b p n id shown steps known var named spelled =

@@ -1,4 +1,4 @@
--- What may happen to a variable in a transition, as walks of it: each way.
+-- The chances of a variable in a transition and the walks of the transition, in both directions.
 use Rattle.std.proofs.Common.{◌≡◌, ℕ, ◌==◌, true, false, not, ◌&&◌, ◌↔◌, List, [], ◌++◌, length, Option, None, Some, refl, sym, ap, ◌∙◌, subst, inl, inr}
 use Rattle.std.specs.Prelude.{Contains}
 use Rattle.std.specs.List.{flat_map}
@@ -27,7 +27,7 @@ state_is q (Some n) h = ap Some (eqb-true n q h)
 is_it : (q : ℕ) (o : Option ℕ) → o ≡ Some q → option_map_or (λ n. n == q) o false ≡ true
 is_it q o h = ap (λ (u : Option ℕ). option_map_or (λ n. n == q) u false) h ∙ eq-eqb q q refl
 
--- where x isn't set before
+-- x isn't set before the text.
 pub reads_after : (p : PlainProcess) (rank : List ℕ → ℕ) (t : Transition) (x : List ℕ) (q : ℕ) → AreRanked p rank
     → IsWhole (IsBefore p rank (length p.connections)) t.text → sets_in t.first x ≡ false → (text_chances p t.text x q).reads ≡ true → Reads p t x
 reads_after p rank t x q ranked whole before h =
@@ -46,7 +46,7 @@ keeps_after p rank t x q ranked whole before h =
       keeps = sets-neither t.first w.0 x before w.4;
     }
 
--- what comes first, and the text behind it
+-- The chances of the first events and of the text after them.
 abbrev pub transition_chances : PlainProcess → Transition → List ℕ → ℕ → Chances
 transition_chances p t x q = behind (event_chances t.first x) (text_chances p t.text x q)
 
@@ -73,7 +73,7 @@ reads_exactly p rank t x q ranked whole =
           ],
     )
 
--- a way that ends in a state is that
+-- A way that ends in a state is `into` that state.
 into_state : (way : Way) (s : List ℕ) → Some s ≡ way_state way → way ≡ into s
 into_state onward s h = let bad : Some s ≡ None = h in absurd (let k : ⊥ = cc in k)
 into_state stops s h = let bad : Some s ≡ None = h in absurd (let k : ⊥ = cc in k)

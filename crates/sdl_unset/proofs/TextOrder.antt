@@ -1,4 +1,4 @@
--- Paths by numbers and by names stand in one order.
+-- Paths by numbers and by names have the same order.
 use Rattle.std.proofs.Common.{◌≡◌, ℕ, suc, ◌<◌, List, [], ◌∷◌, length, refl, sym, ap, ◌∙◌, subst, arith, inl, inr, ◌⊎◌}
 use Rattle.std.specs.List.{AllZip}
 use Rattle.sdl_unset.specs.declared.paths.Step as number
@@ -11,7 +11,7 @@ use Rattle.sdl_sound.specs.declared.fault.Step.TheVariants.{Start, Input as Take
 use Rattle.sdl_unset.specs.Fates.{IsNamed}
 use Rattle.sdl_sound.proofs.Numbered.{folded_same}
 
--- a step by names stands where one by numbers says
+-- A step by names has the place of the one by numbers.
 abbrev pub IsAt : PlainProcess → number.Step → Step → Type 0
 IsAt p First n = n ≡ Start
 IsAt p (By q i) n = StandsAt p n q i

@@ -1,4 +1,4 @@
--- What one walk of a text does with a variable is among what may happen in the text.
+-- What one walk of a text does with a variable is among the chances of the text.
 use Rattle.std.proofs.Common.{◌≡◌, ℕ, Bool, true, false, not, ◌&&◌, ◌||◌, List, [], ◌++◌, refl, sym, ap, ◌∙◌, subst, inl, inr}
 use Rattle.std.proofs.lemmas.Bool.{and_parts as and_true, and_from as both_true, or_cases as or_true, or_left as true_or, or_right as or_else}
 use Rattle.std.proofs.lemmas.List.{append-nil}
@@ -33,7 +33,7 @@ walk_chances states x q events way = record {
   enters = comes_into states q way && not (sets_in events x);
 }
 
--- what may happen in one may happen in the other
+-- All chances of the first are chances of the second.
 pub record IsPart (a b : Chances) : Type 0 where
   pub reads : a.reads ≡ true → b.reads ≡ true
   pub leaves : a.leaves ≡ true → b.leaves ≡ true
@@ -45,7 +45,7 @@ part-same a = record { reads = λ h. h; leaves = λ h. h; enters = λ h. h }
 part-part : (a b c : Chances) → IsPart a b → IsPart b c → IsPart a c
 part-part a b c f g = record { reads = λ h. g.reads (f.reads h); leaves = λ h. g.leaves (f.leaves h); enters = λ h. g.enters (f.enters h) }
 
--- one bit behind another
+-- One bit after another.
 bit-behind : (a b c d e f : Bool) → (a ≡ true → b ≡ true) → (c ≡ true → d ≡ true) → (e ≡ true → f ≡ true) → (a || (c && e)) ≡ true → (b || (d && f)) ≡ true
 bit-behind a b c d e f p q r h = elim (or_true a (c && e) h) [
   | inl one ↦ true_or b (d && f) (p one)
@@ -78,13 +78,13 @@ walk-after states x q xs ys way = record {
   enters = λ h. sym (swap (comes_into states q way) (not (sets_in (xs ++ ys) x)) (not (sets_in xs x)) (not (sets_in ys x)) (sets_in-append xs ys x)) ∙ h;
 }
 
--- the same walk by other names
+-- A walk with events and a way that are equal to these.
 pub walk-at : (states : List Identifier) (x : List ℕ) (q : ℕ) (events es : List Event) (way w : Way) (c : Chances) → events ≡ es → way ≡ w
     → IsPart (walk_chances states x q es w) c → IsPart (walk_chances states x q events way) c
 walk-at states x q events es way w c e v h =
     subst (λ u. IsPart (walk_chances states x q u way) c) (sym e) (subst (λ u. IsPart (walk_chances states x q es u) c) (sym v) h)
 
--- where a walk doesn't go on, nothing behind it is walked
+-- If a walk doesn't go on, nothing after it is walked.
 walk-over : (states : List Identifier) (x : List ℕ) (q : ℕ) (chosen : List Event) (way : Way) (c d : Chances) → is_onward way ≡ false
     → IsPart (walk_chances states x q chosen way) c → IsPart (walk_chances states x q chosen way) (behind c d)
 walk-over states x q chosen way c d over h = record {
@@ -109,7 +109,7 @@ walk-then states x q rest chosen after (into s) way c d first then goes =
     walk-at states x q (chosen ++ after) chosen way (into s) (behind c d) (ap (λ es. chosen ++ es) goes.0 ∙ append-nil chosen) goes.1
     (walk-over states x q chosen (into s) c d refl first)
 
--- what the walks of a connection do is among what may happen in it
+-- What the walks of a connection do is among its chances.
 abbrev pub CountsWalks : List Identifier → List ℕ → ℕ → (List ℕ → List Event → Way → Type 0) → (List ℕ → Chances) → Type 0
 CountsWalks states x q join told = (y : List ℕ) (events : List Event) (way : Way) → join y events way → IsPart (walk_chances states x q events way) (told y)
 

@@ -1,4 +1,4 @@
--- Bits of what walks may do: one thing behind another, and the answers of a DECISION beside each other.
+-- Bits of chances: one part after another, and the answers of a DECISION side by side.
 use Rattle.std.proofs.Common.{◌≡◌, ℕ, zero, suc, ◌<◌, ◌≤◌, ◌==◌, Bool, true, false, not, ◌&&◌, ◌||◌, List, [], ◌∷◌, ◌++◌, length, Option, None, Some, get_or, set, refl, sym, ap, ◌∙◌, arith, inl, inr, true≢false}
 use Rattle.std.specs.Prelude.{slice_get, option_and_then}
 use Rattle.std.specs.Option.{option_map_or}
@@ -83,7 +83,7 @@ and_bits b c v y z k l = has_and b c v ∙ (ap (λ u. u && has c v) k ∙ ap (λ
 or_bits : (b c v : ℕ) (y z : Bool) → has b v ≡ y → has c v ≡ z → has (bit_or b c) v ≡ (y || z)
 or_bits b c v y z k l = has_or b c v ∙ (ap (λ u. u || has c v) k ∙ ap (λ u. y || u) l)
 
--- nothing more
+-- Nothing is added.
 no_more : (x y : Bool) → x ≡ (x || (y && false))
 no_more x y = sym (ap (λ u. x || u) (and_false y) ∙ or_false x)
 
@@ -148,7 +148,7 @@ pub walked_none : (p : PlainProcess) (a : Walker) → Walked p (λ x q. leaving)
 unfolding Walked
 walked_none p a = λ h s. stands_same p h (λ x q. behind (h x q) leaving) a (λ x q. sym (behind_leaving (h x q))) s
 
--- a TASK in which all is quoted does nothing
+-- A TASK that holds only quoted text reads and sets nothing.
 pub walked_quoted : (p : PlainProcess) (action : PlainAction) (a : Walker) → is_quoted action ≡ true → Walked p (λ x q. event_chances (action_events action) x) a a
 walked_quoted p (task at []) a e = walked_none p a
 walked_quoted p (task at (x ∷ xs)) a e = absurd (true≢false (sym e))
@@ -360,6 +360,6 @@ walked_last p f a b c s w v =
 leaving_first : (c : Chances) → behind leaving c ≡ c
 leaving_first c = chances_by_parts (behind leaving c) c refl refl refl
 
--- a walker that went through a text from its beginning
+-- A walker that went through a text from its beginning.
 pub walked_whole : (p : PlainProcess) (f : Doings) (a b : Walker) → Stands p (λ x q. leaving) a → Walked p f a b → Stands p f b
 walked_whole p f a b s w = stands_same p (λ x q. behind leaving (f x q)) f b (λ x q. leaving_first (f x q)) (walked_from p (λ x q. leaving) f a b s w)

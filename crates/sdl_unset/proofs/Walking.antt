@@ -1,4 +1,4 @@
--- Steps of the walk of a tree: one statement more, one answer more, and the ends.
+-- Steps of the walk of a tree: one more statement, one more answer, and the ends.
 use Rattle.std.proofs.Common.{◌≡◌, ℕ, ◌+◌, ◌<◌, ◌≤◌, List, [], ◌∷◌, ◌++◌, map, take, length, Option, None, Some, get_or, sym, ap, ◌∙◌, subst}
 use Rattle.std.proofs.lemmas.List.{map_more, take_all}
 use lib.Bits.{bit_or}
@@ -76,7 +76,7 @@ forked_more p told list i answer old now next after within is fork w =
     ∙ ap (λ (u : PlainAnswer). beside (choice_doings p told (all_answers done nothing_else) x q) (chances (states_of p) (told x q) x q u.text)) (plain_answer-is answer))))
     (fork_more p (choice_doings p told (all_answers done nothing_else)) (text_doings p told (text_of answer.body)) old now next after fork w)
 
--- there is no ELSE
+-- There is no ELSE.
 pub forked_through : (p : PlainProcess) (told : Told) (d : Decision) (list : List Answer) (i : ℕ) (old now : Walker) (after : ℕ)
     → list ≡ (out-Decision d).answers.items → length list ≤ i → (out-Decision d).otherwise ≡ None
     → Forked p (choice_doings p told (answers_before (take i list) nothing_else)) old now after
@@ -90,7 +90,7 @@ forked_through p told d list i old now after same past none fork =
     ∙ sym (ap (λ (o : Option Transition). choice_chances (states_of p) (told x q) x q (answers_before (out-Decision d).answers.items (else_choice o))) none))
     (fork_end p (choice_doings p told (answers_before (take i list) nothing_else)) old now after fork)
 
--- ELSE
+-- There is an ELSE.
 pub forked_else : (p : PlainProcess) (told : Told) (d : Decision) (list : List Answer) (i : ℕ) (body : Transition) (old now next : Walker) (after : ℕ)
     → list ≡ (out-Decision d).answers.items → length list ≤ i → (out-Decision d).otherwise ≡ Some body
     → Forked p (choice_doings p told (answers_before (take i list) nothing_else)) old now after → Walked p (text_doings p told (text_of body)) now next
@@ -109,7 +109,7 @@ forked_else p told d list i body old now next after same past there fork w =
     ∙ sym (ap (λ (o : Option Transition). choice_chances (states_of p) (told x q) x q (answers_before (out-Decision d).answers.items (else_choice o))) there)))
     (fork_end p both old middle (bit_or after next.leaves) (fork_more p some last old now next after fork w))
 
--- the same by other names
+-- As above, for walkers and masks that are equal to these.
 pub leaving_at : (p : PlainProcess) (f : Doings) (old now w : Walker) (after a : ℕ) → w ≡ now → a ≡ after
     → Walked p f old (record { reads = now.reads; leaves = after; enters = now.enters; firsts = now.firsts }) → Walked p f old (record { reads = w.reads; leaves = a; enters = w.enters; firsts = w.firsts })
 leaving_at p f old now w after a same is h =

@@ -1,4 +1,4 @@
--- What becomes of the variables of a process, and how a path by numbers is named.
+-- The fates of the variables of a process, and the names of a path by numbers.
 use Rattle.std.specs.Prelude.{◌≡◌, ℕ, ◌<◌, Bool, true, false, not, List, [], Option, Some, length}
 use Rattle.std.specs.Prelude.{slice_get, if◌then◌else◌, ⊤}
 use Rattle.std.specs.Option.{option_map_or, option_and_then}
@@ -18,8 +18,8 @@ use Rattle.sdl_unset.specs.Graphs.{IsGraphOf}
 use Rattle.sdl_sound.specs.declared.fault.Step.{Step}
 use Rattle.sdl_sound.specs.declared.fault.Step.TheVariants.{Start, Input as Takes}
 
--- variable v of a graph is read unset by the path, by none with fewer steps, and by none with as
--- many that comes first; or no path reads it unset, and the states are closed
+-- The fate of variable v is its path: the path reads it unset, and no path with fewer steps does,
+-- nor one as long that comes first. Or it is marks: no path reads it unset, and they are closed.
 abbrev pub IsFate : Graph → ℕ → Fate → Type 0
 IsFate g v (Unset path) =
     ReadsUnset g v path.items × IsShortest g v path.items × IsFirst g v path.items
@@ -42,12 +42,12 @@ is_set_in (Set marks) q = option_map_or not (slice_get marks.items q) false
 abbrev pub set_bit : List Fate → ℕ → ℕ → ℕ
 set_bit fates q v = option_map_or (λ f. if is_set_in f q then 1 else 0) (slice_get fates v) 0
 
--- there is such a step
+-- The process has this step.
 abbrev pub IsStep : PlainProcess → number.Step → Type 0
 IsStep p First = ⊤
 IsStep p (By q i) = (q < length (states_of p)) × (i < length (inputs_of p q))
 
--- a step by numbers is this one by names
+-- The step by numbers has these names.
 abbrev pub IsNamed : PlainProcess → number.Step → Step → Type 0
 IsNamed p First n = n ≡ Start
 IsNamed p (By q i) n =
@@ -56,17 +56,17 @@ IsNamed p (By q i) n =
     × (signal : List ℕ) × (same_name signal inp.stimulus.name.name ≡ true)
     × (n ≡ Takes id.name signal)
 
--- the timer with a name
+-- The timer with this name.
 abbrev pub timer_named : PlainProcess → List ℕ → Option Identifier
 timer_named p x = option_and_then (slice_get (timers_of p)) (number_of (timers_of p) x)
 
--- the name of a signal or timer as it is declared; where neither is declared, as it is written
+-- The name of a signal or timer as it is declared; if neither is declared, `x` itself.
 abbrev pub declared_name : PlainBlock → PlainProcess → List ℕ → List ℕ
 declared_name b p x =
     option_map_or (λ s. s.name.name) (signal_named b x)
     (option_map_or (λ id. id.name) (timer_named p x) x)
 
--- a step by names spells what it takes as that is declared
+-- A step by names spells its signal or timer as that is declared.
 abbrev pub IsSpelled : PlainBlock → PlainProcess → number.Step → Step → Type 0
 IsSpelled b p First n = ⊤
 IsSpelled b p (By q i) n =
@@ -78,7 +78,7 @@ IsSpelled b p (By q i) n =
 abbrev pub IsUnsetAt : List Fate → ℕ → Type 0
 IsUnsetAt fates v = (path : Vec number.Step) × (slice_get fates v ≡ Some (Unset path))
 
--- the path by which a variable is read unset; empty where there is none
+-- The path that reads a variable unset; empty if there is none.
 abbrev pub path_of : Fate → List number.Step
 path_of (Unset path) = path.items
 path_of (Set marks) = []
@@ -86,11 +86,10 @@ path_of (Set marks) = []
 abbrev pub fate_path : List Fate → ℕ → List number.Step
 fate_path fates v = option_map_or path_of (slice_get fates v) []
 
--- none of the variables that are read unset is so by fewer steps, or by as many that come first in
--- the text
+-- No variable that is read unset has a path before the path of v.
 abbrev pub HasFirst : List Fate → ℕ → Type 0
 HasFirst fates v = (w : ℕ) → IsUnsetAt fates w → NotAfter (fate_path fates v) (fate_path fates w)
 
--- each of these variables is set
+-- No path reads any of these variables unset.
 abbrev pub AreSet : List Fate → Type 0
 AreSet fates = (v : ℕ) (path : Vec number.Step) → slice_get fates v ≡ Some (Unset path) → ⊥

@@ -1,5 +1,5 @@
--- Paths through the transitions of a process, and what is read on them before it is set. (Z.100:
--- the transitions of a process graph.)
+-- Paths through the transitions of a process, and the variables read on them before they are set.
+-- (Z.100: the transitions of a process graph.)
 use Rattle.std.specs.Prelude.{◌≡◌, ℕ, ◌<◌, ◌≤◌, ◌==◌, Bool, true, false, length, ⊤, All, List, []}
 use Rattle.std.specs.Prelude.{◌∷◌, Option, Some, None, Contains, slice_get, option_and_then}
 use Rattle.std.specs.Int.{bit_at}
@@ -16,7 +16,7 @@ use Rattle.sdl_unset.specs.declared.paths.Step.TheVariants.{Start, Input}
 unfoldable pub has : ℕ → ℕ → Bool
 has bits x = bit_at bits x == 1
 
--- where a process is between two transitions: before START, or in a state
+-- The position of a process between two transitions: before START, or in a state.
 abbrev pub Place : Type 0
 Place = Option ℕ
 
@@ -24,23 +24,23 @@ Place = Option ℕ
 abbrev pub input_at : Graph → ℕ → ℕ → Option Summary
 input_at g s i = option_and_then (λ inputs. slice_get inputs.items i) (slice_get g.states.items s)
 
--- from a place a step leads by a transition
+-- A step leads from a place through this transition.
 abbrev pub Leads : Graph → Place → Step → Summary → Type 0
 Leads g None Start t = t ≡ g.start
 Leads g None (Input s i) t = ⊥
 Leads g (Some s) Start t = ⊥
 Leads g (Some s) (Input q i) t = (q ≡ s) × (input_at g s i ≡ Some t)
 
--- a way through the transition ends in a state and doesn't set x
+-- A way through the transition ends in state s and doesn't set x.
 pub record Passes (t : Summary) (x s : ℕ) : Type 0 where
   pub passage : Passage
   pub among : Contains t.passages.items passage
   pub keeps : has passage.keeps x ≡ true
   pub ends : passage.state ≡ s
 
--- From a place on, with x unset, these steps are a path: a way through each but the last ends in
--- the state from which the next one leads, and doesn't set x; and a way through the last one reads
--- x before it sets it.
+-- These steps are a path from a place on, with x unset. A way through each step but the last ends
+-- in the state from which the next one leads, and doesn't set x. A way through the last one reads x
+-- before it sets it.
 abbrev pub ReadsFrom : Graph → ℕ → Place → List Step → Type 0
 ReadsFrom g x place [] = ⊥
 ReadsFrom g x place (step ∷ []) = (t : Summary) × Leads g place step t × (has t.reads x ≡ true)
@@ -48,7 +48,7 @@ ReadsFrom g x place (step ∷ next ∷ steps) =
     (t : Summary) × (s : ℕ) × Leads g place step t × Passes t x s
     × ReadsFrom g x (Some s) (next ∷ steps)
 
--- a path from START on, the last transition of which reads x unset
+-- A path from START on whose last transition reads x unset.
 abbrev pub ReadsUnset : Graph → ℕ → List Step → Type 0
 ReadsUnset g x path = ReadsFrom g x None path
 
@@ -56,7 +56,7 @@ ReadsUnset g x path = ReadsFrom g x None path
 abbrev pub IsShortest : Graph → ℕ → List Step → Type 0
 IsShortest g x path = (other : List Step) → ReadsUnset g x other → length path ≤ length other
 
--- from a place on, these steps lead to a state, and x isn't set on the way
+-- From a place on, these steps lead to state s, and don't set x on the way.
 abbrev pub Reached : Graph → ℕ → Place → List Step → ℕ → Type 0
 Reached g x place [] s = place ≡ Some s
 Reached g x place (step ∷ steps) s =
@@ -64,15 +64,15 @@ Reached g x place (step ∷ steps) s =
 
 -- ---- a set of states, as a mark for each
 
--- a state is marked, if there is such a state
+-- State s is marked, if there is such a state.
 abbrev pub IsSeen : List Bool → ℕ → Type 0
 IsSeen seen s = s < length seen → slice_get seen s ≡ Some true
 
--- the states to which passages lead with x unset are marked
+-- The states to which passages lead with x unset are marked.
 abbrev pub Covers : List Passage → ℕ → List Bool → Type 0
 Covers passages x seen = All (λ p. has p.keeps x ≡ true → IsSeen seen p.state) passages
 
--- no walk of a transition reads x unset, and the states to which it leads with x unset are marked
+-- No walk of a transition reads x unset, and the states to which it leads with x unset are marked.
 pub record IsSafe (t : Summary) (x : ℕ) (seen : List Bool) : Type 0 where
   pub reads : has t.reads x ≡ false
   pub covers : Covers t.passages.items x seen
@@ -85,19 +85,19 @@ IsExpanded g x seen s = (step : Step) (t : Summary) → Leads g (Some s) step t 
 abbrev pub IsClosed : Graph → ℕ → List Bool → Type 0
 IsClosed g x seen = (s : ℕ) → IsSeen seen s → IsExpanded g x seen s
 
--- A mark for each state; START's transition is safe, and so are all those of the marked states. So
--- whatever is entered with x unset is marked.
+-- A mark for each state. The transition of START is safe, and so are those of all marked states. So
+-- every state that a path enters with x unset is marked.
 pub record IsClosedSet (g : Graph) (x : ℕ) (marks : List Bool) : Type 0 where
   pub count : length marks ≡ length g.states.items
   pub start : IsSafe g.start x marks
   pub states : IsClosed g x marks
 
--- A path leads to each marked state, and doesn't set x on the way.
+-- A path leads to each marked state and doesn't set x on the way.
 abbrev pub AreEntered : Graph → ℕ → List Bool → Type 0
 AreEntered g x marks =
     (s : ℕ) → slice_get marks s ≡ Some true → (path : List Step) × Reached g x None path s
 
--- ---- what becomes of a variable
+-- ---- the fate of a variable
 
 abbrev pub IfUnset : Fate → (Vec Step → Type 0) → Type 0
 IfUnset (Unset path) P = P path

@@ -1,5 +1,5 @@
--- What the walks of each transition do with the variables, by their numbers: the graph of a
--- process.
+-- The graph of a process: which variables the walks of each transition read and leave unset, by
+-- number.
 use Rattle.std.specs.Prelude.{◌≡◌, ℕ, true, List, Some, slice_get, ◌↔◌}
 use Rattle.std.specs.List.{AllZip}
 use Rattle.std.specs.Global.{Vec}
@@ -13,9 +13,9 @@ use Rattle.sdl_tables.specs.Names.{variable_names, Input, inputs_by_state}
 use Rattle.sdl_sound.specs.Paths.{Transition, start_transition, input_transition}
 use Rattle.sdl_sound.specs.Laws.{Reads, Keeps}
 
--- The summary of a transition: what its walks read unset, and in which states they leave which
--- variable unset. Each variable is asked for by itself: one passage to a state may stand for many
--- walks.
+-- The summary of a transition: the variables that its walks read unset, and the states in which
+-- they leave each variable unset. Each variable is taken by itself: one passage to a state may
+-- stand for many walks.
 pub record IsSummaryOf (p : PlainProcess) (t : Transition) (summary : Summary) : Type 0 where
   pub reads : (v : ℕ) (id : Identifier) → slice_get (variable_names p) v ≡ Some id
       → (has summary.reads v ≡ true) ↔ Reads p t id.name
@@ -23,7 +23,7 @@ pub record IsSummaryOf (p : PlainProcess) (t : Transition) (summary : Summary) :
       → Passes summary v q ↔ Keeps p t id.name q
   pub sorted : AreSorted summary.passages.items
 
--- the graph of a process: the summaries of START and of each input, by state
+-- The graph of a process: the summaries of START and of each input, by state.
 pub record IsGraphOf (p : PlainProcess) (g : Graph) : Type 0 where
   pub start : IsSummaryOf p (start_transition p) g.start
   pub states :

@@ -1,4 +1,4 @@
--- What the searches over all processes tell.
+-- The answers of the searches over all processes.
 use Rattle.std.specs.Prelude.{ℕ, List, All, Contains, Result, Ok, Err}
 use Rattle.std.specs.List.{AllZip}
 use Rattle.std.specs.Global.{Vec}
@@ -10,23 +10,23 @@ use Rattle.sdl_sound.specs.Settled.{AreSettled}
 use Rattle.sdl_sound.specs.Spellings.{AreDeclared}
 use Rattle.sdl_unset.specs.declared.settled.Unset.{Unset}
 
--- a path reads the variable unset, with the names as they are declared
+-- A path reads the variable unset, with the names as they are declared.
 abbrev pub IsUnset : PlainBlock → PlainProcess → Unset → Type 0
 IsUnset b p u =
     ReadsUnset p u.path.steps.items u.variable × AreDeclared b p u.variable u.path.steps.items
 
--- the sets of the states of a process, no path of which reads a variable unset; or the first of the
--- shortest paths that do
+-- The sets of the states of a process, if no path of it reads a variable unset; or else the first
+-- of the shortest paths that do so.
 abbrev pub IsSurvey : PlainBlock → PlainProcess → Result (Vec ℕ) Unset → Type 0
 IsSurvey b p (Ok sets) = AreSettled p sets.items × NeverReadsUnset p
 IsSurvey b p (Err u) =
     IsUnset b p u × IsShortest p u.path.steps.items × IsFirst p u.path.steps.items
 
--- those of each process
+-- For each process, the sets of its states.
 abbrev pub AllSettled : List PlainProcess → List (Vec ℕ) → Type 0
 AllSettled ps sets = AllZip (λ p (v : Vec ℕ). AreSettled p v.items) ps sets
 
--- the same for all processes
+-- As `IsSurvey`, for all processes.
 abbrev pub AreSurveys : PlainBlock → Result (Vec (Vec ℕ)) Unset → Type 0
 AreSurveys b (Ok sets) =
     AllSettled (processes_of b) sets.items × All NeverReadsUnset (processes_of b)

@@ -1,4 +1,4 @@
-//! What a part of a transition does with the variables: which it reads before it sets them, and which it leaves unset.
+//! The variables that a part of a transition reads before it sets them, and those that it doesn't set.
 ghost use Rattle.std.specs.Prelude.{◌≡◌, ◌++◌, ◌∷◌, [], List, map};
 ghost use Rattle.std.specs.List.{flat_map};
 ghost use Rattle.std.specs.Option.{option_to_list};
@@ -14,19 +14,19 @@ use sdl_ast::{Action, Assignment, Expression, Identifier, Sending};
 use sdl_lex::Name;
 use sdl_tables::{ProcessTable, Variable};
 
-/// What a part of a transition does with the variables. Bit v is that of variable v.
+/// The variables that a part of a transition reads and sets. Bit v stands for variable v.
 #[derive(Clone, Copy)]
 pub(crate) struct Flow {
-    /// What it reads before it sets it.
+    /// The variables that it reads before it sets them.
     pub reads: u32,
-    /// What it doesn't set.
+    /// The variables that it doesn't set.
     pub keeps: u32,
-    /// Where it first reads them so.
+    /// The first place that reads each of them so.
     pub firsts: Firsts,
 }
 
 impl Flow {
-    /// What nothing at all does.
+    /// The flow of a part that reads and sets nothing.
     fn empty() -> Flow
         ensures { (p : PlainProcess) → Does p [] result }
     {
@@ -37,7 +37,7 @@ impl Flow {
         }
     }
 
-    /// What this part and the next one after it do together.
+    /// The flow of this part and of the next one together.
     fn followed_by(self, next: Flow) -> Flow
         ensures { (p : PlainProcess) (xs ys : List Event) → Does p xs self → Does p ys next → Does p (xs ++ ys) result }
     {
@@ -51,8 +51,8 @@ impl Flow {
     }
 }
 
-/// The bit of the variable with a name: none where there is no such variable among the first 32. No two variables have
-/// one name, as the process of a table says.
+/// The bit of the variable with this name, or 0 if no such variable is among the first 32. The process table guarantees
+/// that no two variables have the same name.
 fn bit(table: &ProcessTable, name: Name) -> u32
     ensures { Tells (variable_names (process_of table.now)) (λ x. same_name x name) result }
 {
@@ -63,7 +63,7 @@ fn bit(table: &ProcessTable, name: Name) -> u32
     }
 }
 
-/// A variable is read.
+/// The flow of reading a variable.
 fn read(table: &ProcessTable, id: Identifier) -> Flow
     ensures { Does (process_of table.now) (reads id.name ∷ []) result }
 {
@@ -75,7 +75,7 @@ fn read(table: &ProcessTable, id: Identifier) -> Flow
     }
 }
 
-/// A variable is set.
+/// The flow of setting a variable.
 fn set(table: &ProcessTable, name: Name) -> Flow
     ensures { Does (process_of table.now) (sets name ∷ []) result }
 {
@@ -86,7 +86,7 @@ fn set(table: &ProcessTable, name: Name) -> Flow
     }
 }
 
-/// The variables of an expression are read, from left to right.
+/// The flow of an expression, which reads its variables from left to right.
 pub(crate) fn expression_flow(table: &ProcessTable, expression: &Expression) -> Flow
     ensures { Does (process_of table.now) (tree_events (tree_of expression.now)) result }
 {
@@ -101,7 +101,7 @@ pub(crate) fn expression_flow(table: &ProcessTable, expression: &Expression) -> 
     }
 }
 
-/// The value of an assignment is read, and then its variable is set.
+/// The flow of an assignment, which reads the variables of its value and then sets its own.
 fn assignment_flow(table: &ProcessTable, assignment: &Assignment) -> Flow
     ensures { Does (process_of table.now) (assignment_events (assignment_of assignment.now)) result }
 {
@@ -109,7 +109,7 @@ fn assignment_flow(table: &ProcessTable, assignment: &Assignment) -> Flow
     value.followed_by(set(table, assignment.variable.name))
 }
 
-/// Assignments, one after another.
+/// The flow of assignments, one after another.
 fn assignments_flow(table: &ProcessTable, assignments: &[Assignment]) -> Flow
     ensures { Does (process_of table.now) (flat_map assignment_events (map assignment_of assignments.now)) result }
 {
@@ -120,7 +120,7 @@ fn assignments_flow(table: &ProcessTable, assignments: &[Assignment]) -> Flow
     flow
 }
 
-/// The parameters of a signal are read, one after another.
+/// The flow of the parameters of a signal, which are read one after another.
 fn parameters_flow(table: &ProcessTable, parameters: &[Expression]) -> Flow
     ensures { Does (process_of table.now) (flat_map tree_events (map tree_of parameters.now)) result }
 {
@@ -131,7 +131,7 @@ fn parameters_flow(table: &ProcessTable, parameters: &[Expression]) -> Flow
     flow
 }
 
-/// The parameters of sendings are read, one after another.
+/// The flow of sendings, whose parameters are read one after another.
 fn sendings_flow(table: &ProcessTable, sendings: &[Sending]) -> Flow
     ensures { Does (process_of table.now) (flat_map sending_events (map sending_of sendings.now)) result }
 {
@@ -142,7 +142,7 @@ fn sendings_flow(table: &ProcessTable, sendings: &[Sending]) -> Flow
     flow
 }
 
-/// What an action does: RESET does nothing.
+/// The flow of an action. RESET reads and sets nothing.
 pub(crate) fn action_flow(table: &ProcessTable, action: &Action) -> Flow
     ensures { Does (process_of table.now) (action_events (action_of action.now)) result }
 {
@@ -154,7 +154,7 @@ pub(crate) fn action_flow(table: &ProcessTable, action: &Action) -> Flow
     }
 }
 
-/// Whether an action is a TASK in which all is quoted.
+/// Whether an action is a TASK that holds only quoted text.
 pub(crate) fn is_quoted(action: &Action) -> bool
     ensures { result ≡ is_quoted (action_of action.now) }
 {
@@ -166,7 +166,7 @@ pub(crate) fn is_quoted(action: &Action) -> bool
     }
 }
 
-/// A variable is set as its process begins, where it has an initial value.
+/// The flow of a variable at the start of its process, which sets it if it has an initial value.
 fn initial_flow(table: &ProcessTable, variable: &Variable) -> Flow
     ensures { Does (process_of table.now) (initial_sets (variable_of variable.now)) result }
 {
@@ -176,7 +176,7 @@ fn initial_flow(table: &ProcessTable, variable: &Variable) -> Flow
     }
 }
 
-/// The variables with initial values are set.
+/// The flow of the initial values, which set their variables.
 pub(crate) fn initials_flow(table: &ProcessTable, variables: &[Variable]) -> Flow
     ensures { Does (process_of table.now) (flat_map initial_sets (map variable_of variables.now)) result }
 {
@@ -187,7 +187,7 @@ pub(crate) fn initials_flow(table: &ProcessTable, variables: &[Variable]) -> Flo
     flow
 }
 
-/// The variable of an INPUT's place is set, where it names one.
+/// The flow of a place of an INPUT, which sets its variable if it names one.
 fn place_flow(table: &ProcessTable, place: Option<Identifier>) -> Flow
     ensures { Does (process_of table.now) (map (λ id. sets id.name) (option_to_list place)) result }
 {
@@ -197,7 +197,7 @@ fn place_flow(table: &ProcessTable, place: Option<Identifier>) -> Flow
     }
 }
 
-/// The variables of an INPUT's places are set, one after another.
+/// The flow of the places of an INPUT, which set their variables one after another.
 pub(crate) fn places_flow(table: &ProcessTable, places: &[Option<Identifier>]) -> Flow
     ensures { Does (process_of table.now) (place_events places.now) result }
 {

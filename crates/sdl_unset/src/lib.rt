@@ -1,4 +1,4 @@
-//! Whether a control path reads a variable before it is set (S11), and by which path; if none does, what is set in each state.
+//! Which control path reads a variable before it is set (S11), or else which variables are set in each state.
 #![tactic(auto)]
 
 mod firsts;

@@ -1,10 +1,10 @@
-//! Which of two paths is named.
+//! Which of two paths the error names.
 ghost use Rattle.std.specs.Prelude.{◌≡◌, ◌⊎◌, true, false, length};
 ghost use Rattle.sdl_unset.specs.Order.{Precedes, Earlier, Before, NotAfter};
 
 use crate::paths::Step;
 
-/// Whether one step stands before another in the text.
+/// Whether a step comes before another one in the text.
 fn precedes(one: Step, other: Step) -> bool
     ensures first { result ≡ true → Precedes one other }
     ensures not_first { result ≡ false → Precedes one other → ⊥ }
@@ -18,7 +18,7 @@ fn precedes(one: Step, other: Step) -> bool
     }
 }
 
-/// Whether the first other step of a path stands before that of another one with as many steps.
+/// Whether, at the first step where two paths of the same length differ, the first path comes first in the text.
 fn is_earlier(path: &[Step], other: &[Step]) -> bool
     requires { length path.now ≡ length other.now }
     ensures earlier { result ≡ true → Earlier path.now other.now }
@@ -35,7 +35,7 @@ fn is_earlier(path: &[Step], other: &[Step]) -> bool
     false
 }
 
-/// Whether a path has fewer steps than another one, or as many and comes first in the text.
+/// Whether a path has fewer steps than another one, or the same number and comes first in the text.
 pub fn is_before(path: &[Step], other: &[Step]) -> bool
     ensures before { result ≡ true → Before path.now other.now }
     ensures not_before { result ≡ false → NotAfter other.now path.now }

@@ -1,4 +1,4 @@
-//! Whether a variable can be read before it is set, on a path through the transitions of a process.
+//! Whether a path through the transitions of a process reads a variable before it is set.
 ghost use Rattle.std.specs.Prelude.{◌≡◌, ℕ, ◌<◌, ◌+◌, List, [], ◌∷◌, ◌++◌, length, IfOk, OnOk, IfSome, IfNone, vec_len};
 ghost use Rattle.sdl_unset.specs.Graph.{has, ReadsUnset, IsShortest, IsSeen, Covers, IsClosed, IsClosedSet, AreEntered, IfUnset, IfSet};
 ghost use Rattle.sdl_unset.specs.Order.{IsFirst, IsSorted, AreSorted};
@@ -16,43 +16,43 @@ pub struct Passage {
     pub keeps: u32,
 }
 
-/// What the walks of a transition do with the variables.
+/// The variables that the walks of a transition read unset, and those that they leave unset.
 #[derive(Debug, Drop)]
 pub struct Summary {
     /// Bit v says that some walk reads variable v before it sets it.
     pub reads: u32,
-    /// Where walks end and what they leave unset, in the order of the states.
+    /// The states in which walks end, with the variables that they leave unset, in the order of the states.
     pub passages: Vec<Passage>,
 }
 
-/// The transitions of a process.
+/// The transitions of a process, by number.
 #[derive(Debug, Drop)]
 pub struct Graph {
-    /// The one after START.
+    /// The transition after START.
     pub start: Summary,
-    /// Those of each state by number, in the order of its inputs.
+    /// The transitions of each state by number, in the order of its inputs.
     pub states: Vec<Vec<Summary>>,
 }
 
-/// A transition by its place. They are in the order of the text.
+/// A transition by its place. Steps are ordered as in the text.
 #[derive(Clone, Copy, Debug, PartialEq, Eq, PartialOrd, Ord)]
 pub enum Step {
-    /// The one after START.
+    /// The transition after START.
     Start,
-    /// That of an input: the number of the state, and the number of the input there.
+    /// The transition of an input: the number of the state, and the number of the input in this state.
     Input(usize, usize),
 }
 
-/// What becomes of a variable.
+/// Whether a path reads a variable unset.
 #[derive(Debug, Drop)]
 pub enum Fate {
     /// The transitions of this path read it unset.
     Unset(Vec<Step>),
-    /// No path reads it unset. The marks say of each state, by number, whether a path enters it with the variable unset.
+    /// No path reads it unset. Each state, by number, has a mark if a path enters it with the variable unset.
     Set(Vec<bool>),
 }
 
-/// A state that was reached, and a way to it.
+/// A state that the search has reached, and a path to it.
 #[derive(Drop)]
 struct Visit {
     state: usize,
@@ -67,7 +67,7 @@ fn contains(bits: u32, variable: u32) -> bool
     (bits >> variable) & 1 == 1
 }
 
-/// The path with one step more.
+/// The path with this step added at its end.
 fn extended(alloc: Global, path: &[Step], step: Step) -> Result<Vec<Step>, AllocError>
     ensures { IfOk result (λ v. v.items ≡ path.now ++ step ∷ []) }
 {
@@ -76,7 +76,7 @@ fn extended(alloc: Global, path: &[Step], step: Step) -> Result<Vec<Step>, Alloc
     Ok(longer)
 }
 
-/// Visits a state, if it wasn't seen yet.
+/// Adds a visit of a state, if there is such a state and the search hasn't seen it yet.
 fn see(
     alloc: Global,
     state: usize,
@@ -99,7 +99,7 @@ fn see(
     Ok(())
 }
 
-/// Visits the state of each passage that leaves the variable unset, if it wasn't seen yet.
+/// Adds a visit of each state to which a passage leads with the variable unset, if the search hasn't seen it yet.
 fn enter(
     alloc: Global,
     passages: &[Passage],
@@ -123,7 +123,7 @@ fn enter(
     Ok(())
 }
 
-/// Goes through the inputs of a state: the path to one that reads the variable, or a visit of each state that they lead to.
+/// Goes through the inputs of a state. Returns the path to one that reads the variable, or visits the next states.
 fn expand(
     alloc: Global,
     inputs: &[Summary],
@@ -155,11 +155,10 @@ fn expand(
     Ok(None)
 }
 
-/// Whether some path reads the variable unset. Of several it is one with the fewest transitions, and the first of these
-/// in the order of the text, where the passages of each transition are in the order of the states: a path comes before another
-/// one where its first other transition comes before that of the other one.
-///
-/// `variable` is below 32. A passage to a state that the graph lacks leads nowhere.
+/// Searches for a path that reads the variable unset. Returns one with the fewest transitions, and of these the first
+/// in the order of the text, if each transition has its passages in the order of the states. The first transition in
+/// which two paths differ decides which comes first. `variable` is below 32. A passage to a state that the graph lacks
+/// leads nowhere. Fails only if memory runs out.
 pub fn first_unset(alloc: Global, graph: &Graph, variable: u32) -> Result<Fate, AllocError>
     requires { variable < 32 }
     ensures found { IfOk result (λ f. IfUnset f (λ path. ReadsUnset graph.now variable path.items)) }
@@ -189,7 +188,7 @@ pub fn first_unset(alloc: Global, graph: &Graph, variable: u32) -> Result<Fate, 
     }
 }
 
-/// Goes on from what was visited until a path is found, or all that can be reached was visited.
+/// Expands the visits in turn until it finds a path or has visited every state that can be reached.
 fn search(
     alloc: Global,
     graph: &Graph,

@@ -1,4 +1,4 @@
-//! Where the last transition of a path reads a variable unset, so that of several variables the one that is read first is named.
+//! Where the last transition of a path reads a variable unset; of several variables, the one read first is named.
 ghost use Rattle.std.specs.Prelude.{◌≡◌, IfOk, length};
 ghost use Rattle.sdl_ast.specs.Views.{process_of};
 ghost use Rattle.sdl_tables.specs.Names.{variables_of};
@@ -26,7 +26,7 @@ fn transition_at<'a>(
     }
 }
 
-/// The last transition of a path, where these are the inputs of the states.
+/// The last transition of a path, given the inputs of the states.
 fn last_transition<'a>(
     table: &ProcessTable<'a>,
     inputs: &[Vec<InputRow<'a>>],
@@ -39,7 +39,7 @@ fn last_transition<'a>(
     }
 }
 
-/// The least place where the last transition of a path reads a variable unset, if it does.
+/// The least place where the last transition of a path reads a variable unset, if it does so.
 fn read_place(
     alloc: Global,
     table: &ProcessTable,
@@ -56,8 +56,8 @@ fn read_place(
     }
 }
 
-/// For each variable, by number, the least place where the last transition of its path reads it unset; none where no path
-/// does. The walkers are those of the connections.
+/// For each variable, by number, the least place where the last transition of its path reads it unset, or `None` if no
+/// path does. The walkers are those of the connections.
 pub(crate) fn read_places(
     alloc: Global,
     table: &ProcessTable,

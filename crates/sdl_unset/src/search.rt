@@ -1,4 +1,4 @@
-//! Which variables of a process a control path reads before they are set, and which of them is named.
+//! The variables of a process that a control path reads before they are set, and which of them the error names.
 ghost use Rattle.std.specs.Prelude.{◌≡◌, ◌⊎◌, [], ℕ, List, ◌≤◌, true, false, Some, length, IfOk, IfSome, IfNone};
 ghost use Rattle.sdl_unset.specs.Order.{NotAfter};
 ghost use Rattle.sdl_ast.specs.Plain.{PlainBlock};
@@ -19,7 +19,7 @@ use crate::walker::Walker;
 use sdl_tables::ProcessTable;
 use std::alloc::{AllocError, Global};
 
-/// What becomes of each variable of a process, by number. The walkers are those of its connections.
+/// The fate of each variable of a process, by number. The walkers are those of its connections.
 pub(crate) fn find_fates(
     alloc: Global,
     table: &ProcessTable,
@@ -40,7 +40,7 @@ pub(crate) fn find_fates(
     Ok(fates)
 }
 
-/// The path that reads a variable unset; empty where there is none.
+/// The path that reads a variable unset; empty if there is none.
 pub(crate) fn path_at(fates: &[Fate], variable: usize) -> &[crate::paths::Step]
     ensures { result.now ≡ fate_path fates.now variable }
 {
@@ -51,7 +51,7 @@ pub(crate) fn path_at(fates: &[Fate], variable: usize) -> &[crate::paths::Step]
     }
 }
 
-/// Where a variable is read unset; none where no path does.
+/// The place that reads a variable unset; `None` if no path does.
 fn place_at(places: &[Option<u32>], variable: usize) -> Option<u32> {
     match places.get(variable) {
         Some(place) => *place,
@@ -59,8 +59,8 @@ fn place_at(places: &[Option<u32>], variable: usize) -> Option<u32> {
     }
 }
 
-/// Whether the first variable is named before the other: its path has fewer transitions, or its first other transition
-/// comes first in the text, or its unset read does.
+/// Whether the first variable is named before the other. Its path comes before the other's, or neither path comes first
+/// and it is read unset earlier in the text.
 fn comes_first(fates: &[Fate], places: &[Option<u32>], one: usize, other: usize) -> bool
     ensures first { result ≡ true → NotAfter (fate_path fates.now one) (fate_path fates.now other) }
     ensures last { result ≡ false → NotAfter (fate_path fates.now other) (fate_path fates.now one) }
@@ -76,7 +76,7 @@ fn comes_first(fates: &[Fate], places: &[Option<u32>], one: usize, other: usize)
     place_at(places, one) < place_at(places, other)
 }
 
-/// The one of two variables that is named: the path of neither is named before its own.
+/// The one of two variables that is named: its path isn't after the path of either.
 fn first_of(fates: &[Fate], places: &[Option<u32>], best: Option<usize>, other: usize) -> usize
     ensures one { (result ≡ other) ⊎ (best ≡ Some result) }
     ensures other { NotAfter (fate_path fates.now result) (fate_path fates.now other) }
@@ -94,7 +94,7 @@ fn first_of(fates: &[Fate], places: &[Option<u32>], best: Option<usize>, other: 
     }
 }
 
-/// The variable that is named, of those that are read unset.
+/// The variable that is named, if any is read unset.
 pub(crate) fn find_first(fates: &[Fate], places: &[Option<u32>]) -> Option<usize>
     ensures found { IfSome result (IsUnsetAt fates.now) }
     ensures first { IfSome result (HasFirst fates.now) }

@@ -1,4 +1,4 @@
-//! Which variables are set in each state, as the bits of a number.
+//! The variables that are set in each state, as the bits of a number.
 ghost use Rattle.std.specs.Prelude.{◌≡◌, ℕ, ◌≤◌, Some, length, IfOk, slice_get};
 ghost use Rattle.std.specs.Int.{bit_at};
 ghost use Rattle.sdl_unset.specs.Fates.{is_set_in, set_bit};
@@ -31,7 +31,7 @@ fn set_in(fates: &[Fate], state: usize) -> u32
     set
 }
 
-/// The variables that are set in each of so many states.
+/// The variables that are set in each of the first `count` states.
 pub(crate) fn sets_in(alloc: Global, fates: &[Fate], count: usize) -> Result<Vec<u32>, AllocError>
     requires { length fates.now ≤ MOST_VARIABLES }
     ensures count { IfOk result (λ sets. length sets.items ≡ count) }

@@ -1,4 +1,4 @@
-//! Whether control paths read variables before they are set, and if none does, what is set in each state.
+//! Whether control paths read variables before they are set; if none does, the variables that are set in each state.
 ghost use Rattle.std.specs.Prelude.{◌≡◌, ◌⊎◌, ◌<◌, ◌≤◌, [], Some, length, IfOk, IfSome};
 ghost use Rattle.sdl_ast.specs.Views.{process_of, block_of};
 ghost use Rattle.sdl_tables.specs.Names.{variables_of, processes_of};
@@ -29,7 +29,7 @@ pub struct Unset {
     pub path: ControlPath,
 }
 
-/// The set of each state of a process, unless a variable is read unset, where this becomes of its variables.
+/// The set variables of each state of a process, or else the variable that is named as read unset, given their fates.
 fn survey_fates(
     alloc: Global,
     block: &BlockTable,
@@ -55,7 +55,7 @@ fn survey_fates(
     }
 }
 
-/// The set of each state of a process, unless a variable is read unset.
+/// The set variables of each state of a process, or else the variable that is named as read unset.
 fn survey(
     alloc: Global,
     block: &BlockTable,
@@ -74,7 +74,7 @@ fn survey(
     survey_fates(alloc, block, table, &fates, &places)
 }
 
-/// The one of two that is named: the one with fewer transitions, or else the first.
+/// Of two variables that are read unset: the one whose path has fewer transitions, or else the first.
 fn shorter(best: Option<Unset>, other: Unset) -> Unset
     ensures one { ((result ≡ other) × IfSome best (λ one. length other.path.steps.items < length one.path.steps.items)) ⊎ (best ≡ Some result) }
     ensures fewer { length result.path.steps.items ≤ length other.path.steps.items }
@@ -92,8 +92,8 @@ fn shorter(best: Option<Unset>, other: Unset) -> Unset
     }
 }
 
-/// The sets of the states of each process, unless a variable is read unset (S11; Z.100: a variable is undefined until it is
-/// assigned). The orders are those of its connections, each behind those that it joins.
+/// The variables set in each state of each process, or else a variable read unset (S11; Z.100: a variable is undefined
+/// until it is assigned). Each order lists the connections of a process, each after those that it joins.
 pub fn settle(
     alloc: Global,
     block: &BlockTable,

@@ -1,4 +1,4 @@
-//! A control path with its names as they are declared.
+//! A control path with its names spelled as in their declarations.
 ghost use Rattle.std.specs.Prelude.{◌≡◌, ◌<◌, true, length, map, IfOk, All};
 ghost use Rattle.std.specs.List.{AllZip};
 ghost use Rattle.std.specs.Option.{option_map_or};
@@ -13,7 +13,7 @@ use sdl_sound::{ControlPath, Step};
 use sdl_tables::{BlockTable, InputRow, ProcessTable};
 use std::alloc::{AllocError, Global};
 
-/// A timer's name as it is declared.
+/// The name of a timer as it is declared, or `name` itself if no timer has it.
 fn timer_name(table: &ProcessTable, name: Name) -> Name
     ensures same { same_name result name ≡ true }
     ensures declared { result ≡ option_map_or (λ id. id.name) (timer_named (process_of table.now) name) name }
@@ -25,7 +25,7 @@ fn timer_name(table: &ProcessTable, name: Name) -> Name
     }
 }
 
-/// The name of a signal or timer as it is declared.
+/// The name of a signal or timer as it is declared, or `name` itself if neither has it.
 fn declared_name(block: &BlockTable, table: &ProcessTable, name: Name) -> Name
     ensures same { same_name result name ≡ true }
     ensures declared { result ≡ declared_name (block_of block.now) (process_of table.now) name }

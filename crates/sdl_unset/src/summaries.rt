@@ -1,4 +1,4 @@
-//! What each transition of a process does with the variables, as a graph by numbers.
+//! Which variables each transition of a process reads and leaves unset, as a graph by numbers.
 ghost use Rattle.std.specs.Prelude.{◌≡◌, ◌≤◌, ◌++◌, [], ℕ, List, map, length, IfOk, OnOk};
 ghost use Rattle.std.specs.List.{flat_map, AllZip};
 ghost use Rattle.sdl_unset.specs.Order.{AreSorted, IsSorted};
@@ -26,7 +26,7 @@ use sdl_sound::standing_inputs;
 use sdl_tables::ProcessTable;
 use std::alloc::{AllocError, Global};
 
-/// A passage for each state in which some variable may be unset.
+/// A passage for each state that some walk enters with a variable unset.
 fn passages(alloc: Global, masks: &[u32]) -> Result<Vec<Passage>, AllocError>
     ensures passages { IfOk result (λ v. ArePassages masks.now v.items) }
     ensures sorted { IfOk result (λ v. AreSorted v.items) }
@@ -43,7 +43,7 @@ fn passages(alloc: Global, masks: &[u32]) -> Result<Vec<Passage>, AllocError>
     Ok(passages)
 }
 
-/// The walker at the end of a transition: the same for each signal that its INPUT names.
+/// The walker at the end of a transition, which is the same for each signal that its INPUT names.
 pub(crate) fn text_walker(
     alloc: Global,
     table: &ProcessTable,
@@ -58,7 +58,7 @@ pub(crate) fn text_walker(
     Ok(walker)
 }
 
-/// What a transition does after `first`, where a walker has gone through it.
+/// The summary of a transition after `first`, given the walker at the end of its text.
 fn summary(
     alloc: Global,
     table: &ProcessTable,
@@ -80,7 +80,7 @@ fn summary(
     })
 }
 
-/// What START's transition does, behind the initial values.
+/// The summary of the transition of START, after the initial values.
 fn start_summary(
     alloc: Global,
     table: &ProcessTable,
@@ -96,7 +96,7 @@ fn start_summary(
     summary(alloc, table, first, &walked)
 }
 
-/// The summaries for the signals of an INPUT, whose transition a walker has gone through.
+/// Adds the summaries for the signals of an INPUT, given the walker at the end of its transition.
 fn push_stimuli(
     alloc: Global,
     table: &ProcessTable,
@@ -117,7 +117,7 @@ fn push_stimuli(
     Ok(())
 }
 
-/// The summaries for the signals of an INPUT, at the end.
+/// Adds the summaries for the signals of an INPUT.
 fn push_input(
     alloc: Global,
     table: &ProcessTable,
@@ -134,7 +134,7 @@ fn push_input(
     push_stimuli(alloc, table, summaries, &walked, &input.stimuli)
 }
 
-/// The summaries of what a state takes by these INPUTs.
+/// The summaries of a state's inputs, given its INPUTs.
 fn input_summaries(
     alloc: Global,
     table: &ProcessTable,
@@ -152,7 +152,7 @@ fn input_summaries(
     Ok(summaries)
 }
 
-/// The summaries of what each of these states takes.
+/// The summaries of the inputs of each of these states.
 fn state_summaries(
     alloc: Global,
     table: &ProcessTable,
@@ -170,8 +170,8 @@ fn state_summaries(
     Ok(states_summaries)
 }
 
-/// The graph of a process: what the walks of each of its transitions do with its variables, by number. The walkers
-/// are those of its connections.
+/// The graph of a process: the variables, by number, that the walks of each transition read and leave unset. The
+/// walkers are those of its connections.
 pub(crate) fn graph_of(
     alloc: Global,
     table: &ProcessTable,

@@ -1,4 +1,4 @@
-//! What walks may do with the variables up to some place, all variables at once.
+//! The variables that the walks up to some place may read and leave unset, for all variables at once.
 ghost use Rattle.std.specs.Prelude.{◌≡◌, ◌<◌, ◌==◌, ◌&&◌, ◌||◌, ℕ, false, List, length, IfOk, All};
 ghost use Rattle.sdl_unset.specs.Graph.{has};
 ghost use Rattle.sdl_ast.specs.Plain.{PlainProcess};
@@ -11,20 +11,20 @@ use crate::firsts::Firsts;
 use crate::flow::Flow;
 use std::alloc::{AllocError, Global};
 
-/// What walks may do up to some place. Bit v is that of variable v.
+/// What the walks up to some place may do. Bit v stands for variable v.
 #[derive(Drop)]
 pub(crate) struct Walker {
-    /// Some walk reads it before it sets it.
+    /// Some walk reads the variable before it sets it.
     pub reads: u32,
-    /// Some walk comes to the place, and doesn't set it.
+    /// Some walk comes to the place and doesn't set the variable.
     pub leaves: u32,
-    /// For each state by number: some walk ends in the state, and doesn't set it.
+    /// For each state by number: some walk ends in the state and doesn't set the variable.
     pub enters: Vec<u32>,
-    /// Where walks first read it so.
+    /// The first place where a walk reads each variable so.
     pub firsts: Firsts,
 }
 
-/// A mask without a bit for each of so many states.
+/// An empty mask for each of `count` states.
 fn empty_masks(alloc: Global, count: usize) -> Result<Vec<u32>, AllocError>
     ensures count { IfOk result (λ masks. length masks.items ≡ count) }
     ensures empty { IfOk result (λ masks. (q : ℕ) → mask_at masks.items q ≡ 0) }
@@ -36,7 +36,7 @@ fn empty_masks(alloc: Global, count: usize) -> Result<Vec<u32>, AllocError>
     Ok(masks)
 }
 
-/// The mask of a state; 0 where there is none.
+/// The mask of a state; 0 if there is no such state.
 fn mask_of(masks: &[u32], state: usize) -> u32
     ensures { result ≡ mask_at masks.now state }
 {
@@ -46,7 +46,7 @@ fn mask_of(masks: &[u32], state: usize) -> u32
     }
 }
 
-/// The bits of a mask are put to those of a state, if that is there.
+/// Adds the bits of a mask to those of a state, if there is such a state.
 fn add_mask(masks: &mut Vec<u32>, state: usize, mask: u32)
     ensures count { length masks.new.items ≡ length masks.old.items }
     ensures bits { state < length masks.old.items → (v q : ℕ)
@@ -57,7 +57,7 @@ fn add_mask(masks: &mut Vec<u32>, state: usize, mask: u32)
     }
 }
 
-/// What others enter, where these may go on with them.
+/// Adds the masks of `others`, for the variables that `keeps` leaves unset.
 fn add_masks(masks: &mut Vec<u32>, keeps: u32, others: &[u32])
     ensures count { length masks.new.items ≡ length masks.old.items }
     ensures bits { length others.now ≡ length masks.old.items → (v q : ℕ)
@@ -69,7 +69,7 @@ fn add_masks(masks: &mut Vec<u32>, keeps: u32, others: &[u32])
 }
 
 impl Walker {
-    /// At the beginning of a text.
+    /// The walker at the beginning of a text.
     pub fn at_start(alloc: Global, states: usize) -> Result<Walker, AllocError>
         ensures { IfOk result (λ w. (p : PlainProcess) → length (states_of p) ≡ states → Stands p (λ x q. leaving) w) }
     {
@@ -82,7 +82,7 @@ impl Walker {
         })
     }
 
-    /// Where no walk comes.
+    /// The walker at a place that no walk reaches.
     fn nowhere(alloc: Global, states: usize) -> Result<Walker, AllocError>
         ensures { IfOk result (λ w. (p : PlainProcess) → length (states_of p) ≡ states → Stands p (λ x q. no_chances) w) }
     {
@@ -95,7 +95,7 @@ impl Walker {
         })
     }
 
-    /// Behind what every walk does.
+    /// Goes on through a part that every walk passes.
     pub fn pass(&mut self, flow: Flow)
         ensures { (p : PlainProcess) (events : List Event) → Does p events flow → Walked p (λ x q. event_chances events x) self.old self.new }
     {
@@ -106,14 +106,14 @@ impl Walker {
         self.leaves &= flow.keeps;
     }
 
-    /// Where no walk goes on.
+    /// Ends all walks.
     pub fn stop(&mut self)
         ensures { (p : PlainProcess) → Walked p (λ x q. no_chances) self.old self.new }
     {
         self.leaves = 0;
     }
 
-    /// At the end in a state.
+    /// Ends all walks in a state.
     pub fn enter(&mut self, state: usize)
         ensures { (p : PlainProcess) → state < length (states_of p)
             → Walked p (λ x q. record { reads = false; leaves = false; enters = state == q }) self.old self.new }
@@ -122,7 +122,7 @@ impl Walker {
         self.leaves = 0;
     }
 
-    /// Behind what the walks of something do.
+    /// Goes on through a part with several walks, given its own walker.
     pub fn join(&mut self, other: &Walker)
         ensures { (p : PlainProcess) (c : Doings) → Stands p c other.now → Walked p c self.old self.new }
     {
@@ -135,7 +135,7 @@ impl Walker {
     }
 }
 
-/// Walkers where no walk comes.
+/// Walkers at places that no walk reaches.
 pub(crate) fn idle_walkers(
     alloc: Global,
     states: usize,

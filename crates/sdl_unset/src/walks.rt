@@ -19,7 +19,7 @@ use sdl_lex::Name;
 use sdl_tables::ProcessTable;
 use std::alloc::{AllocError, Global};
 
-/// The walker of the connection with a name.
+/// The walker of the connection with this name.
 fn joined_walker<'a>(table: &ProcessTable, walkers: &'a [Walker], name: Name) -> Option<&'a Walker>
     ensures { option_map (λ w. w.now) result ≡ option_and_then (slice_get walkers.now) (number_of (connector_names (process_of table.now)) name) }
 {
@@ -29,7 +29,7 @@ fn joined_walker<'a>(table: &ProcessTable, walkers: &'a [Walker], name: Name) ->
     }
 }
 
-/// A JOIN: on goes what the walks of its connection do.
+/// Walks a JOIN: goes on with the walks of its connection.
 fn walk_join(table: &ProcessTable, walkers: &[Walker], walker: &mut Walker, name: Name)
     ensures { (told : _) → AreTold (process_of table.now) told walkers.now
         → Walked (process_of table.now) (λ x q. told x q name) walker.old walker.new }
@@ -40,7 +40,7 @@ fn walk_join(table: &ProcessTable, walkers: &[Walker], walker: &mut Walker, name
     }
 }
 
-/// A NEXTSTATE: the walks end in the state with a name.
+/// Walks a NEXTSTATE: the walks end in the state with this name.
 fn walk_next(table: &ProcessTable, walker: &mut Walker, name: Name)
     ensures { Walked (process_of table.now) (λ x q. record { reads = false; leaves = false; enters = is_state (states_of (process_of table.now)) q name })
         walker.old walker.new }
@@ -51,7 +51,7 @@ fn walk_next(table: &ProcessTable, walker: &mut Walker, name: Name)
     }
 }
 
-/// The end of a transition: behind STOP no walk goes on.
+/// Walks the end of a transition. No walk goes on after STOP.
 fn walk_end(table: &ProcessTable, walkers: &[Walker], walker: &mut Walker, end: End)
     ensures { (told : _) → AreTold (process_of table.now) told walkers.now
         → Walked (process_of table.now) (end_doings (process_of table.now) told end) walker.old walker.new }
@@ -63,7 +63,7 @@ fn walk_end(table: &ProcessTable, walkers: &[Walker], walker: &mut Walker, end: 
     }
 }
 
-/// An action. A TASK in which all is quoted is passed at once: it does nothing with any variable.
+/// Walks an action. A TASK that holds only quoted text reads and sets nothing, and so changes nothing.
 fn walk_action(table: &ProcessTable, walker: &mut Walker, action: &Action)
     ensures { Walked (process_of table.now) (λ x q. event_chances (action_events (action_of action.now)) x) walker.old walker.new }
 {
@@ -73,7 +73,7 @@ fn walk_action(table: &ProcessTable, walker: &mut Walker, action: &Action)
     walker.pass(action_flow(table, action));
 }
 
-/// A transition from its first statement to its end, if it has one.
+/// Walks a transition from its first statement to its end, if it has one.
 #[cycle(walking)]
 pub(crate) fn walk_transition(
     table: &ProcessTable,
@@ -93,7 +93,7 @@ pub(crate) fn walk_transition(
     }
 }
 
-/// A statement: an action, or the question of a DECISION and its answers.
+/// Walks a statement: an action, or the question and the answers of a DECISION.
 #[cycle(walking)]
 fn walk_statement(
     table: &ProcessTable,
@@ -113,7 +113,7 @@ fn walk_statement(
     }
 }
 
-/// The answers of a DECISION.
+/// Walks the answers of a DECISION.
 #[cycle(walking)]
 fn walk_decision(table: &ProcessTable, walkers: &[Walker], walker: &mut Walker, decision: &Decision)
     ensures { (told : _) → AreTold (process_of table.now) told walkers.now
@@ -136,7 +136,7 @@ fn walk_decision(table: &ProcessTable, walkers: &[Walker], walker: &mut Walker, 
     walker.leaves = after;
 }
 
-/// The walker at the end of a connection's text. Nothing stands behind it.
+/// The walker at the end of a connection's text, after which nothing follows.
 fn connection_walker(
     alloc: Global,
     table: &ProcessTable,
@@ -159,7 +159,7 @@ fn connections_in<'a>(table: &ProcessTable<'a>) -> &'a [Connection]
     &table.process().connections
 }
 
-/// The walkers of all connections, by number: in this order each stands behind those that it joins.
+/// The walkers of all connections, by number. In this order each connection comes after those that it joins.
 pub(crate) fn connection_walkers(
     alloc: Global,
     table: &ProcessTable,

@@ -18,7 +18,7 @@ returns-in-Some-clause-same c =
     same_back c.args.name c.in-Some.signal.now.name.name
     (find_holds (λ (s : PlainSignal). same_name c.args.name s.name.name) (signals_of b) (signal_of c.in-Some.signal.now) found)
 
--- the name of a timer, or as it is written
+-- The declared name of a timer, or else the name as it is written.
 abbrev timer_or_written : PlainProcess → List ℕ → List ℕ
 timer_or_written p x = option_map_or (λ id. id.name) (timer_named p x) x
 

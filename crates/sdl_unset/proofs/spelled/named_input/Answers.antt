@@ -22,7 +22,7 @@ index-row-requires c =
     rows_there p states c.args.state c.index-inputs-state.result c.requires.inputs there in
     omega (arith, rows_count p c.args.state c.index-inputs-state.result.items rows, c.requires.step.1)
 
--- what is known of the row of the input
+-- What is known of the row of the input.
 there_is : (p : PlainProcess) (states : List (Vec InputRow)) (q i : ℕ) (rows : Vec InputRow) (row : InputRow) → map rows_inputs states ≡ inputs_by_state p
     → q < length (states_of p) → i < length (inputs_of p q) → rows ≡ get_or states q rows → row ≡ get_or rows.items i row
     → (map row_input rows.items ≡ inputs_of p q) × (slice_get rows.items i ≡ Some row)

@@ -9,7 +9,7 @@ use Rattle.sdl_sound.specs.declared.fault.Step.{Step}
 use Rattle.std.proofs.lemmas.Slice.Zip.{all_zipped_more as all_zip_push}
 use Rattle.sdl_unset.proofs.spelled.named_path.Goals as goal
 
--- one step more, of either relation
+-- One more step, for either relation.
 step_more : (R : number.Step → Step → Type 0) (path : List number.Step) (k : ℕ) (steps grown : List Step) (n : Step) → k < length path
     → grown ≡ steps ++ n ∷ [] → AllZip R (take k path) steps → R (get_or path k First) n → AllZip R (take (k + 1) path) grown
 step_more R path k steps grown n within is before here =

@@ -2,7 +2,7 @@ use Rattle.std.proofs.Common.{◌≡◌, ℕ, ◌+◌, zero, suc, List, [], ◌�
 use Rattle.sdl_unset.specs.Flows.{mask_at}
 use Rattle.sdl_unset.proofs.walker.empty_masks.Goals as goal
 
--- one empty mask more
+-- One more empty mask.
 all_empty : (masks : List ℕ) → ((q : ℕ) → mask_at masks q ≡ 0) → (q : ℕ) → mask_at (masks ++ 0 ∷ []) q ≡ 0
 all_empty [] h zero = refl
 all_empty [] h (suc q) = refl
