@@ -1,4 +1,4 @@
--- Who has a name that a terminal looks for is there, and so is its first instance.
+-- If a set has the name of a process that a terminal looks for, it has the process's first instance.
 use Rattle.std.proofs.Common.{◌≡◌, ℕ, zero, suc, ◌<◌, List, [], ◌∷◌, length, map, Some, arith}
 use Rattle.std.specs.Prelude.{slice_get}
 use Rattle.turn_code.specs.declared.draft.Draft.{Draft}

@@ -1,4 +1,4 @@
--- Where a set counts aborted proving periods, if it does.
+-- The variable in which a set counts aborted proving periods, if it has one.
 use Rattle.std.proofs.Common.{◌≡◌, ℕ, Some}
 use Rattle.std.specs.Prelude.{codes}
 use Rattle.turn_check.specs.Named.{IsFirst, process_names, variable_names}

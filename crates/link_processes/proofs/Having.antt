@@ -1,4 +1,4 @@
--- What a set has, and which of what is wanted it lacks first.
+-- What a set has, and the first requirement that it doesn't meet.
 use Rattle.std.proofs.Common.{◌≡◌, ℕ, suc, ◌+◌, ◌<◌, List, ◌∷◌, length, get_or, drop, drop-cons, sym, ap, ◌∙◌, subst, arith}
 use Rattle.std.specs.Prelude.{All}
 use Rattle.std.proofs.lemmas.List.Elements.{All-cons}
@@ -13,20 +13,20 @@ use Rattle.link_processes.specs.declared.words.SignalName.TheVariants as signal
 use Rattle.link_processes.specs.declared.wanted.Wanted.{Wanted}
 use Rattle.link_processes.specs.declared.wanted.Wanted.TheVariants.{Process}
 
--- ---- the first that is lacking
+-- ---- the first requirement not met
 
 dropped : (all : List Wanted) (i : ℕ) (x : Wanted) → i < length all → drop i all ≡ get_or all i x ∷ drop (i + 1) all
 dropped all i x less =
     let e : suc i ≡ i + 1 = omega arith in drop-cons all i x less ∙ ap (λ (j : ℕ). get_or all i x ∷ drop j all) e
 
--- it lacks this one, and has those before it
+-- the set doesn't meet this one, and meets those before it
 pub lacking_here : (d : Draft) (all : List Wanted) (i : ℕ) (x : Wanted) → i < length all → (Has d (get_or all i x) → ⊥)
     → ((name : Wanted) → IsFirstLacking d name (drop i all) → IsFirstLacking d name all) → IsFirstLacking d (get_or all i x) all
 lacking_here d all i x less h before =
     let P : List Wanted → Type 0 = λ ws. IsFirstLacking d (get_or all i x) ws in
     before (get_or all i x) (subst P (sym (dropped all i x less)) (lacks h))
 
--- it has one more
+-- the set meets one more
 pub lacking_more : (d : Draft) (all : List Wanted) (i : ℕ) (x name : Wanted) → i < length all → Has d (get_or all i x)
     → IsFirstLacking d name (drop (i + 1) all) → IsFirstLacking d name (drop i all)
 lacking_more d all i x name less h lacking =
@@ -38,7 +38,7 @@ all_more d all i x less h left =
     let P : List Wanted → Type 0 = λ ws. All (Has d) ws in
     subst P (sym (dropped all i x less)) (All-cons (Has d) (get_or all i x) (drop (i + 1) all) h left)
 
--- ---- what all of it comes to
+-- ---- what follows if all are met
 
 pub has_processes : (d : Draft) → All (Has d) wanted → HasProcesses d
 has_processes d all process.Lsc = all 0 (Process process.Lsc) (omega arith)

@@ -1,4 +1,4 @@
--- What the actors' signals leave alone, each step of a terminal but those for units leaves alone.
+-- Every step of a terminal except for units leaves what the actors' signals leave.
 use Rattle.std.proofs.Common.{◌≡◌, ℕ, ◌+◌, ◌≤◌, zero, suc, nat_lt, Bool, true, false, cond, Option, Some, None, List, [], ◌∷◌, ◌++◌, length, refl, sym, ap, ◌∙◌, append-nil, length-append, lit≤, arith}
 use Rattle.std.specs.Prelude.{if◌then◌else◌}
 use Rattle.resend_store.specs.declared.messages.Msu.{Msu}
@@ -30,7 +30,7 @@ use Rattle.link_processes.specs.Offering.{told_by, offer_event}
 use Rattle.link_processes.specs.Machine.{with_book, with_transceiver, Step, repeated, heeds, heard, taken_reply, taken_answer, one_taken, emptied, turned, moved_by, moved, rested, offered, all_offered, with_measures, timed, unit_measured, unit_taken, error_taken, octets_taken, out_measured, calm_measured, is_news, counting_told, told_of, sent_by, sent, none_out, handed_out, buffers_emptied}
 use Rattle.link_processes.specs.Laws.{MessagesLaw, KeptLaw}
 
--- a relation between transceivers that holds over each signal, holds over all that takes signals alone
+-- a relation that holds over each signal holds over every step that only takes signals
 module _ (R : TransceiverState → TransceiverState → Type 0) (same : (h : TransceiverState) → R h h) (joined : (a b c : TransceiverState) → R a b → R b c → R a c)
     (each : (s : EnvSignal) (h : TransceiverState) → R h (effect s h)) where
   heeds_keeps : (o : Option EnvSignal) (h : TransceiverState) → R h (heeds o h)
@@ -126,7 +126,7 @@ module _ (R : TransceiverState → TransceiverState → Type 0) (same : (h : Tra
   unfolding sent
   sent_keeps t = by_keeps (with_transceiver (out_measured t) (gone t.transceiver).transceiver) (gone t.transceiver).out
 
--- ---- what waits to be handed out
+-- ---- messages waiting to be handed out
 
 abbrev SameMessages : TransceiverState → TransceiverState → Type 0
 SameMessages a b = b.messages ≡ a.messages
@@ -175,7 +175,7 @@ messages_law law = record {
       (ap length (units_messages law u t) ∙ length-append t.transceiver.messages (accepted_of t.transceiver u)) (few_accepted t.transceiver u);
 }
 
--- ---- what is kept to send
+-- ---- messages held for sending
 
 abbrev LosesNone : TransceiverState → TransceiverState → Type 0
 LosesNone a b = Loses [] a.sender b.sender
@@ -186,7 +186,7 @@ no_loss h = record { kept = refl; sent = omega arith }
 fewer_sent : (g k a b c : ℕ) → g + b ≤ a → k + c ≤ b → k ≡ 0 → g + c ≤ a
 fewer_sent g k a b c h j z = omega (arith, h, j, z)
 
--- nothing is lost behind such a loss
+-- losing nothing more after such a loss keeps it
 loss_stays : (gone : List Msu) (a b c : Window) → Loses gone a b → Loses [] b c → Loses gone a c
 loss_stays gone a b c h k = record {
   kept = h.kept ∙ ap (λ (ms : List Msu). gone ++ ms) k.kept;

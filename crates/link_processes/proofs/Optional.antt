@@ -1,4 +1,4 @@
--- Signals that a set may have.
+-- Optional signals.
 use Rattle.std.proofs.Common.{◌≡◌, ℕ, inl, inr, true, false, List, sym, ap, ◌∙◌, subst}
 use Rattle.std.specs.List.{list_any}
 use Rattle.std.proofs.lemmas.Bool.{cases_order, true≢false}
@@ -9,7 +9,7 @@ use Rattle.link_processes.specs.Known.{option_word, touches, IsTouched}
 use Rattle.link_processes.specs.declared.words.OptionName.{OptionName}
 use Rattle.link_processes.specs.declared.words.OptionName.TheVariants as option
 
--- a name stands first at one place
+-- a name is first at only one place
 pub first_once : (names : List (List ℕ)) (m n : ℕ) (name : List ℕ) → IsFirst names m name → IsFirst names n name → m ≡ n
 first_once names m n name first second =
     elim (cases_order m n) [
@@ -23,7 +23,7 @@ first_once names m n name first second =
 same_number : (j k : SignalNumber) → j.0 ≡ k.0 → j ≡ k
 same_number j k e = ap (λ (n : ℕ). record { 0 = n }) e
 
--- no route carries the first of that name, so none that is first
+-- if no route carries the first signal of this name, no signal of this name is touched
 pub untouched : (d : Draft) (name : OptionName) (j : SignalNumber) → IsFirst (signal_names d) j.0 (option_word name) → list_any (touches j) d.routes ≡ false
     → (k : SignalNumber) → IsTouched d name k → ⊥
 untouched d name j first none k touched =

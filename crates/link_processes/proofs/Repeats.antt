@@ -19,7 +19,7 @@ module _ (f : Processes → Step) where
   goes_on k t u r so h e same =
       ap (repeated f (k - 1)) same ∙ sym (step_by k (k - 1) t true (some_left k h) (sym e)) ∙ so
 
-  -- it was the last one
+  -- the step was the last one
   pub ends : (k : ℕ) (t u r : Processes) → repeated f k t ≡ r → 0 < k → false ≡ (f t).goes → u ≡ (f t).processes → u ≡ r
   ends k t u r so h e same = same ∙ sym (step_by k (k - 1) t false (some_left k h) (sym e)) ∙ so
 
@@ -27,7 +27,7 @@ module _ (f : Processes → Step) where
   unfolding repeated
   none t = refl
 
-  -- there may be no more
+  -- no more steps are allowed
   pub is_spent : (k : ℕ) (t r : Processes) → repeated f k t ≡ r → k ≤ 0 → t ≡ r
   is_spent k t r so h =
       let over : k ≡ 0 = omega (arith, h) in sym (none t) ∙ sym (ap (λ (j : ℕ). repeated f j t) over) ∙ so

@@ -13,7 +13,7 @@ use Rattle.actor_book.proofs.Leasts.{blocked_not_made}
 with_same : (t : Processes) (b : Ledger) → b ≡ t.book → t ≡ with_book t b
 with_same t b h = ap (with_book t) (sym h)
 
--- what one step of an actor comes to, where it is known what such steps come to afterwards
+-- the run after one step, given the runs that follow it
 module _ (stays : StaysLaw) (k : ℕ) (later : Processes → Processes) (runs : (u : Processes) → IsRun k u (later u)) where
   after : Step → Processes
   after s = cond s.goes (later s.processes) s.processes

@@ -1,4 +1,4 @@
--- Which names a terminal knows, and which numbers they have in a set.
+-- The names that a terminal knows, and their numbers in a set.
 use Rattle.std.specs.Prelude.{◌≡◌, ℕ, ◌==◌, Bool, true, not, ◌&&◌, ◌||◌, ◌⊎◌, List, [], ◌∷◌, Some}
 use Rattle.std.specs.Prelude.{codes}
 use Rattle.std.specs.List.{list_any}
@@ -57,7 +57,7 @@ signal_word signal.Down = codes "Down"
 signal_word signal.RemoteOut = codes "RemoteOut"
 signal_word signal.RemoteBack = codes "RemoteBack"
 
--- the sorts of the parameters that a signal has where a terminal sends or hears it
+-- the sorts of the parameters that a terminal's signal has
 abbrev pub signal_sorts : SignalName → List Sort
 signal_sorts signal.PowerOn = []
 signal_sorts signal.StartLink = []
@@ -83,7 +83,7 @@ signal_sorts signal.Down = Integer ∷ []
 signal_sorts signal.RemoteOut = []
 signal_sorts signal.RemoteBack = []
 
--- signals that a text may have
+-- the optional signals
 abbrev pub option_word : OptionName → List ℕ
 option_word option.Flush = codes "Flush"
 option_word option.Continue = codes "Continue"
@@ -104,25 +104,25 @@ option_sorts option.Clear = []
 option_sorts option.Odd = Integer ∷ []
 option_sorts option.Counting = Boolean ∷ []
 
--- the number of no signal
+-- a number that no signal has
 abbrev pub NO_SIGNAL : ℕ
 NO_SIGNAL = 255
 
--- whether the number is that of a signal
+-- whether the number is a signal's
 abbrev pub is_there : SignalNumber → Bool
 is_there k = not (k.0 == NO_SIGNAL)
 
--- the number is that of the first process of that name
+-- the number of the first process of this name
 abbrev pub IsProcess : Draft → ℕ → ProcessName → Type 0
 IsProcess d n p = IsFirst (process_names d) n (process_word p)
 
--- the number is that of the first instance of the first process of that name
+-- the number of the first instance of the first process of this name
 pub record IsActor (d : Draft) (n : ℕ) (p : ProcessName) : Type 0 where
   pub process : ℕ
   pub called : IsProcess d process p
   pub number : place_of (named process 1) (actors_of d.processes) ≡ Some n
 
--- the number is that of the first signal of that name
+-- the number of the first signal of this name
 abbrev pub IsSignal : Draft → ℕ → SignalName → Type 0
 IsSignal d n s = IsFirst (signal_names d) n (signal_word s)
 
@@ -163,20 +163,20 @@ pub record AreOutputs (d : Draft) (x : Outputs) : Type 0 where
   pub remote_out : IsSignal d x.remote_out.0 signal.RemoteOut
   pub remote_back : IsSignal d x.remote_back.0 signal.RemoteBack
 
--- ---- signals that a set may have
+-- ---- optional signals
 
--- a route from or to the environment carries the signal
+-- whether a route from or to the environment carries the signal
 abbrev pub touches : SignalNumber → DraftRoute → Bool
 touches s r = (is_environment r.from || is_environment r.to)
     && list_any (λ (x : SignalNumber). x.0 == s.0) r.signals
 
--- the first signal of that name, which a route from or to the environment carries; a text's own
--- signals between processes are its own
+-- the first signal of this name, if a route from or to the environment carries it; signals that a
+-- text uses only between its processes don't count
 pub record IsTouched (d : Draft) (name : OptionName) (k : SignalNumber) : Type 0 where
   pub named : IsFirst (signal_names d) k.0 (option_word name)
   pub carried : list_any (touches k) d.routes ≡ true
 
--- The number is that of such a signal; where there is none, that of no signal.
+-- The number of the optional signal, or, if the text lacks it, the number of no signal.
 abbrev pub IsOption : Draft → SignalNumber → OptionName → Type 0
 IsOption d n o =
     IsTouched d o n ⊎ (((k : SignalNumber) → IsTouched d o k → ⊥) × (n.0 ≡ NO_SIGNAL))
@@ -193,20 +193,19 @@ pub record AreOptions (d : Draft) (x : Options) : Type 0 where
 
 -- ---- the count of aborted proving periods
 
--- the number of no actor
+-- a number that no actor has
 abbrev pub NO_ACTOR : ℕ
 NO_ACTOR = 65535
 
--- The first variable Cp of the first instance of the first process IAC (Q.703, figure 9: the
--- aborted
--- proving periods of the alignment under way); case is ignored.
+-- The first variable Cp of the first instance of the first process IAC (Q.703, figure 9): it counts
+-- the aborted proving periods of the current alignment. Case is ignored.
 pub record IsCount (d : Draft) (x : Periods) : Type 0 where
   pub process : ℕ
   pub called : IsFirst (process_names d) process (codes "IAC")
   pub number : place_of (named process 1) (actors_of d.processes) ≡ Some x.actor
   pub variable : IsFirst (variable_names d process) x.variable.0 (codes "cp")
 
--- that variable, where the set has it; where it hasn't the number is that of no actor
+-- that variable; if the set lacks it, the number of no actor
 abbrev pub ArePeriods : Draft → Periods → Type 0
 ArePeriods d x = IsCount d x ⊎ (((y : Periods) → IsCount d y → ⊥) × (x.actor ≡ NO_ACTOR))
 

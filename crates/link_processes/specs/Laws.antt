@@ -1,4 +1,4 @@
--- What follows from the steps of a terminal.
+-- Laws that follow from the steps of a terminal.
 use Rattle.std.specs.Prelude.{◌≡◌, ℕ, zero, suc, ◌+◌, ◌++◌, ◌≤◌, Bool, Option, List, [], length}
 use Rattle.su_octets.specs.declared.units.Unit.{Unit}
 use Rattle.actor_book.specs.declared.turn.Turn.TheVariants.{Made, Blocked}
@@ -12,9 +12,9 @@ use Rattle.link_processes.specs.Machine.{unit_taken, error_taken, octets_taken, 
 use Rattle.link_processes.specs.Machine.{handed_out, buffers_emptied}
 use Rattle.actor_machine.specs.declared.event.Event.{Event}
 
--- Up to so many turns, each of the least actor that can, come one after another, and behind each
--- all that waits for the environment is taken. There are less only where no actor can, or where the
--- journal has no room for the least that could.
+-- At most so many turns, each of the least actor that can have one. After each, all signals for the
+-- environment are taken. There are fewer only if no actor can have a turn, or the journal has no
+-- room for the least that could.
 pub data IsRun : ℕ → Processes → Processes → Type 0 where
   spent : (t : Processes) → IsRun zero t t
   none_can : (k : ℕ) (t : Processes) → NoneCan t.book → IsRun k t t
@@ -26,8 +26,8 @@ pub data IsRun : ℕ → Processes → Processes → Type 0 where
 abbrev pub RestLaw : Type 0
 RestLaw = (t : Processes) → IsRun MOST_TURNS t (rested t)
 
--- What waits to be handed out changes by the units that come alone: each puts the message that the
--- receiver accepts of it behind the others.
+-- Only received units change the messages that wait to be handed out. Each puts its message, if the
+-- receiver accepts it, after the others.
 pub record MessagesLaw : Type 0 where
   pub events :
       (e : Event) (t : Processes) → (offered e t).transceiver.messages ≡ t.transceiver.messages
@@ -47,9 +47,9 @@ pub record MessagesLaw : Type 0 where
   pub few : (u : Unit) (t : Processes)
       → length (unit_taken u t).transceiver.messages ≤ length t.transceiver.messages + 1
 
--- Of what is kept to send a unit that comes takes away the messages that it acknowledges, and a
--- retrieval and an emptying of the buffers take all. Nothing else takes any away, and but for units
--- that go out nothing lets more of them count as sent.
+-- A received unit removes the messages that it acknowledges from those held for sending. A
+-- retrieval and a clearing of the buffers remove all. Nothing else removes any, and only sent units
+-- make more of them count as sent.
 pub record KeptLaw : Type 0 where
   pub events :
       (e : Event) (t : Processes) → Loses [] t.transceiver.sender (offered e t).transceiver.sender
@@ -69,7 +69,7 @@ pub record KeptLaw : Type 0 where
       (t : Processes) → (sent t).processes.transceiver.sender.kept ≡ t.transceiver.sender.kept
   pub one_sent :
       (t : Processes) → (sent t).processes.transceiver.sender.sent ≤ t.transceiver.sender.sent + 1
-  -- what is left behind a retrieval, and behind buffers that were emptied
+  -- what is left after a retrieval, and after the buffers are cleared
   pub retrievals :
       (accepted : Option ℕ) (t : Processes) → (handed_out accepted t).transceiver.sender.kept ≡ []
   pub clears : (t : Processes) → (buffers_emptied t).transceiver.sender.kept ≡ []

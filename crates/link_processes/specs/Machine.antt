@@ -1,5 +1,5 @@
--- What a terminal does: each call is one of these steps, on the history of its actors and what it
--- keeps beside them.
+-- The steps of a terminal. Each call is one of them, on the history of its actors and its
+-- transceiver.
 use Rattle.std.specs.Prelude.{ℕ, zero, suc, ◌&&◌, not, Bool, true, false, nat_lt, cond}
 use Rattle.std.specs.Prelude.{if◌then◌else◌, ℤ, int_lt, slice_get}
 use Rattle.std.specs.Prelude.{Option, Some, None, List, [], ◌∷◌, length}
@@ -56,16 +56,16 @@ pub record Step : Type 0 where
   pub processes : Processes
   pub goes : Bool
 
--- such steps, one after another, so many at most
+-- such steps, one after another, at most so many
 unfoldable pub repeated : (Processes → Step) → ℕ → Processes → Processes
 repeated f zero t = t
 repeated f (suc k) t = cond (f t).goes (repeated f k (f t).processes) (f t).processes
 
--- All counts begin anew. That the far side is congested is no count, and stays.
+-- All counts restart at 0. Whether the far side is congested isn't a count, and stays.
 abbrev pub all_reset : Processes → Processes
 all_reset t = record t { measures = reset t.measures; aborted = 0 }
 
--- ---- what the actors tell the environment
+-- ---- the actors' signals to the environment
 
 abbrev pub heeds : Option EnvSignal → TransceiverState → TransceiverState
 heeds None h = h
@@ -75,7 +75,7 @@ abbrev pub signals_counted : Option EnvSignal → TransceiverState → Measures 
 signals_counted None h m = m
 signals_counted (Some s) h m = signal_counted s (glance h) m
 
--- a signal of the environment is counted, and heeded
+-- a signal to the environment is counted and obeyed
 unfoldable pub heard : Emitted → Processes → Processes
 heard x t =
     with_transceiver
@@ -90,18 +90,18 @@ abbrev pub taken_answer : Processes → Ledger → Answer → Step
 taken_answer t b (Stuck x) = record { processes = t; goes = false }
 taken_answer t b (Says r) = taken_reply t b r
 
--- what has waited longest for the environment is taken and heeded
+-- the oldest signal that waits for the environment is taken and obeyed
 unfoldable pub one_taken : Processes → Step
 one_taken t = taken_answer t (ask t.book TakeEnv).book (ask t.book TakeEnv).answer
 
--- all that waits for it
+-- all signals that wait for the environment are taken and obeyed
 unfoldable pub emptied : Processes → Processes
 emptied t = repeated one_taken (length (state_of t.book).ring.items) t
 
 -- ---- proving periods
 
--- Cp of initial alignment control (Q.703, figure 9), where the text has it and it is set: how many
--- proving periods of the alignment under way were aborted
+-- Cp of initial alignment control (Q.703, figure 9), if the text has it and it is set: how many
+-- proving periods of the current alignment were aborted
 abbrev pub periods_of : Names → Ledger → Option Value
 periods_of n b =
     variable_of (slice_get (state_of b).actors n.periods.actor) n.periods.variable.0
@@ -117,12 +117,12 @@ grew None after = false
 grew (Some (value.Int before)) after = is_past before after
 grew (Some (value.Bool before)) after = false
 
--- a proving period was aborted where Cp grew; it is counted
+-- a proving period was aborted if Cp grew, and is counted
 abbrev pub periods_counted : Option Value → Processes → Processes
 periods_counted before t =
     record t { aborted = more_if (grew before (periods_of t.names t.book)) 1 t.aborted }
 
--- the book is as a turn left it
+-- the terminal with the book after a turn
 abbrev pub turned : Processes → Ledger → Processes
 turned t b = periods_counted (periods_of t.names t.book) (with_book t b)
 
@@ -133,19 +133,19 @@ moved_by t b Made = record { processes = emptied (turned t b); goes = true }
 moved_by t b Blocked = record { processes = with_book t b; goes = false }
 moved_by t b Idle = record { processes = with_book t b; goes = false }
 
--- the least actor that can has a turn, a proving period that is aborted in it is counted, and what
--- waits for the environment then is taken
+-- the least actor that can has a turn; a proving period aborted in it is counted; then the signals
+-- for the environment are taken
 unfoldable pub moved : Processes → Step
 moved t = moved_by t (least_turn t.book).book (least_turn t.book).turn
 
--- one turn after another, until none can have one, the journal has no room for it, or there were as
--- many as a rest has at most
+-- turn after turn, until no actor can have one, the journal has no room, or a rest's greatest
+-- number of turns is reached
 unfoldable pub rested : Processes → Processes
 rested t = repeated moved MOST_TURNS t
 
 -- ---- offers
 
--- ticks that pass are counted, as the terminal is before them
+-- ticks that pass are counted by the terminal before them
 abbrev pub ticks_counted : Event → TransceiverState → Measures → Measures
 ticks_counted (Advance n) h m = passed n (glance h) m
 ticks_counted _ h m = m
@@ -153,12 +153,11 @@ ticks_counted _ h m = m
 abbrev pub timed : Event → Processes → Processes
 timed e t = with_measures t (ticks_counted e t.transceiver t.measures)
 
--- an event of the book, and a rest behind it; a refused one leaves the book, and the rest is made
--- all the same
+-- an event of the book, followed by a rest; a refused event leaves the book, but the rest follows
 unfoldable pub offered : Event → Processes → Processes
 offered e t = rested (with_book (timed e t) (ask t.book e).book)
 
--- offers in their order, each with a rest behind it
+-- offers in order, each followed by a rest
 unfoldable pub all_offered : List Offer → Processes → Processes
 all_offered [] t = t
 all_offered (o ∷ os) t = all_offered os (offered (offer_event t.names o) t)
@@ -168,26 +167,26 @@ all_offered (o ∷ os) t = all_offered os (offered (offer_event t.names o) t)
 abbrev pub noted_by : Processes → Judged → Processes
 noted_by t j = all_offered j.offers (with_transceiver t j.transceiver)
 
--- what a unit that comes adds to what is measured
+-- what a received unit adds to the measurements
 abbrev pub unit_measured : Unit → Processes → Processes
 unit_measured u t =
     with_measures t
     (came_counted (glance t.transceiver) (seen_of u) (glance (judged t.transceiver u).transceiver)
     t.measures)
 
--- a unit without errors came: all that the stores make of it, then what is offered because of it
+-- a unit without errors was received: the stores take it, then its offers are made
 unfoldable pub unit_taken : Unit → Processes → Processes
 unit_taken u t = noted_by (unit_measured u t) (judged t.transceiver u)
 
--- one with errors came
+-- a unit with errors was received
 unfoldable pub error_taken : Processes → Processes
 error_taken t = all_offered error_offers (with_measures t (error_counted t.measures))
 
--- sixteen octets came without one
+-- sixteen octets were received without a unit
 unfoldable pub octets_taken : Processes → Processes
 octets_taken t = all_offered error_offers (with_measures t (octets_counted t.measures))
 
--- what came of a request for a unit
+-- the result of a request for a unit
 pub record Sent : Type 0 where
   pub processes : Processes
   pub unit : Option Unit
@@ -200,7 +199,7 @@ abbrev pub sent_by : Processes → Option UnitOut → Sent
 sent_by t None = record { processes = t; unit = None }
 sent_by t (Some out) = record { processes = told_of out.offer t; unit = Some out.unit }
 
--- what a unit that goes out adds to what is measured, if one does
+-- what a sent unit adds to the measurements, if one is sent
 abbrev pub out_counted : Glance → Option UnitOut → Glance → Measures → Measures
 out_counted before None after m = m
 out_counted before (Some out) after m = went_counted before (seen_of out.unit) after m
@@ -211,7 +210,7 @@ out_measured t =
     (out_counted (glance t.transceiver) (gone t.transceiver).out
     (glance (gone t.transceiver).transceiver) t.measures)
 
--- what goes out next, with what is offered then
+-- the next unit to send, and the terminal after its offer
 unfoldable pub sent : Processes → Sent
 sent t =
     sent_by (with_transceiver (out_measured t) (gone t.transceiver).transceiver)
@@ -219,16 +218,16 @@ sent t =
 
 -- ---- retrieval
 
--- no message is out any more, where some were
+-- the offer that no message is unacknowledged any more, if some were
 abbrev pub none_out : Bool → Option Offer
 none_out true = Some (acknowledgement_seen false)
 none_out false = None
 
--- no message is out, so the far side's congestion doesn't count any more
+-- no message is unacknowledged, so the far side's congestion is over
 abbrev pub calm_measured : Processes → Processes
 calm_measured t = with_measures t (calmed t.measures)
 
--- what the far side may lack was handed out: nothing is kept, and where messages were out it is
+-- the buffers were emptied by a retrieval; if messages were unacknowledged, transmission control is
 -- told that none is
 unfoldable pub handed_out : Option ℕ → Processes → Processes
 handed_out accepted t =
@@ -236,19 +235,19 @@ handed_out accepted t =
     (with_transceiver (calm_measured t)
     (record t.transceiver { sender = without_kept t.transceiver.sender accepted }))
 
--- ---- buffers that are emptied
+-- ---- clearing the buffers
 
--- all that is kept to send is gone, and it is told that no message is out
+-- the held messages go, and transmission control is told that none is unacknowledged
 unfoldable pub buffers_emptied : Processes → Processes
 buffers_emptied t =
     offered (offer_event t.names (acknowledgement_seen false))
     (with_transceiver (calm_measured t) (clears t.transceiver))
 
--- where an actor asked for that
+-- the buffers are cleared, if an actor requested that
 unfoldable pub clear_obeyed : Processes → Processes
 clear_obeyed t = if t.transceiver.clearing then buffers_emptied t else t
 
--- so many messages go then
+-- how many messages would be cleared
 abbrev pub to_clear : Processes → ℕ
 to_clear t = if t.transceiver.clearing then length t.transceiver.sender.kept else 0
 
@@ -258,27 +257,27 @@ abbrev pub differs : Bool → Bool → Bool
 differs true b = not b
 differs false b = b
 
--- whether the set hears of octet counting, and it isn't as it was told last
+-- whether the set has the signal, and this differs from what the monitors were last told
 abbrev pub is_news : Bool → Processes → Bool
 is_news on t = is_there t.names.options.counting && differs on t.counting
 
--- Octets are counted, or they aren't: where that is news, both error rate monitors are told.
+-- Both error rate monitors are told whether octets are counted, if that is news.
 unfoldable pub counting_told : Bool → Processes → Processes
 counting_told on t =
     if is_news on t then all_offered (counting_offers on) (record t { counting = on }) else t
 
 -- ---- the journal
 
--- where fewer places of the journal are free than that, it is emptied before the next unit, command
--- or tick
+-- if fewer places of the journal than this are free, it is emptied before the next unit, command or
+-- tick
 abbrev pub LOW : ℕ
 LOW = 32768
 
--- how many places are free
+-- how many places of the journal are free
 abbrev pub places : Processes → ℕ
 places t = room t.book (state_of t.book)
 
--- whether that is to be done: a journal that holds nothing can't be emptied
+-- whether the journal is to be emptied: it holds events, and has too little room
 abbrev pub is_low : Processes → Bool
 is_low t = nat_lt 0 (length t.book.journal) && nat_lt (places t) LOW
 

@@ -1,5 +1,4 @@
--- Which event of a link a command or a notice is, and what a signal that comes to the environment
--- says.
+-- The event of a link for a command or a notice, and the meaning of a signal to the environment.
 use Rattle.std.specs.Prelude.{ℕ, ℤ, pos, ◌==◌, Bool as Truth, if◌then◌else◌, Option, Some, None}
 use Rattle.std.specs.Prelude.{List, [], ◌∷◌, slice_get}
 use Rattle.turn_code.specs.declared.numbers.SignalNumber.{SignalNumber}
@@ -59,7 +58,7 @@ offer_event n o =
 
 -- ---- commands
 
--- congestion is for congestion control, all else for link state control
+-- congestion goes to congestion control, all else to link state control
 abbrev pub command_number : Names → Command → ℕ
 command_number n command.PowerOn = n.parties.lsc
 command_number n command.Start = n.parties.lsc
@@ -121,6 +120,6 @@ abbrev pub first_told : Names → SignalNumber → Option Value → Option EnvSi
 first_told n s None = plain_told n s
 first_told n s (Some v) = value_told n s v
 
--- by its number and its first parameter; any other signal says nothing
+-- by its number and its first parameter; any other signal has no meaning
 unfoldable pub told_by : Names → Emitted → Option EnvSignal
 told_by n x = first_told n x.signal (slice_get x.parameters.items 0)

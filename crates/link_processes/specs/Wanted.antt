@@ -1,4 +1,4 @@
--- What a terminal wants of its set.
+-- What a terminal requires of its set.
 use Rattle.std.specs.Prelude.{◌≡◌, ℕ, ◌==◌, Bool, true, not, ◌&&◌, ◌||◌, List, [], ◌∷◌, slice_get}
 use Rattle.std.specs.List.{list_any, list_all}
 use Rattle.turn_code.specs.Transitions.{parameters_of}
@@ -20,18 +20,18 @@ use Rattle.link_processes.specs.declared.wanted.Wanted.TheVariants.{MaySend, May
 
 -- ---- what a set has
 
--- a signal, by its number, has that name, and the parameters that a terminal knows of it
+-- a signal, by its number, has this name and the required parameters
 pub record IsSpoken (d : Draft) (name : SignalName) (k : SignalNumber) : Type 0 where
   pub named : IsSignal d k.0 name
   pub sorts : parameters_of (slice_get d.signals k.0) ≡ signal_sorts name
 
--- the route brings the signal from some process to the environment
+-- a route carries the signal from some process to the environment
 abbrev pub tells : SignalNumber → DraftRoute → Bool
 tells s r =
     not (is_environment r.from)
     && (is_environment r.to && list_any (λ (x : SignalNumber). x.0 == s.0) r.signals)
 
--- such a signal, and a route that brings it from the environment to the process of that name
+-- the signal has its required form, and a route carries it from the environment to this process
 pub record HasSent (d : Draft) (to : ProcessName) (name : SignalName) : Type 0 where
   pub process : ℕ
   pub signal : SignalNumber
@@ -39,24 +39,24 @@ pub record HasSent (d : Draft) (to : ProcessName) (name : SignalName) : Type 0 w
   pub is_signal : IsSpoken d name signal
   pub brought : list_any (offers process signal) d.routes ≡ true
 
--- such a signal, and a route that brings it from some process to the environment
+-- the signal has its required form, and a route carries it from some process to the environment
 pub record HasHeard (d : Draft) (name : SignalName) : Type 0 where
   pub signal : SignalNumber
   pub is_signal : IsSpoken d name signal
   pub brought : list_any (tells signal) d.routes ≡ true
 
--- ---- what a set may have
+-- ---- optional signals
 
--- a route does not carry it from or to the environment, or brings it from there to that process
+-- a route carries the signal only from the environment to this process, or not to or from there
 abbrev pub sends_alone : ℕ → SignalNumber → DraftRoute → Bool
 sends_alone p s r = not (touches s r) || offers p s r
 
--- or brings it from some process to there
+-- a route carries the signal only from some process to the environment, or not to or from there
 abbrev pub tells_alone : SignalNumber → DraftRoute → Bool
 tells_alone s r = not (touches s r) || tells s r
 
--- such a signal has the parameters that a terminal knows, and each such route brings it from the
--- environment to the process of that name
+-- the signal has the required parameters, and all its routes from or to the environment go from
+-- there to this process
 pub record FitsSent (d : Draft) (to : ProcessName) (name : OptionName) (k : SignalNumber)
     : Type 0 where
   pub process : ℕ
@@ -64,25 +64,24 @@ pub record FitsSent (d : Draft) (to : ProcessName) (name : OptionName) (k : Sign
   pub sorts : parameters_of (slice_get d.signals k.0) ≡ option_sorts name
   pub alone : list_all (sends_alone process k) d.routes ≡ true
 
--- the same of one that comes to the environment
+-- as `FitsSent`, for a signal from some process to the environment
 pub record FitsHeard (d : Draft) (name : OptionName) (k : SignalNumber) : Type 0 where
   pub sorts : parameters_of (slice_get d.signals k.0) ≡ option_sorts name
   pub alone : list_all (tells_alone k) d.routes ≡ true
 
--- if there is such a signal on a route from or to the environment, it is one that a terminal knows
+-- a signal on a route from or to the environment has the required form
 abbrev pub MaySendIt : Draft → ProcessName → OptionName → Type 0
 MaySendIt d to name = (k : SignalNumber) → IsTouched d name k → FitsSent d to name k
 
 abbrev pub MayHearIt : Draft → OptionName → Type 0
 MayHearIt d name = (k : SignalNumber) → IsTouched d name k → FitsHeard d name k
 
--- or brings it from there to one of two processes
+-- a route carries the signal only from the environment to these two, or not to or from there
 abbrev pub sends_either : ℕ → ℕ → SignalNumber → DraftRoute → Bool
 sends_either p q s r = not (touches s r) || (offers p s r || offers q s r)
 
--- A signal that goes to both error rate monitors has the parameters that a terminal knows; each
--- route from or to the environment that carries it brings it from there to one of them, and some
--- route brings it to this process.
+-- The signal has Counting's parameters. All its routes from or to the environment go from there to
+-- one of the error rate monitors, and some route goes to this process.
 pub record FitsCounting (d : Draft) (to : ProcessName) (k : SignalNumber) : Type 0 where
   pub aerm : ℕ
   pub suerm : ℕ
@@ -105,17 +104,17 @@ Has d (MaySend to name) = MaySendIt d to name
 Has d (MayHear name) = MayHearIt d name
 Has d (MayCount to) = MayCountIt d to
 
--- of these, in their order, that one is the first that the set lacks
+-- this requirement is the first one, in their order, that the set doesn't meet
 pub data IsFirstLacking (d : Draft) (name : Wanted) : List Wanted → Type 0 where
   lacks : {left : List Wanted} → (Has d name → ⊥) → IsFirstLacking d name (name ∷ left)
   has_first :
       {w : Wanted} {left : List Wanted} → Has d w → IsFirstLacking d name left
       → IsFirstLacking d name (w ∷ left)
 
--- ---- what a terminal wants
+-- ---- a terminal's requirements
 
--- the processes, the signals that the environment sends to each of them, and those that come to it;
--- then those that may be, in the form in which a terminal knows them
+-- the processes, the environment's signals to each of them, the signals to the environment; then
+-- the form of the optional signals
 abbrev pub wanted : List Wanted
 wanted =
     Process process.Lsc
@@ -160,7 +159,7 @@ wanted =
     ∷ MayCount process.Suerm
     ∷ []
 
--- all its processes, and all its signals, have a number in the set
+-- all processes of a terminal, and all its signals, have a number in the set
 abbrev pub HasProcesses : Draft → Type 0
 HasProcesses d = (name : ProcessName) → (n : ℕ) × IsProcess d n name
 

@@ -1,4 +1,4 @@
-//! What whoever runs a link may command.
+//! The commands to a link.
 ghost use Rattle.std.specs.Prelude.{◌≡◌};
 ghost use Rattle.link_processes.specs.Offering.{command_number, command_signal};
 
@@ -8,29 +8,29 @@ use turn_code::SignalNumber;
 /// A command to a terminal (Q.703, 7, 8 and 9).
 #[derive(Clone, Copy, PartialEq, Eq, Debug)]
 pub enum Command {
-    /// The terminal is switched on: out of service, which it tells the far side.
+    /// Switch the terminal on: it is out of service, and reports that to the far side.
     PowerOn,
-    /// The link is to come into service.
+    /// Bring the link into service.
     Start,
-    /// It is to go out of service.
+    /// Take the link out of service.
     Stop,
-    /// It is to be aligned in the emergency way: heard while it is out of service or being aligned, and forgotten as it goes down.
+    /// Use emergency alignment. Accepted out of service and during alignment; forgotten when the link goes down.
     Emergency,
-    /// No longer so, from the next start on: an alignment that is under way stays urgent.
+    /// End emergency alignment from the next start on. An alignment under way stays an emergency one.
     Calm,
-    /// This side's processor is out.
+    /// This side has a processor outage.
     Outage,
-    /// It is back.
+    /// This side's processor outage is over.
     Back,
     /// This side is congested.
     Busy,
-    /// It no longer is.
+    /// This side is no longer congested.
     Free,
-    /// Behind an outage: the buffers are to be emptied, and messages go again.
+    /// After an outage: clear the buffers, and send messages again.
     Flush,
-    /// Behind an outage: messages go again.
+    /// After an outage: send messages again.
     Continue,
-    /// This side is congested, and discards messages that come.
+    /// This side is congested, and discards received messages.
     Overload,
 }
 
@@ -52,7 +52,7 @@ pub(crate) fn command_number(names: &Names, command: Command) -> u16
     }
 }
 
-/// The signal that it gets.
+/// The signal of a command.
 pub(crate) fn command_signal(names: &Names, command: Command) -> SignalNumber
     ensures { result ≡ command_signal names.now command }
 {

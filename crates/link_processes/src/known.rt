@@ -1,4 +1,4 @@
-//! The numbers that a terminal's names have in its set.
+//! The numbers of a terminal's names in its set.
 ghost use Rattle.std.specs.Prelude.{◌≡◌, All, IfOk, IfErr, IfSome, IfNone};
 ghost use Rattle.link_processes.specs.Known.{IsProcess, IsActor, IsSignal, AreParties, AreOrders, AreNotices, AreOutputs, IsOption, AreOptions, IsCount, ArePeriods, AreNames};
 ghost use Rattle.link_processes.specs.declared.names.Periods.{Periods as PlainPeriods};
@@ -13,7 +13,7 @@ use actor_machine::first_of;
 use turn_check::Verified;
 use turn_code::{ProcessNumber, SignalNumber, VariableNumber};
 
-/// The number of a process, which the set has.
+/// The number of a process that the set has.
 fn process(set: &Verified, name: ProcessName) -> ProcessNumber
     requires { HasProcesses set.now }
     ensures { IsProcess set.now result.0 name }
@@ -24,7 +24,7 @@ fn process(set: &Verified, name: ProcessName) -> ProcessNumber
     }
 }
 
-/// The number of its first instance.
+/// The number of a process's first instance.
 fn actor(set: &Verified, name: ProcessName) -> u16
     requires { HasProcesses set.now }
     ensures { IsActor set.now result name }
@@ -32,7 +32,7 @@ fn actor(set: &Verified, name: ProcessName) -> u16
     first_of(set, process(set, name))
 }
 
-/// The number of a signal, which the set has.
+/// The number of a signal that the set has.
 fn signal(set: &Verified, name: SignalName) -> SignalNumber
     requires { HasSignals set.now }
     ensures { IsSignal set.now result.0 name }
@@ -43,7 +43,7 @@ fn signal(set: &Verified, name: SignalName) -> SignalNumber
     }
 }
 
-/// The actors.
+/// The numbers of the actors.
 fn parties(set: &Verified) -> Parties
     requires { HasProcesses set.now }
     ensures { AreParties set.now result }
@@ -58,7 +58,7 @@ fn parties(set: &Verified) -> Parties
     }
 }
 
-/// The signals for commands.
+/// The numbers of the signals for commands.
 fn orders(set: &Verified) -> Orders
     requires { HasSignals set.now }
     ensures { AreOrders set.now result }
@@ -76,7 +76,7 @@ fn orders(set: &Verified) -> Orders
     }
 }
 
-/// The signals that tell of units.
+/// The numbers of the signals that report units.
 fn notices(set: &Verified) -> Notices
     requires { HasSignals set.now }
     ensures { AreNotices set.now result }
@@ -91,7 +91,7 @@ fn notices(set: &Verified) -> Notices
     }
 }
 
-/// The signals that come to the environment.
+/// The numbers of the signals to the environment.
 fn outputs(set: &Verified) -> Outputs
     requires { HasSignals set.now }
     ensures { AreOutputs set.now result }
@@ -108,7 +108,7 @@ fn outputs(set: &Verified) -> Outputs
     }
 }
 
-/// The number of a signal that the set may have.
+/// The number of an optional signal.
 fn option(set: &Verified, name: OptionName) -> SignalNumber
     ensures { IsOption set.now result name }
 {
@@ -118,7 +118,7 @@ fn option(set: &Verified, name: OptionName) -> SignalNumber
     }
 }
 
-/// The signals that the set may have.
+/// The numbers of the optional signals.
 fn options(set: &Verified) -> Options
     ensures { AreOptions set.now result }
 {
@@ -134,7 +134,7 @@ fn options(set: &Verified) -> Options
     }
 }
 
-/// Where the set counts aborted proving periods, if it does.
+/// The variable that counts aborted proving periods, if the set has one.
 fn periods_in(set: &Verified) -> Option<Periods>
     ensures found { IfSome result (IsCount set.now) }
     ensures none { IfNone result ((x : PlainPeriods) → IsCount set.now x → ⊥) }
@@ -149,7 +149,7 @@ fn periods_in(set: &Verified) -> Option<Periods>
     Some(Periods { actor, variable })
 }
 
-/// Where the set counts aborted proving periods.
+/// The variable that counts aborted proving periods, or no actor's.
 fn periods(set: &Verified) -> Periods
     ensures { ArePeriods set.now result }
 {
@@ -163,12 +163,12 @@ fn periods(set: &Verified) -> Periods
 }
 
 impl Names {
-    /// The numbers that the names of a terminal have in a set, which has all of them, with the parameters and the routes that a terminal
-    /// knows; case is ignored.
+    /// The numbers of a terminal's names in a set that has all of them, with the parameters and routes that a terminal
+    /// requires. Case is ignored.
     ///
     /// # Errors
     ///
-    /// The first of them that the set lacks, in the order of [`all_wanted`].
+    /// The first of [`all_wanted`] that the set lacks.
     pub fn find(set: &Verified) -> Result<Names, Wanted>
         ensures ok { IfOk result (AreNames set.now) }
         ensures all { IfOk result (λ _. All (Has set.now) wanted) }

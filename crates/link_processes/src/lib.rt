@@ -1,5 +1,5 @@
-//! The actors of a signalling link terminal together with what it keeps beside them (Q.703): what the environment offers to the actors,
-//! how they come to rest, and what they tell the environment.
+//! A signalling link terminal's actors and transceiver (Q.703): what the environment offers to the actors, how they run
+//! to rest, and their signals to the environment.
 #![tactic(auto)]
 
 mod commands;

@@ -1,4 +1,4 @@
-//! The numbers that the actors and signals of the environment have in a set.
+//! The numbers in a set of the actors and signals that the environment uses.
 ghost use Rattle.std.specs.Prelude.{◌≡◌};
 ghost use Rattle.link_processes.specs.Known.{is_there};
 ghost use Rattle.link_processes.specs.Offering.{number_of, notice_signal, notice_values, value_told, integer_told, boolean_told, plain_told, told_by};
@@ -25,7 +25,7 @@ pub struct Parties {
     pub cc: u16,
 }
 
-/// The signals by which the environment hands on commands.
+/// The signals for commands.
 #[derive(Clone, Copy, PartialEq, Eq, Debug)]
 pub struct Orders {
     pub power_on: SignalNumber,
@@ -39,7 +39,7 @@ pub struct Orders {
     pub free: SignalNumber,
 }
 
-/// The signals by which it tells of units.
+/// The signals that report units.
 #[derive(Clone, Copy, PartialEq, Eq, Debug)]
 pub struct Notices {
     pub good: SignalNumber,
@@ -50,7 +50,7 @@ pub struct Notices {
     pub msu_sent: SignalNumber,
 }
 
-/// The signals that come to the environment.
+/// The signals to the environment.
 #[derive(Clone, Copy, PartialEq, Eq, Debug)]
 pub struct Outputs {
     pub fresh: SignalNumber,
@@ -63,7 +63,7 @@ pub struct Outputs {
     pub remote_back: SignalNumber,
 }
 
-/// The signals that a text may have; [`NO_SIGNAL`] is the number of one that it hasn't.
+/// The optional signals. One that the text lacks has the number [`NO_SIGNAL`].
 #[derive(Clone, Copy, PartialEq, Eq, Debug)]
 pub struct Options {
     pub flush: SignalNumber,
@@ -76,21 +76,21 @@ pub struct Options {
     pub counting: SignalNumber,
 }
 
-/// Where a set counts the aborted proving periods of the alignment under way: Cp of initial alignment control (Q.703, figure 9), the variable
-/// `cp` of the first instance of IAC. The actor is [`NO_ACTOR`] where it has none.
+/// The variable in which a set counts the aborted proving periods of the current alignment: Cp of initial alignment
+/// control (Q.703, figure 9), `cp` of the first instance of IAC. If the set has none, the actor is [`NO_ACTOR`].
 #[derive(Clone, Copy, PartialEq, Eq, Debug)]
 pub struct Periods {
     pub actor: u16,
     pub variable: VariableNumber,
 }
 
-/// The number of no signal: a set has 128 at most.
+/// A number of no signal: a set has at most 128.
 pub const NO_SIGNAL: u8 = 255;
 
-/// The number of no actor: a set has 128 at most.
+/// A number of no actor: a set has at most 128.
 pub const NO_ACTOR: u16 = 65_535;
 
-/// All numbers that a terminal knows of its set.
+/// All numbers of a terminal's names in its set.
 #[derive(Clone, Copy, PartialEq, Eq, Debug)]
 pub struct Names {
     pub parties: Parties,
@@ -101,7 +101,7 @@ pub struct Names {
     pub periods: Periods,
 }
 
-/// Whether a text has the signal that it may have.
+/// Whether a text has the optional signal.
 pub fn is_there(signal: SignalNumber) -> bool
     ensures { result ≡ is_there signal }
 {
@@ -137,7 +137,7 @@ pub(crate) fn notice_signal(names: &Names, notice: Notice) -> SignalNumber
     }
 }
 
-/// The values of its parameters.
+/// The values of a notice's parameters.
 pub(crate) fn notice_values(notice: Notice) -> ArrayVec<Value, 4>
     ensures { result.items ≡ notice_values notice }
 {
@@ -152,8 +152,8 @@ pub(crate) fn notice_values(notice: Notice) -> ArrayVec<Value, 4>
     values
 }
 
-/// What a signal that came to the environment says, by its number and its first parameter; nothing where it is none that a terminal
-/// knows.
+/// The meaning of a signal to the environment, by its number and its first parameter; none for a signal that a terminal
+/// doesn't know.
 #[tactic(auto, unfolding(crate::specs::Offering::told_by))]
 pub(crate) fn told_by(names: &Names, emitted: &Emitted) -> Option<EnvSignal>
     ensures { result ≡ told_by names.now emitted.now }
@@ -164,7 +164,7 @@ pub(crate) fn told_by(names: &Names, emitted: &Emitted) -> Option<EnvSignal>
     }
 }
 
-/// A signal with a parameter.
+/// The meaning of a signal with a parameter.
 fn value_told(names: &Names, signal: SignalNumber, value: Value) -> Option<EnvSignal>
     ensures { result ≡ value_told names.now signal value }
 {
@@ -174,7 +174,7 @@ fn value_told(names: &Names, signal: SignalNumber, value: Value) -> Option<EnvSi
     }
 }
 
-/// A signal with a number.
+/// The meaning of a signal with a number.
 fn integer_told(outputs: &Outputs, signal: SignalNumber, number: i32) -> Option<EnvSignal>
     ensures { result ≡ integer_told outputs.now signal number }
 {
@@ -187,7 +187,7 @@ fn integer_told(outputs: &Outputs, signal: SignalNumber, number: i32) -> Option<
     }
 }
 
-/// A signal with a truth value.
+/// The meaning of a signal with a truth value.
 fn boolean_told(names: &Names, signal: SignalNumber, on: bool) -> Option<EnvSignal>
     ensures { result ≡ boolean_told names.now signal on }
 {
@@ -202,7 +202,7 @@ fn boolean_told(names: &Names, signal: SignalNumber, on: bool) -> Option<EnvSign
     }
 }
 
-/// A signal without parameters.
+/// The meaning of a signal without parameters.
 fn plain_told(names: &Names, signal: SignalNumber) -> Option<EnvSignal>
     ensures { result ≡ plain_told names.now signal }
 {

@@ -1,4 +1,4 @@
-//! A terminal's actors, and what it keeps beside them.
+//! A terminal's actors and its transceiver.
 ghost use Rattle.std.specs.Prelude.{◌≡◌, ◌+◌, ◌<◌, ◌≤◌, ◌↔◌, [], true, false, length, drop, All, None, Some, Err, IfOk, OnOk, OnErr, IfErr, IfSome};
 ghost use Rattle.resend_store.specs.Messages.{IsMessage};
 ghost use Rattle.resend_store.specs.Window.{retrieved, count_known};
@@ -26,26 +26,26 @@ use std::alloc::AllocError;
 use std::collections::VecDeque;
 use su_octets::Unit;
 
-/// Where fewer places of the journal are free than that, `tidy` makes room.
+/// `tidy` makes room if fewer places of the journal than this are free.
 pub const LOW: usize = 32_768;
 
-/// The actors of a terminal, its stores and flags, and the numbers of what the two tell each other.
+/// The actors of a terminal, its transceiver, and the numbers of the signals between the two.
 ///
-/// No call but `tidy` can answer that memory is wanting.
+/// Only `tidy` and `retrieve` can run out of memory.
 #[derive(Drop)]
 pub struct Processes {
     pub book: Book,
     pub transceiver: Transceiver,
     pub names: Names,
-    /// Whether octets are counted, as that was told last.
+    /// Whether octets are counted, as the monitors were last told.
     pub counting: bool,
-    /// What was measured.
+    /// What was measured (ITU-T Q.752).
     pub measures: Measures,
-    /// How many proving periods were aborted: 2^64 - 1 where that many were or more.
+    /// How many proving periods were aborted. The count stops at 2^64 - 1.
     pub aborted: u64,
 }
 
-/// Whether it is otherwise.
+/// Whether the two differ.
 fn differs(on: bool, told: bool) -> bool
     ensures { result ≡ differs on told }
 {
@@ -53,7 +53,7 @@ fn differs(on: bool, told: bool) -> bool
 }
 
 impl Processes {
-    /// Gives the actors a command, and lets them come to rest.
+    /// Gives the actors a command, and lets them run to rest.
     ///
     /// # Errors
     ///
@@ -77,11 +77,11 @@ impl Processes {
         }
     }
 
-    /// Lets so many ticks pass, and the actors come to rest. How many timers were due.
+    /// Lets so many ticks pass, and the actors run to rest. Returns how many timers were due.
     ///
     /// # Errors
     ///
-    /// Those that `tick_refusal` tells. Then nothing changes.
+    /// Those of `tick_refusal`. Then nothing changes.
     #[tactic(auto, unfolding(crate::specs::Machine::offered))]
     pub fn tick(&mut self, ticks: u64) -> Result<usize, Refusal>
         ensures answer { answer_by reply.Passed result ≡ (ask self.old.book (Advance ticks)).answer }
@@ -110,7 +110,7 @@ impl Processes {
         self.book.advance_refusal(ticks)
     }
 
-    /// Makes an offer to an actor, which is dropped where the book refuses it, and lets the actors come to rest.
+    /// Offers a signal to an actor, and lets the actors run to rest. An offer that the book refuses is dropped.
     #[tactic(auto, unfolding(crate::specs::Machine::offered))]
     fn offer(&mut self, offer: Offer)
         ensures { self.new ≡ offered (offer_event self.old.names offer) self.old }
@@ -122,7 +122,7 @@ impl Processes {
         self.rest();
     }
 
-    /// Makes offers in their order.
+    /// Makes these offers in order, each followed by a rest.
     #[tactic(auto, unfolding(crate::specs::Machine::all_offered))]
     fn offer_all(&mut self, offers: &[Offer])
         ensures { self.new ≡ all_offered offers.now self.old }
@@ -132,8 +132,8 @@ impl Processes {
         }
     }
 
-    /// Hands out, in order, what the far side may lack (Q.704, retrieval), as `Transceiver::retrieve` does. Where messages were out it is told
-    /// behind that that none is out any more, so that nobody waits for an acknowledgement of what is gone.
+    /// Hands out, in order, what the far side may lack (Q.704, retrieval), as `Transceiver::retrieve`. If messages were
+    /// unacknowledged, transmission control is then told that none is, so that it awaits no acknowledgement.
     ///
     /// # Errors
     ///
@@ -158,7 +158,7 @@ impl Processes {
         }
     }
 
-    /// How many messages go as the buffers are emptied: all that are kept, where an actor asked for that since it was last done, else none.
+    /// How many messages `obey_clear` would clear: all held ones if an actor requested clearing, otherwise none.
     pub fn to_clear(&self) -> usize
         ensures value { result ≡ to_clear self.now }
         ensures within { result ≤ length self.now.transceiver.sender.kept }
@@ -170,8 +170,8 @@ impl Processes {
         }
     }
 
-    /// Empties the buffers, where an actor asked for that since it was last done (Q.703, figure 13): what waits and what is unacknowledged goes,
-    /// and is counted. The actors are told that no message is out, and come to rest. How many messages went.
+    /// Clears the buffers if an actor requested it (Q.703, figure 13). All held messages go, and are counted. The
+    /// actors learn that none is unacknowledged, and run to rest. Returns how many messages went.
     #[tactic(auto, unfolding(crate::specs::Machine::clear_obeyed))]
     pub fn obey_clear(&mut self) -> usize
         ensures count { result ≡ to_clear self.old }
@@ -187,7 +187,7 @@ impl Processes {
         kept
     }
 
-    /// Empties the buffers.
+    /// Clears the buffers.
     #[tactic(auto, unfolding(crate::specs::Machine::buffers_emptied))]
     fn empty_buffers(&mut self)
         ensures { self.new ≡ buffers_emptied self.old }
@@ -200,15 +200,15 @@ impl Processes {
         });
     }
 
-    /// Whether the set hears of octet counting.
+    /// Whether the set has a signal for octet counting.
     pub fn hears_counting(&self) -> bool
         ensures { result ≡ is_there self.now.names.options.counting }
     {
         is_there(self.names.options.counting)
     }
 
-    /// Tells both error rate monitors that octets are counted, or aren't (Q.703, 4.1.4), where the set hears of that and it isn't as it was told
-    /// last; at first they are.
+    /// Tells both error rate monitors whether octets are counted (Q.703, 4.1.4), if the set has the signal and this
+    /// differs from what they were last told. At first they are counted.
     #[tactic(auto, unfolding(crate::specs::Machine::counting_told))]
     pub fn tell_counting(&mut self, on: bool)
         ensures processes { self.new ≡ counting_told on self.old }
@@ -221,7 +221,7 @@ impl Processes {
         }
     }
 
-    /// Tells that no message is out, where some were.
+    /// Tells transmission control that no message is unacknowledged, if some were.
     fn tell_none_out(&mut self, were: bool)
         ensures { self.new ≡ told_of (none_out were) self.old }
     {
@@ -233,7 +233,7 @@ impl Processes {
         }
     }
 
-    /// Takes a unit without errors: the stores and then the actors learn of it.
+    /// Takes a unit without errors: first the stores get it, then the actors their offers.
     #[tactic(auto, unfolding(crate::specs::Machine::unit_taken))]
     pub fn take_unit(&mut self, unit: Unit)
         requires whole { IsWhole unit }
@@ -272,7 +272,7 @@ impl Processes {
         self.offer_all(&error_offers());
     }
 
-    /// The unit that goes out next, none before anything was said of the line. The actors learn of each message that goes out.
+    /// The next unit to send; none before the first Line signal. Transmission control is told of each message sent.
     #[tactic(auto, unfolding(crate::specs::Machine::sent))]
     pub fn send_unit(&mut self) -> Option<Unit>
         ensures unit { result ≡ (sent self.old).unit }
@@ -303,11 +303,11 @@ impl Processes {
         }
     }
 
-    /// Makes room in the journal where fewer than [`LOW`] places of it are free and it holds events.
+    /// Makes room in the journal if fewer than [`LOW`] places of it are free and it holds events.
     ///
     /// # Errors
     ///
-    /// Where there is no memory, and there was too little room: nothing changes.
+    /// If memory runs out while there is too little room. Then nothing changes.
     #[tactic(auto, unfolding(crate::specs::Machine::tidied, actor_machine::specs::Ledger::rebased))]
     pub fn tidy(&mut self) -> Result<(), AllocError>
         ensures ok { OnOk result (self.new ≡ tidied self.old) }

@@ -1,4 +1,4 @@
-//! How the actors come to rest, and what they tell the environment.
+//! How the actors run to rest, and their signals to the environment.
 ghost use Rattle.std.specs.Prelude.{◌≡◌};
 ghost use Rattle.link_processes.specs.Machine.{heard, one_taken, emptied, is_past, grew, periods_of, periods_counted, moved, rested};
 
@@ -8,7 +8,7 @@ use actor_book::{REST, Turn, one_turn};
 use actor_machine::Emitted;
 use turn_code::Value;
 
-/// Whether a value is a number past this one.
+/// Whether a value is a number greater than this one.
 fn is_past(before: i32, after: Option<Value>) -> bool
     ensures { result ≡ is_past before after }
 {
@@ -31,7 +31,7 @@ fn grew(before: Option<Value>, after: Option<Value>) -> bool
 }
 
 impl Processes {
-    /// Heeds what an actor told the environment.
+    /// Obeys a signal from an actor to the environment.
     #[tactic(auto, unfolding(crate::specs::Machine::heard))]
     fn heed(&mut self, emitted: &Emitted)
         ensures { self.new ≡ heard emitted.now self.old }
@@ -43,7 +43,7 @@ impl Processes {
         }
     }
 
-    /// Takes and heeds what has waited longest for the environment. Whether there was anything that could be taken.
+    /// Takes and obeys the oldest signal that waits for the environment. Returns false if there was none to take.
     #[tactic(auto, unfolding(crate::specs::Machine::one_taken))]
     fn take_one(&mut self) -> bool
         ensures goes { result ≡ (one_taken self.old).goes }
@@ -58,7 +58,7 @@ impl Processes {
         }
     }
 
-    /// Takes and heeds all that waits for the environment.
+    /// Takes and obeys all signals that wait for the environment.
     fn empty_ring(&mut self)
         ensures { self.new ≡ emptied self.old }
     {
@@ -68,7 +68,7 @@ impl Processes {
         }
     }
 
-    /// Cp of initial alignment control (Q.703, figure 9), where the text has it and it is set.
+    /// Cp of initial alignment control (Q.703, figure 9), if the text has it and it is set.
     fn periods(&self) -> Option<Value>
         ensures { result ≡ periods_of self.now.names self.now.book }
     {
@@ -76,7 +76,7 @@ impl Processes {
         self.book.variable(periods.actor, periods.variable)
     }
 
-    /// Counts an aborted proving period, where Cp grew.
+    /// Counts an aborted proving period if Cp grew.
     fn count_periods(&mut self, before: Option<Value>)
         ensures { self.new ≡ periods_counted before self.old }
     {
@@ -85,8 +85,8 @@ impl Processes {
         }
     }
 
-    /// The least actor that can has a turn; a proving period that was aborted in it is counted, and what waits for the environment then is taken.
-    /// Whether there was a turn.
+    /// Gives a turn to the least actor that can have one, counts a proving period aborted in it, and takes the signals
+    /// for the environment. Returns whether there was a turn.
     #[tactic(auto, unfolding(crate::specs::Machine::moved))]
     fn step(&mut self) -> bool
         ensures goes { result ≡ (moved self.old).goes }
@@ -104,7 +104,7 @@ impl Processes {
         }
     }
 
-    /// Lets the actors come to rest.
+    /// Lets the actors run to rest.
     pub(crate) fn rest(&mut self)
         ensures { self.new ≡ rested self.old }
     {

@@ -1,4 +1,4 @@
-//! Which signals the routes of a set bring from and to the environment.
+//! The signals that the routes of a set carry from and to the environment.
 ghost use Rattle.std.specs.Prelude.{◌≡◌, ◌&&◌, ◌||◌, ◌==◌, not};
 ghost use Rattle.std.specs.List.{list_any, list_all};
 ghost use Rattle.actor_machine.specs.Refusals.{is_environment, is_process, offers};
@@ -29,14 +29,14 @@ fn is_process(number: ProcessNumber, party: Party) -> bool
     }
 }
 
-/// Whether a signal is among some.
+/// Whether a signal is among these.
 fn carries(signals: &[SignalNumber], signal: SignalNumber) -> bool
     ensures { result ≡ list_any (λ (x : PlainSignal). x.0 == signal.0) signals.now }
 {
     signals.iter().any(|other| other.0 == signal.0)
 }
 
-/// Whether a route brings a signal from the environment to a process.
+/// Whether a route carries a signal from the environment to a process.
 fn brings_in(route: &DraftRoute, process: ProcessNumber, signal: SignalNumber) -> bool
     ensures { result ≡ offers process.0 signal route.now }
 {
@@ -45,7 +45,7 @@ fn brings_in(route: &DraftRoute, process: ProcessNumber, signal: SignalNumber) -
         && carries(route.signals.as_slice(), signal)
 }
 
-/// Whether a route brings a signal from a process to the environment.
+/// Whether a route carries a signal from a process to the environment.
 fn brings_out(route: &DraftRoute, signal: SignalNumber) -> bool
     ensures { result ≡ tells signal route.now }
 {
@@ -54,28 +54,28 @@ fn brings_out(route: &DraftRoute, signal: SignalNumber) -> bool
         && carries(route.signals.as_slice(), signal)
 }
 
-/// Whether some route brings a signal from the environment to a process.
+/// Whether some route carries a signal from the environment to a process.
 fn some_brings_in(routes: &[DraftRoute], process: ProcessNumber, signal: SignalNumber) -> bool
     ensures { result ≡ list_any (offers process.0 signal) routes.now }
 {
     routes.iter().any(|route| brings_in(route, process, signal))
 }
 
-/// Whether some route brings a signal from a process to the environment.
+/// Whether some route carries a signal from a process to the environment.
 fn some_brings_out(routes: &[DraftRoute], signal: SignalNumber) -> bool
     ensures { result ≡ list_any (tells signal) routes.now }
 {
     routes.iter().any(|route| brings_out(route, signal))
 }
 
-/// Whether some route of a set brings a signal from the environment to a process.
+/// Whether some route of a set carries a signal from the environment to a process.
 pub(crate) fn is_sent(set: &Verified, process: ProcessNumber, signal: SignalNumber) -> bool
     ensures { result ≡ list_any (offers process.0 signal) set.now.routes }
 {
     some_brings_in(set.draft().routes.as_slice(), process, signal)
 }
 
-/// Whether some route of a set brings a signal from a process to the environment.
+/// Whether some route of a set carries a signal from a process to the environment.
 pub(crate) fn is_heard(set: &Verified, signal: SignalNumber) -> bool
     ensures { result ≡ list_any (tells signal) set.now.routes }
 {
@@ -97,21 +97,21 @@ fn some_touches(routes: &[DraftRoute], signal: SignalNumber) -> bool
     routes.iter().any(|route| touches(route, signal))
 }
 
-/// Whether a route that carries it from or to the environment brings it from there to a process.
+/// Whether a route, if it carries the signal from or to the environment, carries it from there to this process.
 fn sends_alone(route: &DraftRoute, process: ProcessNumber, signal: SignalNumber) -> bool
     ensures { result ≡ sends_alone process.0 signal route.now }
 {
     !touches(route, signal) || brings_in(route, process, signal)
 }
 
-/// Whether it brings it from a process to there.
+/// Whether a route, if it carries the signal from or to the environment, carries it from a process to there.
 fn tells_alone(route: &DraftRoute, signal: SignalNumber) -> bool
     ensures { result ≡ tells_alone signal route.now }
 {
     !touches(route, signal) || brings_out(route, signal)
 }
 
-/// Whether all routes do the first.
+/// Whether `sends_alone` holds of all routes.
 fn all_send(routes: &[DraftRoute], process: ProcessNumber, signal: SignalNumber) -> bool
     ensures { result ≡ list_all (sends_alone process.0 signal) routes.now }
 {
@@ -120,7 +120,7 @@ fn all_send(routes: &[DraftRoute], process: ProcessNumber, signal: SignalNumber)
         .all(|route| sends_alone(route, process, signal))
 }
 
-/// Whether all routes do the second.
+/// Whether `tells_alone` holds of all routes.
 fn all_tell(routes: &[DraftRoute], signal: SignalNumber) -> bool
     ensures { result ≡ list_all (tells_alone signal) routes.now }
 {
@@ -134,21 +134,21 @@ pub(crate) fn is_touched(set: &Verified, signal: SignalNumber) -> bool
     some_touches(set.draft().routes.as_slice(), signal)
 }
 
-/// Whether all such routes of a set bring it to that process.
+/// Whether all routes of a set with the signal from or to the environment go from there to this process.
 pub(crate) fn is_sent_alone(set: &Verified, process: ProcessNumber, signal: SignalNumber) -> bool
     ensures { result ≡ list_all (sends_alone process.0 signal) set.now.routes }
 {
     all_send(set.draft().routes.as_slice(), process, signal)
 }
 
-/// Whether all such routes of a set bring it to the environment.
+/// Whether all routes of a set with the signal from or to the environment go from a process to there.
 pub(crate) fn is_heard_alone(set: &Verified, signal: SignalNumber) -> bool
     ensures { result ≡ list_all (tells_alone signal) set.now.routes }
 {
     all_tell(set.draft().routes.as_slice(), signal)
 }
 
-/// Whether a route that carries it from or to the environment brings it from there to one of two processes.
+/// Whether a route, if it carries the signal from or to the environment, carries it from there to one of two processes.
 fn sends_either(
     route: &DraftRoute,
     one: ProcessNumber,
@@ -160,7 +160,7 @@ fn sends_either(
     !touches(route, signal) || (brings_in(route, one, signal) || brings_in(route, other, signal))
 }
 
-/// Whether all routes do.
+/// Whether `sends_either` holds of all routes.
 fn all_send_either(
     routes: &[DraftRoute],
     one: ProcessNumber,
@@ -174,7 +174,7 @@ fn all_send_either(
         .all(|route| sends_either(route, one, other, signal))
 }
 
-/// Whether all such routes of a set bring it to one of two processes.
+/// Whether all routes of a set with the signal from or to the environment go from there to one of two processes.
 pub(crate) fn is_sent_to_either(
     set: &Verified,
     one: ProcessNumber,

@@ -1,4 +1,4 @@
-//! What a terminal wants of its set.
+//! What a terminal requires of its set.
 ghost use Rattle.std.specs.Prelude.{◌≡◌, ◌↔◌, All, IsTrue, IfSome, IfNone, slice_get};
 ghost use Rattle.turn_code.specs.Transitions.{parameters_of};
 ghost use Rattle.turn_code.specs.declared.numbers.SignalNumber.{SignalNumber as PlainSignal};
@@ -14,22 +14,22 @@ use thiserror::Error;
 use turn_check::Verified;
 use turn_code::{SignalNumber, Sort};
 
-/// Something that a terminal wants of its set.
+/// A requirement of a terminal on its set.
 #[derive(Clone, Copy, PartialEq, Eq, Debug, Error)]
 pub enum Wanted {
     /// A process.
     Process(ProcessName),
-    /// A signal that a route brings from the environment to that process.
+    /// A signal on a route from the environment to this process.
     Sent(ProcessName, SignalName),
-    /// A signal that a route brings from some process to the environment.
+    /// A signal on a route from some process to the environment.
     Heard(SignalName),
-    /// A signal that a text may have. Where a route from or to the environment carries it, each such route brings it from the environment to
-    /// that process.
+    /// An optional signal. If routes from or to the environment carry it, each of them goes from the environment to
+    /// this process.
     MaySend(ProcessName, OptionName),
-    /// The same, where each such route brings it from some process to the environment.
+    /// An optional signal. If routes from or to the environment carry it, each goes from a process to there.
     MayHear(OptionName),
-    /// Counting, which goes to both error rate monitors where a route from or to the environment carries it: each such route brings it to one of
-    /// them, and some route to this one.
+    /// The optional signal Counting. If routes from or to the environment carry it, each goes from there to one of the
+    /// two error rate monitors, and some route goes to this process.
     MayCount(ProcessName),
 }
 
@@ -51,8 +51,8 @@ impl fmt::Display for Wanted {
     }
 }
 
-/// All that a terminal wants, in the order in which it is asked for: the processes, what the environment sends to each, and what comes to
-/// it.
+/// All requirements of a terminal, in the order in which they are checked: the processes, the environment's signals to
+/// each, and the signals to the environment.
 pub(crate) fn all_wanted() -> [Wanted; 40]
     ensures { result ≡ wanted }
 {
@@ -107,7 +107,7 @@ fn are_sorts(found: &[Sort], sorts: &[Sort]) -> bool
     found == sorts
 }
 
-/// The sorts of a signal's parameters, none where there is no such signal.
+/// The sorts of a signal's parameters; none if there is no such signal.
 fn sorts_of(set: &Verified, signal: SignalNumber) -> &[Sort]
     ensures { result.now ≡ parameters_of (slice_get set.now.signals signal.0) }
 {
@@ -117,7 +117,7 @@ fn sorts_of(set: &Verified, signal: SignalNumber) -> &[Sort]
     }
 }
 
-/// The number of the signal of a name, where its parameters are those that a terminal knows.
+/// The number of the signal with this name, if its parameters are those required.
 fn spoken(set: &Verified, name: SignalName) -> Option<SignalNumber>
     ensures found { IfSome result (IsSpoken set.now name) }
     ensures none { IfNone result ((k : PlainSignal) → IsSpoken set.now name k → ⊥) }
@@ -134,7 +134,7 @@ fn spoken(set: &Verified, name: SignalName) -> Option<SignalNumber>
     }
 }
 
-/// Whether a route brings a signal of that name, with the parameters that a terminal knows, from the environment to a process of that name.
+/// Whether a route carries the signal of this name, with the required parameters, from the environment to this process.
 fn has_sent(set: &Verified, to: ProcessName, name: SignalName) -> bool
     ensures { IsTrue result ↔ HasSent set.now to name }
 {
@@ -147,7 +147,7 @@ fn has_sent(set: &Verified, to: ProcessName, name: SignalName) -> bool
     }
 }
 
-/// Whether a route brings a signal of that name, with the parameters that a terminal knows, from some process to the environment.
+/// Whether a route carries the signal of this name, with the required parameters, from some process to the environment.
 fn has_heard(set: &Verified, name: SignalName) -> bool
     ensures { IsTrue result ↔ HasHeard set.now name }
 {
@@ -157,7 +157,7 @@ fn has_heard(set: &Verified, name: SignalName) -> bool
     }
 }
 
-/// Whether the routes from and to the environment that carry a signal are all such as a terminal knows of that name, by its parameters too.
+/// Whether a signal has the required parameters, and its routes from or to the environment all go to this process.
 fn fits_sent(set: &Verified, to: ProcessName, name: OptionName, signal: SignalNumber) -> bool
     ensures { IsTrue result ↔ FitsSent set.now to name signal }
 {
@@ -169,14 +169,14 @@ fn fits_sent(set: &Verified, to: ProcessName, name: OptionName, signal: SignalNu
     }
 }
 
-/// The same of a signal that comes to the environment.
+/// As `fits_sent`, for a signal from some process to the environment.
 fn fits_heard(set: &Verified, name: OptionName, signal: SignalNumber) -> bool
     ensures { IsTrue result ↔ FitsHeard set.now name signal }
 {
     are_sorts(sorts_of(set, signal), name.sorts()) && is_heard_alone(set, signal)
 }
 
-/// The number of the signal of a name, where a route from or to the environment carries it.
+/// The number of the signal with this name, if a route from or to the environment carries it.
 pub(crate) fn touched(set: &Verified, name: OptionName) -> Option<SignalNumber>
     ensures found { IfSome result (IsTouched set.now name) }
     ensures none { IfNone result ((k : PlainSignal) → IsTouched set.now name k → ⊥) }
@@ -193,8 +193,8 @@ pub(crate) fn touched(set: &Verified, name: OptionName) -> Option<SignalNumber>
     }
 }
 
-/// Whether a signal of that name, if there is one on a route from or to the environment, is sent to that process alone, with the parameters
-/// that a terminal knows.
+/// Whether the signal of this name, if a route from or to the environment carries it, goes only to this process, with
+/// the required parameters.
 fn may_send(set: &Verified, to: ProcessName, name: OptionName) -> bool
     ensures { IsTrue result ↔ MaySendIt set.now to name }
 {
@@ -204,7 +204,7 @@ fn may_send(set: &Verified, to: ProcessName, name: OptionName) -> bool
     }
 }
 
-/// Whether one, if there is one, comes to the environment alone.
+/// As `may_send`, for a signal that goes only to the environment.
 fn may_hear(set: &Verified, name: OptionName) -> bool
     ensures { IsTrue result ↔ MayHearIt set.now name }
 {
@@ -214,7 +214,7 @@ fn may_hear(set: &Verified, name: OptionName) -> bool
     }
 }
 
-/// Whether the routes from and to the environment that carry Counting are all such as a terminal knows, and one of them brings it to a process.
+/// Whether a signal has Counting's parameters, goes only from the environment to the monitors and reaches this one.
 fn fits_counting(set: &Verified, to: ProcessName, signal: SignalNumber) -> bool
     ensures { IsTrue result ↔ FitsCounting set.now to signal }
 {
@@ -232,7 +232,7 @@ fn fits_counting(set: &Verified, to: ProcessName, signal: SignalNumber) -> bool
         && is_sent(set, process, signal)
 }
 
-/// Whether Counting, if a route from or to the environment carries it, is such, and goes to that process.
+/// Whether Counting, if a route from or to the environment carries it, fits and reaches this process.
 fn may_count(set: &Verified, to: ProcessName) -> bool
     ensures { IsTrue result ↔ MayCountIt set.now to }
 {
@@ -242,7 +242,7 @@ fn may_count(set: &Verified, to: ProcessName) -> bool
     }
 }
 
-/// Whether a set has what is wanted.
+/// Whether a set meets a requirement.
 fn has(set: &Verified, wanted: Wanted) -> bool
     ensures { IsTrue result ↔ Has set.now wanted }
 {
@@ -256,7 +256,7 @@ fn has(set: &Verified, wanted: Wanted) -> bool
     }
 }
 
-/// The first of these that a set lacks.
+/// The first of these requirements that a set doesn't meet.
 pub(crate) fn first_lacking(set: &Verified, all: &[Wanted]) -> Option<Wanted>
     ensures found { IfSome result (λ name. IsFirstLacking set.now name all.now) }
     ensures none { IfNone result (All (Has set.now) all.now) }

@@ -1,4 +1,4 @@
-//! The names of the processes and signals that a terminal speaks of.
+//! The names of the processes and signals that a terminal uses.
 ghost use Rattle.std.specs.Prelude.{◌≡◌};
 ghost use Rattle.link_processes.specs.Known.{process_word, signal_word, signal_sorts, option_word, option_sorts};
 
@@ -15,7 +15,7 @@ pub enum ProcessName {
     Cc,
 }
 
-/// A signal that the environment sends or gets.
+/// A signal from or to the environment.
 #[derive(Clone, Copy, PartialEq, Eq, Debug)]
 pub enum SignalName {
     PowerOn,
@@ -43,7 +43,7 @@ pub enum SignalName {
     RemoteBack,
 }
 
-/// A signal that a text may have, by which the environment and its actors then speak.
+/// An optional signal between the environment and the actors: a text may lack it.
 #[derive(Clone, Copy, PartialEq, Eq, Debug)]
 pub enum OptionName {
     Flush,
@@ -57,7 +57,7 @@ pub enum OptionName {
 }
 
 impl ProcessName {
-    /// The name as it is written.
+    /// The name as written in a text.
     pub fn word(self) -> &'static str
         ensures { result.now ≡ process_word self }
     {
@@ -73,7 +73,7 @@ impl ProcessName {
 }
 
 impl SignalName {
-    /// The name as it is written.
+    /// The name as written in a text.
     pub fn word(self) -> &'static str
         ensures { result.now ≡ signal_word self }
     {
@@ -104,7 +104,7 @@ impl SignalName {
         }
     }
 
-    /// The sorts of its parameters.
+    /// The sorts of the signal's parameters.
     pub fn sorts(self) -> &'static [Sort]
         ensures { result.now ≡ signal_sorts self }
     {
@@ -133,7 +133,7 @@ impl SignalName {
 }
 
 impl OptionName {
-    /// The name as it is written.
+    /// The name as written in a text.
     pub fn word(self) -> &'static str
         ensures { result.now ≡ option_word self }
     {
@@ -149,7 +149,7 @@ impl OptionName {
         }
     }
 
-    /// The sorts of its parameters.
+    /// The sorts of the signal's parameters.
     pub fn sorts(self) -> &'static [Sort]
         ensures { result.now ≡ option_sorts self }
     {

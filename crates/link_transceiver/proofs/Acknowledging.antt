@@ -1,4 +1,4 @@
--- A unit from the far side takes the messages that it acknowledges from what is kept to send.
+-- A received unit removes the messages that it acknowledges from those held for sending.
 use Rattle.std.proofs.Common.{◌≡◌, ℕ, ◌+◌, ◌-◌, ◌≤◌, ◌==◌, ◌&&◌, zero, suc, Bool, true, false, not, Option, Some, None, List, [], ◌∷◌, ◌++◌, length, take, drop, refl, sym, ap, ◌∙◌, arith}
 use Rattle.std.specs.Prelude.{if◌then◌else◌}
 use Rattle.resend_store.specs.declared.messages.Msu.{Msu}
@@ -43,7 +43,7 @@ rest_gone (suc n) zero ms h = let f : ⊥ = omega (arith, h) in absurd f
 rest_gone (suc n) (suc s) [] h = drop_none (suc s - suc n)
 rest_gone (suc n) (suc s) (m ∷ ms) h = ap (λ (k : ℕ). drop k (drop n ms)) (less_one n s) ∙ rest_gone n s ms (omega (arith, h))
 
--- ---- a window whose first so many are acknowledged
+-- ---- a window whose oldest messages are acknowledged
 
 sent_if : (b : Bool) (x y : Window) (n : ℕ) → x.sent ≡ n → y.sent ≡ n → (if b then x else y).sent ≡ n
 sent_if true x y n p q = p
@@ -72,7 +72,7 @@ without_waits w v n h kept sent =
 
 -- ---- a unit
 
--- These messages go, and what waits goes on waiting.
+-- These messages are removed, and the waiting ones stay.
 record Takes (gone : List Msu) (before after : Window) : Type 0 where
   loses : Loses gone before after
   waits : waiting after ≡ waiting before

@@ -1,4 +1,4 @@
--- What a receiver makes of units while messages are set aside.
+-- The receiver while messages are discarded.
 use Rattle.std.proofs.Common.{◌≡◌, ℕ, ◌==◌, ◌&&◌, Bool, true, false, not, None, Result, Ok, Err, refl, sym, ap, ◌∙◌}
 use Rattle.std.specs.Prelude.{if◌then◌else◌}
 use Rattle.resend_store.specs.declared.messages.Mode.{Mode}
@@ -9,7 +9,7 @@ use Rattle.su_octets.specs.declared.units.Head.{Head}
 use Rattle.link_transceiver.specs.Judging.{hears, sets_aside, hearing, fault_in}
 use Rattle.link_transceiver.specs.Laws.{is_accept}
 
--- ---- what is known
+-- ---- the receiver's state
 
 unlike-known : (r : Intake) (b : Bool) → (if◌then◌else◌ {A = Hearing} b (discards r) (record { verdict = Err BadIndicator; known = r })).known ≡ r
 unlike-known r true = refl
@@ -27,7 +27,7 @@ pub known_stays : (r : Intake) (fib : ℕ) → r ≡ (sets_aside r fib).known
 unfolding sets_aside
 known_stays r fib = sym (aside-known r.mode r fib)
 
--- ---- what is accepted
+-- ---- accepted messages
 
 unlike-none : (r : Intake) (b : Bool) → is_accept (if◌then◌else◌ {A = Hearing} b (discards r) (record { verdict = Err BadIndicator; known = r })).verdict ≡ false
 unfolding is_accept

@@ -1,4 +1,4 @@
--- Messages are handed out as they were accepted.
+-- Messages are handed out in the order in which they were accepted.
 use Rattle.std.proofs.Common.{◌≡◌, ◌&&◌, Bool, true, false, not, Option, Some, None, Result, Ok, Err, List, [], ◌∷◌, ◌++◌, drop, slice_get, refl, sym, ◌∙◌, ap, append_assoc, append-nil}
 use Rattle.std.specs.Prelude.{if◌then◌else◌}
 use Rattle.resend_store.specs.declared.messages.Msu.{Msu}
@@ -24,7 +24,7 @@ none-delivered (Ok Discard) ms = refl
 none-delivered (Ok Nack) ms = refl
 none-delivered (Err e) ms = refl
 
--- one with a message delivers it where it is accepted
+-- a unit with a message delivers it if it is accepted
 some-delivered : (v : Result Verdict UnitError) (m : Msu) (ms : List Msu) →
     delivered v (Some m) ms ≡ ms ++ (if is_accept v then m ∷ [] else [])
 unfolding is_accept
@@ -61,7 +61,7 @@ by_stores-none h head = elim h.take
     as (λ b. (if◌then◌else◌ {A = Judged} b (through h (heard h head None)) (left_aside 8 h)).transceiver.messages ≡ h.messages)
     [ true ↦ heard-none h head | false ↦ refl ]
 
--- the message, where a unit behind none at fault has these
+-- the message of a unit, if it is accepted and doesn't follow an abnormal unit
 abbrev if_accepted : TransceiverState → Head → Bool → Bool → Msu → List Msu
 if_accepted h head takes heeds m =
     if takes && heeds && not (is_abnormal h.sender (bsn_heeded h head.bsn)) && is_accept (hearing (accepts h) h.receiver (head_heeded h head) true).verdict then m ∷ [] else []

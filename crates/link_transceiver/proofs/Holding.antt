@@ -20,7 +20,7 @@ use Rattle.link_transceiver.specs.Reporting.{reported, message_reported, status_
 use Rattle.link_transceiver.specs.Laws.{BearsNone, HoldsBack, hold_after, accepted_of, is_accept, is_accepted}
 use Rattle.link_transceiver.proofs.Aside.{none_accepted, known_aside, held_accepts, same_fault}
 
--- ---- units that go out
+-- ---- sent units
 
 message-bears : (h : TransceiverState) (held : Bool) → held ≡ true → BearsNone (if◌then◌else◌ {A = Gone} held (fill_in_gone h) (sender_gone h (gives h.sender))).out
 message-bears h true e = (refl, refl)
@@ -71,7 +71,7 @@ gone-hold h = elim h.busy
     as (λ b. (if b then status_gone (record h { busy = false }) BUSY_CODE else gone_by h h.line).transceiver.hold ≡ h.hold)
     [ true ↦ refl | false ↦ gone_by-hold h h.line ]
 
--- ---- units that come
+-- ---- received units
 
 none_if : (a b c d : Bool) (ms : List Msu) → d ≡ false → (if a && b && c && d then ms else []) ≡ []
 none_if true true true true ms e = absurd (cc)

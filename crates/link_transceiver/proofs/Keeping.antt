@@ -1,4 +1,4 @@
--- Which calls take nothing from the messages that are kept to send, and which leave those that wait to be handed out.
+-- Which calls remove no message held for sending, and which leave the messages waiting to be handed out.
 use Rattle.std.proofs.Common.{◌≡◌, ℕ, ℤ, ◌+◌, ◌≤◌, nat_lt, Bool, true, false, Option, Some, None, List, [], length, slice_get, refl, sym, ap, arith}
 use Rattle.std.specs.Prelude.{if◌then◌else◌}
 use Rattle.resend_store.specs.declared.messages.Msu.{Msu}
@@ -17,7 +17,7 @@ use Rattle.link_transceiver.specs.Going.{Gone, gone, gone_by, gives, status_gone
 use Rattle.link_transceiver.specs.Reporting.{reported, message_reported, status_reported}
 use Rattle.link_transceiver.specs.Laws.{Loses}
 
--- what a signal leaves alone: what is kept to send, and what waits to be handed out
+-- a signal leaves the messages held for sending and those waiting to be handed out
 sends-sender : (k : Option LineKind) (h : TransceiverState) → (sends k h).sender ≡ h.sender
 sends-sender (Some k) h = refl
 sends-sender None h = refl
@@ -110,7 +110,7 @@ next_by-kept : (m : Mode) (w : Window) → (next_by m w).left.kept ≡ w.kept
 next_by-kept Basic w = basic-kept w
 next_by-kept Cyclic w = left_if w.forced (next_forced w) (next_ordinary w) w.kept (forced-kept w) (ordinary-kept w)
 
--- what a sender gives leaves what it keeps
+-- the sender's next unit leaves the messages that it holds
 gives-kept : (w : Window) → (gives w).left.kept ≡ w.kept
 unfolding gives
 gives-kept w = next_by-kept w.mode w
@@ -193,7 +193,7 @@ gone-sent h = elim h.busy
     as (λ b. (if b then status_gone (record h { busy = false }) BUSY_CODE else gone_by h h.line).transceiver.sender.sent ≤ h.sender.sent + 1)
     [ true ↦ no_more h.sender.sent | false ↦ gone_by-sent h h.line ]
 
--- ---- what waits to be handed out
+-- ---- messages waiting to be handed out
 
 message-messages : (h : TransceiverState) (b : Bool) → (if◌then◌else◌ {A = Gone} b (fill_in_gone h) (sender_gone h (gives h.sender))).transceiver.messages ≡ h.messages
 message-messages h true = refl

@@ -1,4 +1,4 @@
--- Units behind one at fault, and what the buffers lose.
+-- Units after an abnormal one, and how many messages are cleared.
 use Rattle.std.proofs.Common.{◌≡◌, ℕ, ℤ, ◌&&◌, Bool, true, false, not, Option, Some, None, List, [], ◌∷◌, slice_get, is_some, refl, sym, ap, ◌∙◌, arith}
 use Rattle.std.specs.Prelude.{if◌then◌else◌}
 use Rattle.arrayvec.specs.ArrayVec.{ArrayVec}
@@ -24,7 +24,7 @@ use Rattle.link_transceiver.specs.Reporting.{reported, message_reported, status_
 use Rattle.link_transceiver.specs.Laws.{CountsCleared, DiscardsBehindOdd, accepted_of, is_accept}
 use Rattle.link_transceiver.proofs.Aside.{same_fault}
 
--- ---- behind a unit at fault
+-- ---- after an abnormal unit
 
 none_behind : (a b c d : Bool) (ms : List Msu) → b ≡ true → (if a && not b && c && d then ms else []) ≡ []
 none_behind true true c d ms e = refl
@@ -64,9 +64,9 @@ judged-behind h (unit.Fisu head) e = by_stores-behind h head None e
 judged-behind h (unit.Msu head sio sif) e = by_stores-behind h head (Some (record { sio = sio; sif = sif })) e
 judged-behind h (unit.Lssu head status second) e = (refl, refl)
 
--- ---- whether Odd tells of faults, and what was cleared
+-- ---- whether Odd reports faults, and the count of cleared messages
 
--- what a unit leaves
+-- two fields that a unit doesn't change
 record Leaves (h k : TransceiverState) : Type 0 where
   odd : k.odd ≡ h.odd
   cleared : k.cleared ≡ h.cleared
@@ -99,7 +99,7 @@ judged-leaves h (unit.Fisu head) = by_stores-leaves h head None
 judged-leaves h (unit.Msu head sio sif) = by_stores-leaves h head (Some (record { sio = sio; sif = sif }))
 judged-leaves h (unit.Lssu head status second) = record { odd = refl; cleared = refl }
 
--- without the name no unit is behind an odd one
+-- if Odd doesn't report faults, no unit counts as one after an abnormal one
 heard-unnamed : (h : TransceiverState) (head : Head) (msu : Option Msu) → h.odd ≡ false → (heard h head msu).transceiver.behind_odd ≡ false
 unfolding heard
 heard-unnamed h head msu e = rw e refl
@@ -116,7 +116,7 @@ judged-unnamed h (unit.Fisu head) e f = by_stores-unnamed h head None e f
 judged-unnamed h (unit.Msu head sio sif) e f = by_stores-unnamed h head (Some (record { sio = sio; sif = sif })) e f
 judged-unnamed h (unit.Lssu head status second) e f = f
 
--- ---- which units have one behind them
+-- ---- which units follow an abnormal one
 
 taken-fault : (h : TransceiverState) (head : Head) (msu : Option Msu) → (taken h head msu).fault ≡ fault_in (sets_aside h.receiver head.fib).verdict
 unfolding hearing
@@ -188,7 +188,7 @@ discards_behind_odd = record {
   unnamed = judged-unnamed;
 }
 
--- ---- what other calls leave of the count
+-- ---- other calls don't change the count
 
 message-cleared : (h : TransceiverState) (b : Bool) → (if◌then◌else◌ {A = Gone} b (fill_in_gone h) (sender_gone h (gives h.sender))).transceiver.cleared ≡ h.cleared
 message-cleared h true = refl

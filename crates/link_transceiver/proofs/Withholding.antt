@@ -1,4 +1,4 @@
--- What goes out while acknowledgement is withheld.
+-- The units sent while acknowledgement is withheld.
 use Rattle.std.proofs.Common.{◌≡◌, ℕ, Bool, true, false, Option, Some, None, refl, ap}
 use Rattle.std.specs.Prelude.{if◌then◌else◌, unwrap_or}
 use Rattle.resend_store.specs.declared.messages.Msu.{Msu}
@@ -16,7 +16,7 @@ use Rattle.link_transceiver.specs.Judging.{Judged, judged, by_stores, through, l
 use Rattle.link_transceiver.specs.Going.{Gone, gone, gone_by, gives, head_with, idle_head, idle_fsn, filled, status_gone, fill_in_gone, sender_gone}
 use Rattle.link_transceiver.specs.Laws.{Tells, Withholds}
 
--- ---- units that come
+-- ---- received units
 
 stored-withheld : (h : TransceiverState) (head : Head) (msu : Option Msu) → (stored h head msu).transceiver.withheld ≡ h.withheld
 unfolding stored
@@ -42,7 +42,7 @@ judged-withheld h (unit.Fisu head) = by_stores-withheld h head None
 judged-withheld h (unit.Msu head sio sif) = by_stores-withheld h head (Some (record { sio = sio; sif = sif }))
 judged-withheld h (unit.Lssu head status second) = refl
 
--- ---- units that go out
+-- ---- sent units
 
 message-withheld : (h : TransceiverState) (b : Bool) → (if◌then◌else◌ {A = Gone} b (fill_in_gone h) (sender_gone h (gives h.sender))).transceiver.withheld ≡ h.withheld
 message-withheld h true = refl

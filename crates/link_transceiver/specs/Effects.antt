@@ -1,4 +1,4 @@
--- What the signals that actors send to the environment do.
+-- What the actors' signals to the environment do.
 use Rattle.std.specs.Prelude.{ℕ, ℤ, pos, negsuc, ◌+◌, ◌-◌, min, ◌==◌, nat_lt, Bool, true, false}
 use Rattle.std.specs.Prelude.{if◌then◌else◌, Option, Some, None, List, [], ◌∷◌, ◌++◌, length, drop}
 use Rattle.resend_store.specs.Window.{refreshed, emptied}
@@ -16,22 +16,22 @@ use Rattle.link_transceiver.specs.Limits.{KEPT_STATUSES, MOST_COUNTED}
 use Rattle.link_transceiver.specs.Faults.{no_faults}
 use Rattle.link_transceiver.specs.TransceiverState.{TransceiverState}
 
--- the number of the message that a receiver accepted last, and its bit in force
+-- the last accepted message's number, and the receiver's backward indicator bit
 abbrev pub backward_of : Intake → Backward
 backward_of r = record { bsn = r.last; bib = r.bib }
 
--- those that are withheld become those of a receiver that has accepted nothing
+-- a withheld number and bit become those of a receiver that has accepted nothing
 abbrev pub renewed_backward : Option Backward → Option Backward
 renewed_backward (Some b) = Some (record { bsn = 127; bib = 1 })
 renewed_backward None = None
 
--- a link that is held until both directions begin anew is held no more
+-- a link held until both directions restart is released
 abbrev pub renewed_hold : Hold → Hold
 renewed_hold hold.Free = hold.Free
 renewed_hold hold.UntilAnew = hold.Free
 renewed_hold hold.Kept = hold.Kept
 
--- The link is aligned anew: both stores begin anew, units before that tell of no fault, and
+-- The link is aligned again: both stores restart, faults of earlier units are forgotten, and
 -- messages are accepted.
 unfoldable pub renewed : TransceiverState → TransceiverState
 renewed h = record h {
@@ -46,12 +46,12 @@ renewed h = record h {
   began = true;
 }
 
--- so many more were cleared
+-- so many more messages were cleared
 abbrev pub counted : ℕ → ℕ → ℕ
 counted before more = min MOST_COUNTED (before + more)
 
--- The buffers are emptied (Q.703, figure 13): what waits and what is unacknowledged goes, and the
--- numbers go on after the last acknowledged one.
+-- The buffers are cleared (Q.703, figure 13): waiting and unacknowledged messages go, and the
+-- numbers continue after the last acknowledged one.
 unfoldable pub clears : TransceiverState → TransceiverState
 clears h = record h {
   sender = emptied h.sender None;
@@ -60,7 +60,7 @@ clears h = record h {
   cleared = counted h.cleared (length h.sender.kept);
 }
 
--- what goes out from then on, by number; other numbers name nothing
+-- the kind of unit to send that a number names; other numbers name none
 abbrev pub kind_by : ℕ → Option LineKind
 kind_by number =
     if nat_lt number 5 then Some (kind.Status number)
@@ -71,31 +71,31 @@ unfoldable pub kind_named : ℤ → Option LineKind
 kind_named (pos number) = kind_by number
 kind_named (negsuc number) = None
 
--- whether it is the number of the status 'busy'
+-- whether the number is that of the status 'busy'
 unfoldable pub is_busy_named : ℤ → Bool
 is_busy_named (pos number) = number == 5
 is_busy_named (negsuc number) = false
 
--- It goes out from now on, and no busy status that was wanted before.
+-- This kind is sent from now on, and a busy status requested before isn't.
 abbrev pub sends : Option LineKind → TransceiverState → TransceiverState
 sends (Some k) h = record h { line = Some k; busy = false }
 sends None h = h
 
--- One busy status goes out first; of any other number the last one counts.
+-- The number 5 requests one busy status, sent first. Any other number sets what is sent.
 unfoldable pub directed : ℤ → TransceiverState → TransceiverState
 directed number h =
     if is_busy_named number then record h { busy = true } else sends (kind_named number) h
 
--- the latest so many; those before them give way
+-- the latest statuses, as many as are kept; older ones are dropped
 unfoldable pub latest : List LinkStatus → List LinkStatus
 latest statuses = drop (length statuses - KEPT_STATUSES) statuses
 
--- one more is told
+-- one more status is queued
 unfoldable pub told : LinkStatus → TransceiverState → TransceiverState
 told s h = record h { statuses = latest (h.statuses ++ s ∷ []) }
 
--- While acknowledgement is withheld, number and bit stay as they are when that is asked for last,
--- whatever unit comes (Q.703, 9).
+-- While acknowledgement is withheld, number and bit stay as they were at the last such request,
+-- whatever is received (Q.703, 9).
 abbrev pub withheld_by : Bool → TransceiverState → TransceiverState
 withheld_by true h = record h { withheld = Some (backward_of h.receiver) }
 withheld_by false h = record h { withheld = None }

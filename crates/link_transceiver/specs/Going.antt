@@ -1,4 +1,4 @@
--- What goes out next.
+-- The next unit to send.
 use Rattle.std.specs.Prelude.{ℕ, false, if◌then◌else◌, Option, Some, None, unwrap_or}
 use Rattle.resend_store.specs.Window.{Window, Sending, next, fill_in}
 use Rattle.resend_store.specs.declared.messages.Msu.{Msu}
@@ -14,7 +14,7 @@ use Rattle.link_transceiver.specs.TransceiverState.{TransceiverState, is_held}
 use Rattle.link_transceiver.specs.Effects.{backward_of}
 use Rattle.link_transceiver.specs.Offers.{message_sent}
 
--- what a sender gives next
+-- the next unit of a sender
 unfoldable pub gives : Window → Sending
 gives w = next w
 
@@ -22,21 +22,21 @@ gives w = next w
 unfoldable pub idle_fsn : Window → ℕ
 idle_fsn w = (fill_in w).unit.fsn
 
--- The backward number and bit that go out: those of the receiver, or, while acknowledgement is
--- withheld, those that were the receiver's as that began.
+-- The backward number and bit to send: the receiver's, or, while acknowledgement is withheld, the
+-- receiver's when withholding began.
 abbrev pub backward_out : TransceiverState → Backward
 backward_out h = unwrap_or h.withheld (backward_of h.receiver)
 
--- the head of a unit around the sender's number and bit
+-- the head of a unit with the sender's number and bit
 abbrev pub head_with : TransceiverState → ℕ → ℕ → Head
 head_with h fsn fib =
     record { bsn = (backward_out h).bsn; bib = (backward_out h).bib; fsn = fsn; fib = fib }
 
--- that of a unit which the sender has no part in
+-- the head of a unit that doesn't come from the sender
 unfoldable pub idle_head : TransceiverState → Head
 idle_head h = head_with h (idle_fsn h.sender) h.sender.fib
 
--- a unit that nobody is told of
+-- a unit whose sending isn't reported to any actor
 abbrev pub quiet : Unit → UnitOut
 quiet u = record { unit = u; offer = None }
 
@@ -52,12 +52,12 @@ status_gone h code =
 abbrev pub fill_in_gone : TransceiverState → Gone
 fill_in_gone h = record { transceiver = h; out = Some (quiet (unit.Fisu (idle_head h))) }
 
--- each message that goes out is told of, a repeated one too
+-- each message sent is reported, a repeated one too
 abbrev pub filled : Head → Option Msu → UnitOut
 filled head (Some msu) = record { unit = unit.Msu head msu.sio msu.sif; offer = Some message_sent }
 filled head None = quiet (unit.Fisu head)
 
--- Behind a message that goes out no number acknowledges what was cleared before it.
+-- Once a message is sent, no number acknowledges messages cleared before it.
 abbrev pub spare_behind : Option Msu → ℕ → ℕ
 spare_behind (Some msu) spare = 0
 spare_behind None spare = spare
@@ -68,9 +68,9 @@ sender_gone h s = record {
   out = Some (filled (head_with h s.unit.fsn s.unit.fib) s.unit.msu);
 }
 
--- Where messages are to go out, one does, or a fill-in unit where there is none. While level 3
--- holds the link a fill-in unit goes in its place, with the numbers that stand, and what is to be
--- sent, or sent once more, waits.
+-- If messages are to be sent, a message is sent, or a fill-in unit if there is none. While level 3
+-- holds the link, a fill-in unit replaces it. The numbers don't change, and messages to send or to
+-- retransmit wait.
 abbrev pub message_gone : TransceiverState → Gone
 message_gone h = if is_held h.hold then fill_in_gone h else sender_gone h (gives h.sender)
 

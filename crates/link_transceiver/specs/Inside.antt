@@ -1,4 +1,4 @@
--- What the fields of a transceiver stand for, and keep.
+-- The value and the invariant of a transceiver's fields.
 use Rattle.std.specs.Prelude.{IfSome}
 use Rattle.link_transceiver.specs.declared.transceiver.Transceiver.TheInside.{Inside}
 use Rattle.link_transceiver.specs.TransceiverState.{TransceiverState, IsBackward}

@@ -1,4 +1,4 @@
--- What holds of a transceiver over every list of calls.
+-- Laws of a transceiver over every list of calls.
 use Rattle.std.specs.Prelude.{◌≡◌, ℕ, pos, ◌+◌, ◌≤◌, ◌&&◌, not, Bool, true, false, if◌then◌else◌}
 use Rattle.std.specs.Prelude.{Option, Some, None, is_some, Result, Ok, Err, List, [], ◌∷◌, ◌++◌}
 use Rattle.std.specs.Prelude.{length, take}
@@ -28,32 +28,32 @@ use Rattle.link_transceiver.specs.Judging.{is_abnormal, bsn_heeded, head_heeded,
 use Rattle.link_transceiver.specs.Going.{gone}
 use Rattle.link_transceiver.specs.Reporting.{reported}
 
--- These messages leave what is kept to send, and nothing else does: they are the oldest, and were
--- sent. Of what stays none counts as sent that didn't.
+-- Exactly these messages leave those held for sending: they are the oldest, and were sent. No
+-- remaining message newly counts as sent.
 pub record Loses (gone : List Msu) (before after : Window) : Type 0 where
   pub kept : before.kept ≡ gone ++ after.kept
   pub sent : length gone + after.sent ≤ before.sent
 
--- the messages up to a backward number: the oldest of those that are sent and not acknowledged
+-- the messages up to a backward number: the oldest of the sent and unacknowledged ones
 abbrev pub acknowledged_messages : Window → ℕ → List Msu
 acknowledged_messages w bsn = take (count_by w bsn) (unacknowledged w)
 
--- Those that a fill-in or message signal unit acknowledges: none where such units aren't taken, or
--- where it is discarded behind one at fault, or where its number is abnormal.
+-- The messages that a fill-in or message signal unit acknowledges: none if units aren't taken, if
+-- it follows an abnormal one, or if its number is abnormal.
 abbrev pub acknowledged_by : TransceiverState → Head → List Msu
 acknowledged_by h head =
     if h.take && not h.behind_odd && not (is_abnormal h.sender (bsn_heeded h head.bsn))
     then acknowledged_messages h.sender (bsn_heeded h head.bsn) else []
 
--- those that a unit acknowledges
+-- the messages that a unit acknowledges
 abbrev pub acknowledged_of : TransceiverState → Unit → List Msu
 acknowledged_of h (unit.Fisu head) = acknowledged_by h head
 acknowledged_of h (unit.Msu head sio sif) = acknowledged_by h head
 acknowledged_of h (unit.Lssu head status second) = []
 
--- Of what is kept to send a unit from the far side takes away the messages that it acknowledges,
--- and those that wait to be sent go on waiting; a signal, a unit that goes out and a report take
--- nothing. By a unit that goes out one more at most counts as sent.
+-- Of the messages held for sending, a received unit removes those that it acknowledges, and the
+-- waiting ones stay. A signal, a sent unit and a report remove none. A sent unit makes at most one
+-- more message count as sent.
 pub record KeepsUnacknowledged : Type 0 where
   pub on_signal : (s : EnvSignal) (h : TransceiverState) → Loses [] h.sender (effect s h).sender
   pub on_unit :
@@ -65,7 +65,7 @@ pub record KeepsUnacknowledged : Type 0 where
   pub one_sent : (h : TransceiverState) → (gone h).transceiver.sender.sent ≤ h.sender.sent + 1
   pub report : (h : TransceiverState) → (reported h).transceiver.sender ≡ h.sender
 
--- What Clear takes it counts, and it takes all; no other call counts any.
+-- Clear removes all messages held for sending, and counts them; no other call counts any.
 pub record CountsCleared : Type 0 where
   pub clear : (h : TransceiverState) → (clears h).sender.kept ≡ []
   pub counts :
@@ -83,26 +83,26 @@ is_accept (Ok Discard) = false
 is_accept (Ok Nack) = false
 is_accept (Err e) = false
 
--- whether a unit with a message goes to the receiver, and is accepted there
+-- whether a unit with a message goes to the receiver and is accepted there
 abbrev pub is_accepted : TransceiverState → Head → Bool
 is_accepted h head =
     h.take && not h.behind_odd && not (is_abnormal h.sender (bsn_heeded h head.bsn))
     && is_accept (hearing (accepts h) h.receiver (head_heeded h head) true).verdict
 
--- the message of a unit, where it is accepted
+-- the message of a unit, if it is accepted
 abbrev pub accepted_of : TransceiverState → Unit → List Msu
 accepted_of h (unit.Fisu head) = []
 accepted_of h (unit.Lssu head status second) = []
 accepted_of h (unit.Msu head sio sif) =
     if is_accepted h head then record { sio = sio; sif = sif } ∷ [] else []
 
--- the message of a unit, where it carries one
+-- the message of a unit, if it carries one
 abbrev pub message_in : Unit → List Msu
 message_in (unit.Fisu head) = []
 message_in (unit.Lssu head status second) = []
 message_in (unit.Msu head sio sif) = record { sio = sio; sif = sif } ∷ []
 
--- what a report hands out of them
+-- the message that a report hands out, if it is one
 abbrev pub message_of : Option Report → List Msu
 message_of (Some (report.Message msu)) = msu ∷ []
 message_of (Some (report.Status status)) = []
@@ -136,30 +136,30 @@ abbrev pub after : TransceiverState → List Call → TransceiverState
 after h [] = h
 after h (c ∷ cs) = after (after_call h c) cs
 
--- the messages that were accepted over a list of calls, in order
+-- the messages accepted over a list of calls, in order
 abbrev pub accepted : TransceiverState → List Call → List Msu
 accepted h [] = []
 accepted h (c ∷ cs) = accepted_by h c ++ accepted (after_call h c) cs
 
--- those that were handed out
+-- the messages handed out over a list of calls, in order
 abbrev pub handed : TransceiverState → List Call → List Msu
 handed h [] = []
 handed h (c ∷ cs) = handed_by h c ++ handed (after_call h c) cs
 
--- What waited and what was accepted is what was handed out, then what waits now: none lost, none
--- twice, all in order.
+-- The messages that waited and then those accepted are those handed out and then those that wait
+-- now: none lost, none twice, all in order.
 abbrev pub HandsOutInOrder : Type 0
 HandsOutInOrder =
     (h : TransceiverState) (cs : List Call)
     → h.messages ++ accepted h cs ≡ handed h cs ++ (after h cs).messages
 
--- a unit that goes out, if one does, has this backward number and bit
+-- the sent unit, if there is one, has this backward number and bit
 abbrev pub Tells : Backward → Option UnitOut → Type 0
 Tells b None = Prim.Unit {0}
 Tells b (Some out) = ((head_of out.unit).bsn ≡ b.bsn) × ((head_of out.unit).bib ≡ b.bib)
 
--- While acknowledgement is withheld, each unit that goes out tells of the number and the bit of
--- when that was asked for, whatever was heard since: units that come don't change what is withheld.
+-- While acknowledgement is withheld, each sent unit has the number and bit of when that was
+-- requested. Received units don't change what is withheld.
 pub record Withholds : Type 0 where
   pub begins :
       (h : TransceiverState)
@@ -169,27 +169,26 @@ pub record Withholds : Type 0 where
   pub tells : (h : TransceiverState) (b : Backward) → h.withheld ≡ Some b → Tells b (gone h).out
   pub ends : (h : TransceiverState) → (effect (signal.Withhold false) h).withheld ≡ None
 
--- Once a busy status was asked for, it goes out, and everything is as before: so it goes out once.
+-- A requested busy status is sent, and then the state is as before: so it is sent once.
 abbrev pub BusyGoesOutOnce : Type 0
 BusyGoesOutOnce =
     (h : TransceiverState) → h.busy ≡ false
     → (gone (effect (signal.Line (pos 5)) h)).transceiver ≡ h
 
--- no message goes out, and nobody is told of one
+-- no message is sent, and none is reported as sent
 abbrev pub BearsNone : Option UnitOut → Type 0
 BearsNone None = Prim.Unit {0}
 BearsNone (Some out) = (message_in out.unit ≡ []) × (out.offer ≡ None)
 
--- whether a link is held behind a signal: only a new beginning of both directions changes that
+-- the hold after a signal: only a restart of both directions changes it
 abbrev pub hold_after : EnvSignal → Hold → Hold
 hold_after signal.Fresh x = renewed_hold x
 hold_after _ x = x
 
--- While level 3 holds a link no message goes out and none is accepted. What is to be sent, or sent
--- once more, waits. What was accepted last, the bit that goes out and what is asked for stay. A
--- unit is at fault just where it is else. Nothing ends this but what level 3 says, or a new
--- beginning of both directions where it was held until that. Where messages aren't to be
--- delivered none is accepted either, and what is known stays.
+-- While level 3 holds a link, no message is sent and none is accepted. Messages to send or to
+-- retransmit wait. The receiver's number, bit and requests stay. Units are judged abnormal exactly
+-- as without a hold. Only level 3 ends a hold or, if held until then, a restart of both directions.
+-- If messages aren't to be delivered, none is accepted either, and the receiver stays.
 pub record HoldsBack : Type 0 where
   pub unit_out : (h : TransceiverState) → is_held h.hold ≡ true → BearsNone (gone h).out
   pub sender :
@@ -213,9 +212,9 @@ pub record HoldsBack : Type 0 where
   pub on_signal :
       (s : EnvSignal) (h : TransceiverState) → (effect s h).hold ≡ hold_after s h.hold
 
--- Behind a unit at fault, where Odd tells of that, the next fill-in or message signal unit
--- acknowledges nothing, asks for nothing and isn't accepted; behind one without fault it is taken
--- as ever. Units that are at fault by their forward indicator alone have acknowledged before.
+-- If Odd reports faults, the fill-in or message signal unit after an abnormal one acknowledges
+-- nothing, requests nothing and isn't accepted. After a normal one it is taken as usual. A unit
+-- whose only fault is its forward indicator has already acknowledged.
 pub record DiscardsBehindOdd : Type 0 where
   pub fill_in :
       (h : TransceiverState) (head : Head) → h.odd ≡ true → h.take ≡ true

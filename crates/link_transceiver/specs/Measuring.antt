@@ -1,5 +1,5 @@
--- What a terminal measures (ITU-T Q.752), as a function of its steps: what each step adds, by the
--- transceiver before it and behind it. Counts stay at the greatest one.
+-- What each step of a terminal adds to its measurements (ITU-T Q.752), by the transceiver before
+-- and after it. Counts stop at the greatest one.
 use Rattle.std.specs.Prelude.{
   ℕ,
   ℤ,
@@ -40,9 +40,9 @@ use Rattle.link_transceiver.specs.Effects.{counted, kind_named}
 use Rattle.link_transceiver.specs.Limits.{BUSY_CODE}
 use Rattle.link_transceiver.specs.TransceiverState.{TransceiverState}
 
--- ---- what is looked at
+-- ---- what measurements read
 
--- the status of a processor outage goes out (Q.703, 8 and 11.1.3)
+-- whether the status of a processor outage is sent (Q.703, 8 and 11.1.3)
 abbrev pub is_outage : Option LineKind → Bool
 is_outage (Some (kind.Status code)) = code == 4
 is_outage (Some kind.FillIn) = false
@@ -71,7 +71,7 @@ glance h = record {
   many = reaches_number h.sender;
 }
 
--- what a unit is: a message with so many octets of SIO and SIF, a fill-in unit, a status
+-- the kind of a unit: a message with so many octets of SIO and SIF, a fill-in unit, or a status
 unfoldable pub seen_of : Unit → Seen
 seen_of (unit.Fisu head) = seen.FillIn
 seen_of (unit.Lssu head status second) = seen.Status (status % 8)
@@ -87,7 +87,7 @@ is_message (seen.Message octets) = true
 is_message seen.FillIn = false
 is_message (seen.Status code) = false
 
--- the status of congestion (Q.703, 9)
+-- whether a unit is a busy status (Q.703, 9)
 abbrev pub is_sib : Seen → Bool
 is_sib (seen.Message octets) = false
 is_sib seen.FillIn = false
@@ -95,15 +95,15 @@ is_sib (seen.Status code) = code == BUSY_CODE
 
 -- ---- counts
 
--- one more, or so many more, where that is so
+-- so many more are counted, if the condition holds
 abbrev pub more_if : Bool → ℕ → ℕ → ℕ
 more_if so more before = if so then counted before more else before
 
--- one more begins, where that is so
+-- one more beginning is counted, if the condition holds
 abbrev pub begun_if : Bool → Spells → Spells
 begun_if so s = record s { number = more_if so 1 s.number }
 
--- so many ticks of it pass, where it is so
+-- so many ticks are added to the duration, if the condition holds
 abbrev pub lasted_if : Bool → ℕ → Spells → Spells
 lasted_if so ticks s = record s { time = more_if so ticks s.time }
 
@@ -150,17 +150,17 @@ measured_from far_busy = record {
   is_far_busy = far_busy;
 }
 
--- of a new terminal
+-- the measurements of a new terminal
 abbrev pub no_measures : Measures
 no_measures = measured_from false
 
--- All counts begin anew. That the far side is congested is no count, and stays.
+-- All counts restart at 0. Whether the far side is congested isn't a count, and stays.
 unfoldable pub reset : Measures → Measures
 reset m = measured_from m.is_far_busy
 
 -- ---- ticks
 
--- So many ticks pass, and a terminal is as it is before them.
+-- So many ticks pass, through which a terminal stays in the given state.
 unfoldable pub passed : ℕ → Glance → Measures → Measures
 passed ticks g m = record m {
   service_time = more_if g.in_service ticks m.service_time;
@@ -170,7 +170,7 @@ passed ticks g m = record m {
   far_busy = lasted_if m.is_far_busy ticks m.far_busy;
 }
 
--- ---- what the actors tell
+-- ---- the actors' signals
 
 -- why a link went down
 abbrev pub cause_by : ℕ → Cause
@@ -194,7 +194,7 @@ stopped f = record f { stops = counted f.stops 1 }
 abbrev pub failed : Failures → Failures
 failed f = record f { all = counted f.all 1 }
 
--- A stop is no failure. A reason that has no count of its own is one.
+-- A stop isn't a failure. A reason without its own count is one.
 unfoldable pub down_by : Cause → Failures → Failures
 down_by cause.Stopped f = stopped f
 down_by cause.Alignment f = record (failed f) { alignment = counted f.alignment 1 }
@@ -206,13 +206,13 @@ down_by cause.T7 f = record (failed f) { t7 = counted f.t7 1 }
 down_by cause.T6 f = record (failed f) { t6 = counted f.t6 1 }
 down_by cause.Other f = failed f
 
--- The far side's congestion is over: it acknowledged something, or no message is out any more, or
--- may go out (Q.703, 9.3).
+-- The far side's congestion is over: it acknowledged something, no message is unacknowledged, or
+-- none may be sent (Q.703, 9.3).
 abbrev pub calmed : Measures → Measures
 calmed m = record m { is_far_busy = false }
 
--- Something else goes out from now on. An outage of this side begins where its status goes out that
--- didn't before; and where messages go out no more, the far side's congestion is over.
+-- The kind of units sent changes. An outage of this side begins if its status is sent and wasn't
+-- before. If messages are no longer sent, the far side's congestion is over.
 abbrev pub directed_to : Option LineKind → Glance → Measures → Measures
 directed_to (Some (kind.Status code)) g m =
     record m { outages = begun_if (code == 4 && not g.outage) m.outages; is_far_busy = false }
@@ -220,11 +220,11 @@ directed_to (Some kind.FillIn) g m = calmed m
 directed_to (Some kind.Messages) g m = m
 directed_to None g m = m
 
--- this side is congested where acknowledgement is withheld that wasn't before (Q.703, 9)
+-- this side becomes congested when it begins to withhold acknowledgement (Q.703, 9)
 abbrev pub withheld_from : Bool → Glance → Measures → Measures
 withheld_from on g m = record m { busy = begun_if (on && not g.busy) m.busy }
 
--- an outage of the far side begins where none was told before, or it was over
+-- an outage of the far side begins, if none was reported before or the last one was over
 abbrev pub far_out_from : Glance → Measures → Measures
 far_out_from g m = record m { far_outages = begun_if (not g.far_out) m.far_outages }
 
@@ -232,7 +232,7 @@ abbrev pub down_from : ℤ → Measures → Measures
 down_from reason m =
     record m { failures = down_by (cause_of reason) m.failures; is_far_busy = false }
 
--- what a signal to the environment adds, by the transceiver before it
+-- what a signal to the environment adds; `Glance` is the transceiver before it
 unfoldable pub signal_counted : EnvSignal → Glance → Measures → Measures
 signal_counted signal.Fresh g m = calmed m
 signal_counted (signal.Take on) g m = m
@@ -246,24 +246,24 @@ signal_counted signal.RemoteBack g m = m
 signal_counted signal.Clear g m = m
 signal_counted signal.Cleared g m = m
 
--- ---- units that come
+-- ---- received units
 
--- one with errors, and sixteen octets without one
+-- a received unit with errors; sixteen octets without a unit
 unfoldable pub error_counted : Measures → Measures
 error_counted m = record m { errors = record m.errors { units = counted m.errors.units 1 } }
 
 unfoldable pub octets_counted : Measures → Measures
 octets_counted m = record m { errors = record m.errors { octets = counted m.errors.octets 1 } }
 
--- A unit asked for retransmission where the forward indicator bit turned; and a negative
--- acknowledgement goes back where the backward one did (Q.703, 5).
+-- A unit requested retransmission if the forward indicator bit turned. A negative acknowledgement
+-- is sent if the backward indicator bit did (Q.703, 5).
 abbrev pub nacks_counted : Glance → Glance → Errors → Errors
 nacks_counted before after e = record e {
   nacks_received = more_if (not (before.fib == after.fib)) 1 e.nacks_received;
   nacks_sent = more_if (not (before.bib == after.bib)) 1 e.nacks_sent;
 }
 
--- its message was accepted where one more waits to be handed out
+-- the unit's message was accepted if one more waits to be handed out
 abbrev pub received_counted : Glance → Seen → Glance → Traffic → Traffic
 received_counted before x after t = record t {
   octets_received =
@@ -271,15 +271,15 @@ received_counted before x after t = record t {
   messages_received = more_if (nat_lt before.waiting after.waiting) 1 t.messages_received;
 }
 
--- whether a status of congestion comes while messages are out, and more may go (Q.703, 9.3)
+-- a busy status is received while messages are unacknowledged and may be sent (Q.703, 9.3)
 abbrev pub is_congested : Glance → Seen → Bool
 is_congested g x = is_sib x && (g.sending && nat_lt 0 g.sent)
 
--- whether it acknowledged a message
+-- whether a unit acknowledged a message
 abbrev pub acknowledges : Glance → Glance → Bool
 acknowledges before after = not (before.acknowledged == after.acknowledged)
 
--- a unit without errors, by the transceiver before it and behind it, before the actors hear of it
+-- a unit without errors, by the transceiver before and after it (before the actors react)
 unfoldable pub came_counted : Glance → Seen → Glance → Measures → Measures
 came_counted before x after m = record m {
   errors = nacks_counted before after m.errors;
@@ -288,9 +288,9 @@ came_counted before x after m = record m {
   is_far_busy = (is_congested before x || m.is_far_busy) && not (acknowledges before after);
 }
 
--- ---- units that go out
+-- ---- sent units
 
--- A message goes out for the first time where one more is sent and not acknowledged, else again.
+-- A message is sent for the first time if one more is unacknowledged after it, else again.
 abbrev pub is_first : Glance → Glance → Bool
 is_first before after = nat_lt before.sent after.sent
 
@@ -305,20 +305,20 @@ abbrev pub some_left : Option ℕ → Bool
 some_left None = false
 some_left (Some left) = nat_lt 0 left
 
--- A round of forced retransmission begins with a message behind which one is under way, where none
--- was before, or nothing was left of it (Q.703, 6.4).
+-- A round of forced retransmission begins with a message if one is under way after it, and none
+-- before, or one with nothing left (Q.703, 6.4).
 abbrev pub begins_round : Glance → Seen → Glance → Bool
 begins_round before x after =
     is_message x && (is_some after.round && not (some_left before.round))
 
--- by the number of messages where that reaches its limit, else by their octets
+-- counted by number if the messages reach that limit, else by their octets
 abbrev pub rounds_counted : Glance → Seen → Glance → Rounds → Rounds
 rounds_counted before x after r = record r {
   by_number = more_if (begins_round before x after && after.many) 1 r.by_number;
   by_octets = more_if (begins_round before x after && not after.many) 1 r.by_octets;
 }
 
--- a unit, by the transceiver before it and behind it, before the actors hear of it
+-- a sent unit, by the transceiver before and after it (before the actors react)
 unfoldable pub went_counted : Glance → Seen → Glance → Measures → Measures
 went_counted before x after m = record m {
   traffic = sent_traffic before x after m.traffic;
@@ -327,7 +327,7 @@ went_counted before x after m = record m {
 
 -- ---- by name
 
--- what was counted
+-- the value of a measurement
 abbrev pub count_of : Measure → Measures → ℕ
 count_of name.ServiceTime m = m.service_time
 count_of name.Failures m = m.failures.all

@@ -1,5 +1,4 @@
--- What is handed out to whoever uses the link: messages first, then what was told of the link, each
--- in order.
+-- What is handed out to the user of the link: messages first, then statuses, each in order.
 use Rattle.std.specs.Prelude.{Option, Some, None, drop, slice_get}
 use Rattle.resend_store.specs.declared.messages.Msu.{Msu}
 use Rattle.link_transceiver.specs.declared.signals.LinkStatus.{LinkStatus}

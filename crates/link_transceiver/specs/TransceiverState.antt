@@ -1,4 +1,4 @@
--- What a signalling link terminal keeps beside its actors and its line.
+-- What a signalling link terminal keeps besides its actors and its line.
 use Rattle.std.specs.Prelude.{◌<◌, ℕ, Bool, true, false, not, Option, None, List, []}
 use Rattle.resend_store.specs.Window.{Window, start_within}
 use Rattle.resend_store.specs.Intake.{Intake, first_intake}
@@ -14,60 +14,60 @@ use Rattle.link_transceiver.specs.declared.signals.LinkStatus.{LinkStatus}
 use Rattle.link_transceiver.specs.declared.signals.Backward.{Backward}
 use Rattle.link_transceiver.specs.Faults.{no_faults}
 
--- a number and a bit as units have them
+-- a backward number and bit within their ranges
 pub record IsBackward (b : Backward) : Type 0 where
   pub number : b.bsn < 128
   pub indicator : b.bib < 2
 
--- whether a link is held: until both its directions begin anew, or until level 3 says otherwise
+-- whether a link is held, until both its directions restart or until level 3 says otherwise
 unfoldable pub is_held : Hold → Bool
 is_held hold.Free = false
 is_held hold.UntilAnew = true
 is_held hold.Kept = true
 
 pub record TransceiverState : Type 0 where
-  -- the messages to send, and the numbers that they go out with
+  -- the messages to send, and their sequence numbers
   pub sender : Window
   -- which messages of the far side were accepted
   pub receiver : Intake
-  -- whether fill-in and message signal units go through both
+  -- whether fill-in and message signal units go through both stores
   pub take : Bool
-  -- whether messages that come are accepted, and not discarded once their units were judged
+  -- whether received messages are accepted, or judged and then discarded
   pub deliver : Bool
   -- the backward sequence number and indicator bit that go out in place of the receiver's
   pub withheld : Option Backward
-  -- what goes out; nothing before that was said for the first time
+  -- the kind of units sent; none until it is first set
   pub line : Option LineKind
-  -- whether one unit that tells of congestion goes out first
+  -- whether one unit that reports congestion is sent first
   pub busy : Bool
-  -- whether level 3 holds the link: it gives no message for the line then, and accepts none
+  -- whether level 3 holds the link: then it sends and accepts no message
   pub hold : Hold
-  -- whether a unit at fault is told of by Odd, and the next one discarded
+  -- whether Odd reports abnormal units and the unit after one is discarded
   pub odd : Bool
-  -- whether the last one was at fault, so that the next is discarded
+  -- whether the last unit was abnormal, so that the next one is discarded
   pub behind_odd : Bool
-  -- how many messages were out as the buffers were emptied, until a message goes out
+  -- how many messages were unacknowledged when the buffers were cleared; 0 once a message is sent
   pub spare : ℕ
-  -- whether the buffers are to be emptied
+  -- whether the buffers are to be cleared
   pub clearing : Bool
   -- how many messages were cleared
   pub cleared : ℕ
-  -- what was wrong with the last three units that went through the stores, the newest first
+  -- the faults of the last three units that went through the stores, the newest first
   pub faults : List (Option Fault)
-  -- messages that were accepted and not handed out yet, the oldest first
+  -- messages accepted and not yet handed out, the oldest first
   pub messages : List Msu
-  -- the same of what was told of the link
+  -- statuses not yet handed out, the oldest first
   pub statuses : List LinkStatus
-  -- whether the link is in service, by what was told last
+  -- whether the link is in service, as last reported
   pub in_service : Bool
-  -- whether the far side's processor is out, by what was told last
+  -- whether the far side has a processor outage, as last reported
   pub far_out : Bool
-  -- whether it came into service since that was last asked
+  -- whether the link came into service since that was last read
   pub came : Bool
-  -- whether both its directions began anew since that was last asked
+  -- whether both directions restarted since that was last read
   pub began : Bool
 
--- that of a terminal that is made, with these limits of forced retransmission
+-- the state of a new terminal, with these limits of forced retransmission
 abbrev pub first_within : RoundLimits → Mode → TransceiverState
 first_within limits mode = record {
   sender = start_within limits mode;
@@ -92,6 +92,6 @@ first_within limits mode = record {
   began = false;
 }
 
--- with the usual ones
+-- the state of a new terminal, with the usual limits
 unfoldable pub first_transceiver : Mode → TransceiverState
 first_transceiver mode = first_within usual_limits mode

@@ -1,12 +1,12 @@
-//! Buffers that are emptied, and units at fault that are told of.
+//! Clearing the buffers, and whether abnormal units are reported.
 ghost use Rattle.std.specs.Prelude.{◌≡◌};
 ghost use Rattle.link_transceiver.specs.Effects.{clears};
 
 use crate::transceiver::Transceiver;
 
 impl Transceiver {
-    /// Empties the buffers (Q.703, figure 13): what waits and what is unacknowledged goes, and the numbers go on after the last acknowledged
-    /// one. What goes is counted.
+    /// Clears the buffers (Q.703, figure 13): all waiting and unacknowledged messages go, and are counted. Numbers
+    /// continue after the last acknowledged message's.
     #[tactic(auto, unfolding(crate::specs::Effects::clears))]
     pub fn clear(&mut self)
         ensures { self.new ≡ clears self.old }
@@ -21,21 +21,21 @@ impl Transceiver {
         self.sender.clear();
     }
 
-    /// Whether an actor asked for that, and it wasn't done since.
+    /// Whether an actor requested clearing that hasn't been done yet.
     pub fn is_to_clear(&self) -> bool
         ensures { result ≡ self.now.clearing }
     {
         self.clearing
     }
 
-    /// How many messages were cleared: 2^64 - 1 where there were that many or more.
+    /// How many messages were cleared. The count stops at 2^64 - 1.
     pub fn cleared(&self) -> u64
         ensures { result ≡ self.now.cleared }
     {
         self.cleared
     }
 
-    /// Says whether units at fault are told of by `Notice::Odd`, and the ones behind them discarded.
+    /// Sets whether `Notice::Odd` reports abnormal units and the unit after one is discarded.
     pub fn tell_odd(&mut self, odd: bool)
         ensures { self.new ≡ record self.old { odd = odd } }
     {

@@ -1,19 +1,19 @@
-//! Which of the last units were at fault.
+//! The faults of the last units.
 ghost use Rattle.std.specs.Prelude.{◌≡◌, ◌≤◌, ◌∷◌, [], count_by};
 ghost use Rattle.link_transceiver.specs.Faults.{no_faults, with_newest, is_failing, is_abnormal_bsn, is_abnormal_fib};
 
 use std::marker::Model;
 
-/// What is wrong with a unit that has no errors by its check bits (Q.703, 5.3).
+/// The fault of a unit whose check bits are right (Q.703, 5.3).
 #[derive(Clone, Copy, Debug, PartialEq, Eq)]
 pub enum Fault {
-    /// Its backward sequence number acknowledges what wasn't sent.
+    /// Its backward sequence number acknowledges messages that weren't sent.
     AbnormalBsn,
-    /// Its forward indicator bit changed, and nothing had asked for that.
+    /// Its forward indicator bit changed, although no retransmission was requested.
     AbnormalFib,
 }
 
-/// What was wrong with the last three units that went through the stores. Contracts see a list, the newest first.
+/// The faults of the last three units that went through the stores. Contracts see a list, the newest first.
 #[derive(Debug, Drop)]
 pub(crate) struct LastThree {
     newest: Option<Fault>,
@@ -31,7 +31,7 @@ impl Model for LastThree {
 }
 
 impl LastThree {
-    /// Nothing was wrong, or there were no units.
+    /// No faults, or no units yet.
     pub(crate) fn new() -> LastThree
         ensures { result ≡ no_faults }
     {
@@ -42,7 +42,7 @@ impl LastThree {
         }
     }
 
-    /// One more unit, with a fault or without.
+    /// Remembers one more unit, with its fault if it has one.
     pub(crate) fn remember(&mut self, fault: Option<Fault>)
         ensures { self.new ≡ with_newest fault self.old }
     {
@@ -51,7 +51,7 @@ impl LastThree {
         self.newest = fault;
     }
 
-    /// Whether two had the one fault, or two the other.
+    /// Whether two of the units had one kind of fault, or two the other.
     #[tactic(auto, unfolding(crate::specs::Faults::is_failing))]
     pub(crate) fn is_failing(&self) -> bool
         ensures { result ≡ is_failing self.now }

@@ -1,4 +1,4 @@
-//! What of a transceiver and of a unit is looked at for measurements.
+//! What measurements read of a transceiver and of a unit.
 ghost use Rattle.std.specs.Prelude.{◌≡◌};
 ghost use Rattle.link_transceiver.specs.Measuring.{glance, seen_of, is_outage, is_messages, octets_seen, is_message, is_sib};
 
@@ -6,18 +6,18 @@ use crate::signals::{BUSY, LineKind};
 use crate::transceiver::Transceiver;
 use su_octets::Unit;
 
-/// What measurements ask of a transceiver.
+/// What measurements read of a transceiver.
 #[derive(Clone, Copy)]
 pub struct Glance {
-    /// Whether the link is in service, by what was told last.
+    /// Whether the link is in service, as last reported.
     pub in_service: bool,
-    /// Whether the far side's processor is out, by what was told last.
+    /// Whether the far side has a processor outage, as last reported.
     pub far_out: bool,
-    /// Whether the status of a processor outage goes out.
+    /// Whether the status of a processor outage is sent.
     pub outage: bool,
     /// Whether acknowledgement is withheld.
     pub busy: bool,
-    /// Whether messages go out.
+    /// Whether messages may be sent.
     pub sending: bool,
     /// How many accepted messages wait to be handed out.
     pub waiting: usize,
@@ -25,28 +25,28 @@ pub struct Glance {
     pub bib: u8,
     /// The sender's forward indicator bit.
     pub fib: u8,
-    /// How many messages are sent and not acknowledged.
+    /// How many messages are sent and unacknowledged.
     pub sent: usize,
-    /// The number of the message that was acknowledged last.
+    /// The number of the last acknowledged message.
     pub acknowledged: u8,
-    /// How many messages of a round of forced retransmission are still to go; none where no round is under way.
+    /// How many messages of a round of forced retransmission are still to be sent; none if no round is under way.
     pub round: Option<u8>,
-    /// Whether so many messages are unacknowledged that their number alone forces retransmission.
+    /// Whether the number of unacknowledged messages by itself forces retransmission.
     pub many: bool,
 }
 
-/// What a unit is to measurements.
+/// What measurements read of a unit.
 #[derive(Clone, Copy)]
 pub enum Seen {
     /// A message with so many octets of SIO and SIF.
     Message(u64),
     /// A fill-in unit.
     FillIn,
-    /// A status, by its code.
+    /// A link status signal unit, by its code.
     Status(u8),
 }
 
-/// What a unit is to measurements.
+/// What measurements read of a unit.
 #[tactic(auto, unfolding(crate::specs::Measuring::seen_of))]
 pub fn seen_of(unit: &Unit) -> Seen
     ensures { result ≡ seen_of unit.now }
@@ -59,7 +59,7 @@ pub fn seen_of(unit: &Unit) -> Seen
 }
 
 impl Seen {
-    /// The octets of SIO and SIF; 0 where it is no message.
+    /// The octets of SIO and SIF; 0 if the unit isn't a message.
     pub(crate) fn octets(self) -> u64
         ensures { result ≡ octets_seen self }
     {
@@ -69,7 +69,7 @@ impl Seen {
         }
     }
 
-    /// Whether it is a message.
+    /// Whether the unit is a message.
     pub(crate) fn is_message(self) -> bool
         ensures { result ≡ is_message self }
     {
@@ -79,7 +79,7 @@ impl Seen {
         }
     }
 
-    /// Whether it is the status of congestion.
+    /// Whether the unit is a busy status.
     pub(crate) fn is_sib(self) -> bool
         ensures { result ≡ is_sib self }
     {
@@ -90,7 +90,7 @@ impl Seen {
     }
 }
 
-/// Whether the status of a processor outage goes out.
+/// Whether the status of a processor outage is sent.
 fn is_outage(line: Option<LineKind>) -> bool
     ensures { result ≡ is_outage line }
 {
@@ -102,7 +102,7 @@ fn is_outage(line: Option<LineKind>) -> bool
     }
 }
 
-/// Whether messages go out.
+/// Whether messages may be sent.
 fn is_messages(line: Option<LineKind>) -> bool
     ensures { result ≡ is_messages line }
 {
@@ -115,7 +115,7 @@ fn is_messages(line: Option<LineKind>) -> bool
 }
 
 impl Transceiver {
-    /// What measurements ask of it.
+    /// What measurements read of this transceiver.
     #[tactic(auto, unfolding(crate::specs::Measuring::glance))]
     pub fn glance(&self) -> Glance
         ensures { result ≡ glance self.now }

@@ -15,24 +15,24 @@ use arrayvec::ArrayVec;
 use resend_store::{AckError, Msu, Receiver, Sender, UnitError, Verdict};
 use su_octets::{Head, Unit};
 
-/// The number that stands for fill-in and message signal units.
+/// The number by which fill-in and message signal units are reported.
 const FILL_IN_OR_MESSAGE: u8 = 8;
 
-/// What is offered because of a unit.
+/// The offers for one unit.
 pub type Offers = ArrayVec<Offer, 5>;
 
 impl Transceiver {
-    /// Takes a unit without errors, and answers what is to be offered because of it, in this order (Q.703, sections 5, 6 and
-    /// 10): `Good` to both monitors; `AckSeen` where it acknowledges messages; `Bad` where two of the last three units had an
-    /// abnormal backward number, or two an abnormal forward indicator; `Unit` with its kind.
+    /// Takes a unit without errors, and returns the offers for it, in this order (Q.703, sections 5, 6 and 10): `Good`
+    /// to both monitors; `AckSeen` if it acknowledges messages; `Bad` if two of the last three units had an abnormal
+    /// backward number, or two an abnormal forward indicator; `Unit` with its kind.
     ///
-    /// While units are taken (`EnvSignal::Take`) a fill-in or message signal unit first goes through the stores, and a message
-    /// that is accepted waits to be handed out. While level 3 holds the link, or messages
-    /// aren't to be delivered (`EnvSignal::Deliver`), a message is discarded once the unit was judged.
+    /// While units are taken (`EnvSignal::Take`), a fill-in or message signal unit first goes through the stores. An
+    /// accepted message waits to be handed out. While level 3 holds the link or messages aren't to be delivered
+    /// (`EnvSignal::Deliver`), a message is judged and then discarded.
     ///
-    /// Where `Odd` tells of faults (`tell_odd`), it comes in place of `Unit` for such a unit that is at fault; the next one is judged
-    /// alone: it acknowledges nothing, asks for nothing and isn't accepted, and of it come `Good`, and `Bad` and `Odd` where it is at
-    /// fault itself (Q.703, 5.3 and 6.3.1).
+    /// If abnormal units are reported (`tell_odd`), `Odd` replaces `Unit` for such a unit. The next unit is only
+    /// judged: it acknowledges nothing, requests nothing and isn't accepted. Its offers are `Good`, and `Bad` and `Odd`
+    /// if it is abnormal itself (Q.703, 5.3 and 6.3.1).
     #[tactic(auto, unfolding(crate::specs::Judging::judged))]
     pub fn on_unit(&mut self, unit: Unit) -> Offers
         requires whole { IsWhole unit }
@@ -47,7 +47,7 @@ impl Transceiver {
         }
     }
 
-    /// A fill-in or message signal unit.
+    /// Takes a fill-in or message signal unit.
     #[tactic(auto, unfolding(crate::specs::Judging::by_stores))]
     fn pass(&mut self, head: &Head, msu: Option<Msu>) -> Offers
         requires whole { IsWholeHead head.now }
@@ -62,7 +62,7 @@ impl Transceiver {
         }
     }
 
-    /// Such a unit while units are taken.
+    /// Takes a fill-in or message signal unit while units are taken.
     fn go_through(&mut self, head: &Head, msu: Option<Msu>) -> Offers
         requires whole { IsWholeHead head.now }
         requires room { length self.old.messages < KEPT_MESSAGES }
@@ -79,8 +79,8 @@ impl Transceiver {
         )
     }
 
-    /// Leads a unit through the stores, or behind one at fault judges it alone, and minds whether the next is behind one. How many messages it
-    /// acknowledges, and what is wrong with it.
+    /// Passes a unit through the stores, or only judges it if it follows an abnormal one. Notes whether this one is
+    /// abnormal. Returns how many messages it acknowledges, and its fault.
     #[tactic(auto, unfolding(crate::specs::Judging::heard))]
     fn hear_unit(&mut self, head: &Head, msu: Option<Msu>) -> (usize, Option<Fault>)
         requires whole { IsWholeHead head.now }
@@ -96,7 +96,7 @@ impl Transceiver {
         (count, fault)
     }
 
-    /// Leads a unit through the stores, or behind one at fault judges it alone.
+    /// Passes a unit through the stores, or only judges it if it follows an abnormal one.
     fn lead(&mut self, head: &Head, msu: Option<Msu>) -> (usize, Option<Fault>)
         requires whole { IsWholeHead head.now }
         requires room { length self.old.messages < KEPT_MESSAGES }
@@ -112,7 +112,7 @@ impl Transceiver {
         }
     }
 
-    /// Judges a unit behind one at fault, which then counts among the last three. What is wrong with it.
+    /// Judges a unit that follows an abnormal one, remembers it among the last three, and returns its fault.
     fn discard(&mut self, head: &Head) -> Option<Fault>
         requires { head.now.bsn < 128 }
         ensures transceiver { self.new ≡ (discarded self.old head.now).transceiver }
@@ -123,7 +123,7 @@ impl Transceiver {
         fault
     }
 
-    /// What is wrong with a unit.
+    /// The fault of a unit.
     #[tactic(auto, unfolding(crate::specs::Judging::fault_of))]
     fn fault_of(&self, head: &Head) -> Option<Fault>
         requires { head.now.bsn < 128 }
@@ -143,7 +143,7 @@ impl Transceiver {
         (usize::from(bsn) + 128 - usize::from(self.acknowledged())) % 128
     }
 
-    /// The backward number as it counts.
+    /// The backward number that counts: the last acknowledged one, if this one acknowledges only cleared messages.
     #[tactic(auto, unfolding(crate::specs::Judging::bsn_heeded))]
     fn heed_bsn(&self, bsn: u8) -> u8
         requires { bsn < 128 }
@@ -157,7 +157,7 @@ impl Transceiver {
         }
     }
 
-    /// The head with that number.
+    /// The head with the backward number that counts.
     fn heed(&self, head: &Head) -> Head
         requires whole { IsWholeHead head.now }
         ensures value { result ≡ head_heeded self.now head.now }
@@ -171,7 +171,7 @@ impl Transceiver {
         }
     }
 
-    /// Leads a unit through the stores, and answers how many messages it acknowledges, and what is wrong with it.
+    /// Passes a unit through the stores, and returns how many messages it acknowledges, and its fault.
     #[tactic(auto, unfolding(crate::specs::Judging::stored))]
     fn store(&mut self, head: &Head, msu: Option<Msu>) -> (usize, Option<Fault>)
         requires whole { IsWholeHead head.now }
@@ -193,7 +193,7 @@ impl Transceiver {
         }
     }
 
-    /// What is offered where messages were acknowledged.
+    /// The offer for acknowledged messages, if there are any.
     #[tactic(auto, unfolding(crate::specs::Judging::acknowledgement_offers))]
     fn seen(&self, count: usize) -> Option<Offer>
         ensures { option_to_list result ≡ acknowledgement_offers self.now count }
@@ -207,7 +207,7 @@ impl Transceiver {
         })
     }
 
-    /// What is offered where two of the last three units had one fault.
+    /// The offer for two of the last three units with one kind of fault.
     #[tactic(auto, unfolding(crate::specs::Judging::fault_offers))]
     fn failing(&self, fault: Option<Fault>) -> Option<Offer>
         ensures { option_to_list result ≡ fault_offers self.now fault }
@@ -221,14 +221,14 @@ impl Transceiver {
         })
     }
 
-    /// Whether messages that come are accepted.
+    /// Whether received messages are accepted.
     fn accepts(&self) -> bool
         ensures { result ≡ accepts self.now }
     {
         self.deliver && !self.hold.is_held()
     }
 
-    /// The receiver's part of it.
+    /// Passes a unit to the receiver, and returns its fault.
     fn receive(&mut self, head: &Head, msu: Option<Msu>) -> Option<Fault>
         requires room { length self.old.messages < KEPT_MESSAGES }
         ensures transceiver { self.new ≡ received (hearing (accepts self.old) self.old.receiver head.now (is_some msu)) msu self.old }
@@ -244,7 +244,7 @@ impl Transceiver {
     }
 }
 
-/// How many messages a unit acknowledges. `BadAck` where that is more than were sent.
+/// How many messages a unit acknowledges. Returns `BadAck` if that is more than were sent.
 #[tactic(auto, unfolding(crate::specs::Judging::acknowledged))]
 fn acknowledge(sender: &mut Sender, head: &Head) -> Result<usize, AckError>
     requires { head.now.bsn < 128 }
@@ -257,7 +257,7 @@ fn acknowledge(sender: &mut Sender, head: &Head) -> Result<usize, AckError>
     sender.on_back(head.bsn, head.bib)
 }
 
-/// What the receiver makes of a unit, by whether messages are accepted.
+/// The receiver's verdict on a unit, depending on whether messages are accepted.
 #[tactic(auto, unfolding(crate::specs::Judging::hearing))]
 fn hear_by(
     accepting: bool,
@@ -275,7 +275,7 @@ fn hear_by(
     }
 }
 
-/// What the receiver makes of a unit while messages are set aside: nothing that it knows changes.
+/// The receiver's verdict on a unit while messages are discarded. The receiver doesn't change.
 #[tactic(auto, unfolding(crate::specs::Judging::sets_aside), using(crate::proofs::Aside::known_stays))]
 fn set_aside(receiver: &Receiver, head: &Head) -> Result<Verdict, UnitError>
     ensures verdict { result ≡ (sets_aside receiver.now head.now.fib).verdict }
@@ -284,7 +284,7 @@ fn set_aside(receiver: &Receiver, head: &Head) -> Result<Verdict, UnitError>
     receiver.set_aside(head.fib)
 }
 
-/// What the receiver makes of a unit.
+/// The receiver's verdict on a unit.
 #[tactic(auto, unfolding(crate::specs::Judging::hears))]
 fn hear(receiver: &mut Receiver, head: &Head, has_msu: bool) -> Result<Verdict, UnitError>
     ensures verdict { result ≡ (hears receiver.old head.now.fsn head.now.fib has_msu).verdict }
@@ -293,7 +293,7 @@ fn hear(receiver: &mut Receiver, head: &Head, has_msu: bool) -> Result<Verdict, 
     receiver.on_unit(head.fsn, head.fib, has_msu)
 }
 
-/// The fault of a unit of which the receiver made that.
+/// The fault of a unit, by the receiver's verdict on it.
 fn fault_in(heard: Result<Verdict, UnitError>) -> Option<Fault>
     ensures { result ≡ fault_in heard }
 {
@@ -303,7 +303,7 @@ fn fault_in(heard: Result<Verdict, UnitError>) -> Option<Fault>
     }
 }
 
-/// What tells of a unit's kind.
+/// The offer that reports a unit's kind.
 fn unit_seen(kind: u8) -> Offer
     ensures { result ≡ unit_seen kind }
 {
@@ -313,7 +313,7 @@ fn unit_seen(kind: u8) -> Offer
     }
 }
 
-/// What tells of a unit that was discarded for a fault.
+/// The offer that reports a unit discarded for a fault.
 fn odd_seen(code: u8) -> Offer
     ensures { result ≡ odd_seen code }
 {
@@ -323,7 +323,7 @@ fn odd_seen(code: u8) -> Offer
     }
 }
 
-/// What reception control is told of a unit that went through the stores.
+/// The offer to reception control for a unit that went through the stores.
 fn sign_of(odd: bool, behind: bool, fault: Option<Fault>) -> Option<Offer>
     ensures { option_to_list result ≡ sign_by odd behind fault }
 {
@@ -343,7 +343,7 @@ fn sign_of(odd: bool, behind: bool, fault: Option<Fault>) -> Option<Offer>
     }
 }
 
-/// What the monitors are offered, then what was noted, then what the unit was.
+/// All offers for a unit: to the monitors, then for acknowledgements, then for faults, then its kind.
 fn around(seen: Option<Offer>, failing: Option<Offer>, sign: Option<Offer>) -> Offers
     ensures { result.items ≡ to_monitors Notice.Good ++ option_to_list seen ++ option_to_list failing ++ option_to_list sign }
 {
@@ -357,7 +357,7 @@ fn around(seen: Option<Offer>, failing: Option<Offer>, sign: Option<Offer>) -> O
     offers
 }
 
-/// One more, if there is one.
+/// Adds an offer, if there is one.
 fn add(offers: &mut Offers, offer: Option<Offer>)
     requires { array_vec_len offers.old < 5 }
     ensures items { offers.new.items ≡ offers.old.items ++ option_to_list offer }

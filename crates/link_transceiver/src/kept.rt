@@ -1,13 +1,13 @@
-//! A queue with a greatest length, all of whose room is made as it is.
+//! A queue with a greatest length, allocated when it is made.
 ghost use Rattle.std.specs.Prelude.{◌≡◌, ◌<◌, ◌≤◌, ◌↔◌, [], ◌∷◌, ◌++◌, IsTrue, IfOk, length, drop, slice_get};
 
 use std::alloc::{AllocError, Global};
 use std::collections::VecDeque;
 use std::marker::Model;
 
-/// Items in the order in which they came, `N` at most. Contracts see their list, the oldest first.
+/// At most `N` items, in order of arrival. Contracts see their list, the oldest first.
 ///
-/// Only `new` can answer that memory is wanting.
+/// Only `new` can run out of memory.
 #[derive(Debug, Drop)]
 pub struct KeptQueue<T, const N: usize> {
     items: VecDeque<T>,
@@ -25,7 +25,7 @@ impl<T, const N: usize> Model for KeptQueue<T, N> {
 }
 
 impl<T, const N: usize> KeptQueue<T, N> {
-    /// An empty one with room for all that it may hold.
+    /// An empty queue with room for `N` items.
     pub fn new(alloc: Global) -> Result<KeptQueue<T, N>, AllocError>
         ensures { IfOk result (λ q. q ≡ []) }
     {
@@ -33,7 +33,7 @@ impl<T, const N: usize> KeptQueue<T, N> {
         Ok(KeptQueue { items })
     }
 
-    /// How many items there are, `N` at most.
+    /// How many items there are; at most `N`.
     pub fn len(&self) -> usize
         ensures value { result ≡ length self.now }
         ensures within { length self.now ≤ N }
@@ -41,14 +41,14 @@ impl<T, const N: usize> KeptQueue<T, N> {
         self.items.len()
     }
 
-    /// Whether no more fits.
+    /// Whether the queue is full.
     pub fn is_full(&self) -> bool
         ensures { IsTrue result ↔ (N ≤ length self.now) }
     {
         self.items.len() >= N
     }
 
-    /// Puts one more behind all others, where there is room.
+    /// Puts an item last. There must be room.
     pub fn push(&mut self, item: T)
         requires { length self.old < N }
         ensures { self.new ≡ self.old ++ item ∷ [] }
@@ -56,7 +56,7 @@ impl<T, const N: usize> KeptQueue<T, N> {
         self.items.push_back_reserved(item);
     }
 
-    /// Takes the oldest, if there is one.
+    /// Takes the oldest item, if there is one.
     pub fn pop(&mut self) -> Option<T>
         ensures first { result ≡ slice_get self.old 0 }
         ensures rest { self.new ≡ drop 1 self.old }

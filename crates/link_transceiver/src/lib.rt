@@ -1,5 +1,5 @@
-//! What a terminal sends and what a unit that comes leads to (transmission and reception control of Q.703, without their processes):
-//! both stores, what goes out next, faults and reports.
+//! The transmission and reception control of a signalling link terminal, without its processes (Q.703): the
+//! retransmission and receive stores, the units sent and received, abnormal units and reports to level 3.
 #![tactic(auto)]
 
 mod clearing;

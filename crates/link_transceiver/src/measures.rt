@@ -1,20 +1,20 @@
-//! What a signalling link terminal has measured (ITU-T Q.752).
+//! The measurements of a signalling link terminal (ITU-T Q.752).
 ghost use Rattle.std.specs.Prelude.{◌≡◌};
 ghost use Rattle.link_transceiver.specs.Measuring.{count_of};
 
 use resend_store::Measure;
 
-/// How often something was so, and how many ticks in all.
+/// How often a condition began, and how many ticks it lasted in all.
 #[derive(Clone, Copy)]
 pub struct Spells {
     pub number: u64,
     pub time: u64,
 }
 
-/// How often a link went down, by the reason that was told (`EnvSignal::Down`).
+/// How often a link went down, by the reason in `EnvSignal::Down`.
 #[derive(Clone, Copy)]
 pub struct Failures {
-    /// For any reason but a stop.
+    /// For any reason except a stop.
     pub all: u64,
     pub stops: u64,
     pub alignment: u64,
@@ -26,7 +26,7 @@ pub struct Failures {
     pub t6: u64,
 }
 
-/// What went wrong with units, or was asked for once more.
+/// Units in error, and negative acknowledgements.
 #[derive(Clone, Copy)]
 pub struct Errors {
     pub units: u64,
@@ -35,7 +35,7 @@ pub struct Errors {
     pub nacks_sent: u64,
 }
 
-/// Messages, and their octets of SIO and SIF.
+/// Messages, and their octets (SIO and SIF).
 #[derive(Clone, Copy)]
 pub struct Traffic {
     pub octets_sent: u64,
@@ -52,7 +52,7 @@ pub struct Rounds {
     pub by_octets: u64,
 }
 
-/// What a terminal measures. Times are in ticks; a count stays at 2^64 - 1.
+/// What a terminal measures. Times are in ticks. A count stops at 2^64 - 1.
 #[derive(Clone, Copy)]
 pub struct Measures {
     pub service_time: u64,
@@ -64,12 +64,12 @@ pub struct Measures {
     pub busy: Spells,
     pub far_busy: Spells,
     pub rounds: Rounds,
-    /// Whether the far side is congested. It is no count, and stays as counts are set to 0.
+    /// Whether the far side is congested. It isn't a count, so `reset` leaves it.
     pub is_far_busy: bool,
 }
 
 impl Measures {
-    /// What was counted.
+    /// The value of a measurement.
     pub fn count(&self, measure: Measure) -> u64
         ensures { result ≡ count_of measure self.now }
     {

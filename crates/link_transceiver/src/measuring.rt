@@ -1,4 +1,4 @@
-//! What each step of a terminal adds to what it measures (ITU-T Q.752).
+//! What each step of a terminal adds to its measurements (ITU-T Q.752).
 ghost use Rattle.std.specs.Prelude.{◌≡◌};
 ghost use Rattle.link_transceiver.specs.Measuring.{more_if, begun_if, lasted_if, no_measures, measured_from, reset, passed, cause_of, cause_by, down_by, calmed, directed_to, withheld_from, far_out_from, down_from, signal_counted, error_counted, octets_counted, nacks_counted, received_counted, is_congested, acknowledges, came_counted, is_first, sent_traffic, some_left, begins_round, rounds_counted, went_counted};
 ghost use Rattle.link_transceiver.specs.Effects.{counted};
@@ -22,7 +22,7 @@ pub enum Cause {
     Other,
 }
 
-/// So many more, where that is so.
+/// Adds `more` to a count if the condition holds.
 fn more_if(so: bool, more: u64, before: u64) -> u64
     ensures { result ≡ more_if so more before }
 {
@@ -33,7 +33,7 @@ fn more_if(so: bool, more: u64, before: u64) -> u64
     }
 }
 
-/// One more.
+/// Adds 1 to a count.
 fn one_more(before: u64) -> u64
     ensures { result ≡ counted before 1 }
 {
@@ -41,14 +41,14 @@ fn one_more(before: u64) -> u64
 }
 
 impl Spells {
-    /// One more begins, where that is so.
+    /// Counts one more beginning, if the condition holds.
     fn begin_if(&mut self, so: bool)
         ensures { self.new ≡ begun_if so self.old }
     {
         self.number = more_if(so, 1, self.number);
     }
 
-    /// So many ticks of it pass, where it is so.
+    /// Adds the ticks to the duration, if the condition holds.
     fn last_if(&mut self, so: bool, ticks: u64)
         ensures { self.new ≡ lasted_if so ticks self.old }
     {
@@ -56,7 +56,7 @@ impl Spells {
     }
 }
 
-/// Why a link went down, by the number that was told.
+/// Why a link went down, by the number of the reason.
 #[tactic(auto, unfolding(crate::specs::Measuring::cause_of))]
 fn cause_of(reason: i32) -> Cause
     ensures { result ≡ cause_of reason }
@@ -67,7 +67,7 @@ fn cause_of(reason: i32) -> Cause
     }
 }
 
-/// The same of a number that isn't negative.
+/// As `cause_of`, for a number that isn't negative.
 fn cause_by(number: u8) -> Cause
     ensures { result ≡ cause_by number }
 {
@@ -85,7 +85,7 @@ fn cause_by(number: u8) -> Cause
 }
 
 impl Failures {
-    /// A link went down.
+    /// Counts that a link went down.
     #[tactic(auto, unfolding(crate::specs::Measuring::down_by))]
     fn go_down(&mut self, cause: Cause)
         ensures { self.new ≡ down_by cause self.old }
@@ -126,7 +126,7 @@ impl Failures {
 }
 
 impl Errors {
-    /// A unit came that asked for retransmission, or was answered by a negative acknowledgement.
+    /// Counts a received unit that requested retransmission or caused a negative acknowledgement.
     fn take(&mut self, before: &Glance, after: &Glance)
         ensures { self.new ≡ nacks_counted before.now after.now self.old }
     {
@@ -136,7 +136,7 @@ impl Errors {
 }
 
 impl Traffic {
-    /// A unit came.
+    /// Counts a received unit.
     fn take(&mut self, before: &Glance, seen: Seen, after: &Glance)
         ensures { self.new ≡ received_counted before.now seen after.now self.old }
     {
@@ -145,7 +145,7 @@ impl Traffic {
         self.messages_received = more_if(accepted, 1, self.messages_received);
     }
 
-    /// A unit went out.
+    /// Counts a sent unit.
     fn give(&mut self, before: &Glance, seen: Seen, after: &Glance)
         ensures { self.new ≡ sent_traffic before.now seen after.now self.old }
     {
@@ -157,7 +157,7 @@ impl Traffic {
 }
 
 impl Rounds {
-    /// A unit went out.
+    /// Counts a sent unit that begins a round.
     fn give(&mut self, before: &Glance, seen: Seen, after: &Glance)
         ensures { self.new ≡ rounds_counted before.now seen after.now self.old }
     {
@@ -174,7 +174,7 @@ fn is_first(before: &Glance, after: &Glance) -> bool
     before.sent < after.sent
 }
 
-/// Whether some messages of a round are still to go.
+/// Whether messages of a round are still to be sent.
 fn some_left(round: Option<u8>) -> bool
     ensures { result ≡ some_left round }
 {
@@ -191,7 +191,7 @@ fn begins_round(before: &Glance, seen: Seen, after: &Glance) -> bool
     seen.is_message() && (after.round.is_some() && !some_left(before.round))
 }
 
-/// Whether a status of congestion comes while messages are out, and more may go.
+/// Whether a busy status is received while messages are unacknowledged and messages may be sent.
 fn is_congested(before: &Glance, seen: Seen) -> bool
     ensures { result ≡ is_congested before.now seen }
 {
@@ -205,7 +205,7 @@ fn acknowledges(before: &Glance, after: &Glance) -> bool
     before.acknowledged != after.acknowledged
 }
 
-/// Nothing counted.
+/// Measurements with all counts at 0.
 fn measured_from(is_far_busy: bool) -> Measures
     ensures { result ≡ measured_from is_far_busy }
 {
@@ -249,14 +249,14 @@ fn measured_from(is_far_busy: bool) -> Measures
 }
 
 impl Measures {
-    /// Those of a new terminal: nothing is counted.
+    /// The measurements of a new terminal: all counts are 0.
     pub fn new() -> Measures
         ensures { result ≡ no_measures }
     {
         measured_from(false)
     }
 
-    /// All counts begin anew.
+    /// Sets all counts to 0.
     #[tactic(auto, unfolding(crate::specs::Measuring::reset))]
     pub fn reset(&mut self)
         ensures { self.new ≡ reset self.old }
@@ -264,7 +264,7 @@ impl Measures {
         *self = measured_from(self.is_far_busy);
     }
 
-    /// So many ticks pass, and a terminal is as it is before them.
+    /// Counts so many ticks, through which the terminal stays in the state `before`.
     #[tactic(auto, unfolding(crate::specs::Measuring::passed))]
     pub fn pass(&mut self, ticks: u64, before: &Glance)
         ensures { self.new ≡ passed ticks before.now self.old }
@@ -283,7 +283,7 @@ impl Measures {
         self.is_far_busy = false;
     }
 
-    /// Something else goes out from now on, or nothing that is known.
+    /// Counts a change of the kind of units sent. None stands for an unknown kind.
     fn direct(&mut self, kind: Option<LineKind>, before: &Glance)
         ensures { self.new ≡ directed_to kind before.now self.old }
     {
@@ -298,7 +298,7 @@ impl Measures {
         }
     }
 
-    /// The link went down.
+    /// Counts that the link went down.
     fn go_down(&mut self, reason: i32)
         ensures { self.new ≡ down_from reason self.old }
     {
@@ -306,7 +306,7 @@ impl Measures {
         self.is_far_busy = false;
     }
 
-    /// What a signal to the environment adds, by the transceiver before it.
+    /// Counts a signal to the environment; `before` is the transceiver before it.
     #[tactic(auto, unfolding(crate::specs::Measuring::signal_counted))]
     pub fn on_signal(&mut self, signal: EnvSignal, before: &Glance)
         ensures { self.new ≡ signal_counted signal before.now self.old }
@@ -326,7 +326,7 @@ impl Measures {
         }
     }
 
-    /// A unit with errors came.
+    /// Counts a received unit with errors.
     #[tactic(auto, unfolding(crate::specs::Measuring::error_counted))]
     pub fn on_error(&mut self)
         ensures { self.new ≡ error_counted self.old }
@@ -334,7 +334,7 @@ impl Measures {
         self.errors.units = one_more(self.errors.units);
     }
 
-    /// Sixteen octets came without a unit.
+    /// Counts sixteen octets received without a unit.
     #[tactic(auto, unfolding(crate::specs::Measuring::octets_counted))]
     pub fn on_octets(&mut self)
         ensures { self.new ≡ octets_counted self.old }
@@ -342,7 +342,7 @@ impl Measures {
         self.errors.octets = one_more(self.errors.octets);
     }
 
-    /// A unit without errors came: the transceiver before it, and behind it, before the actors hear of it.
+    /// Counts a received unit without errors, by the transceiver before and after it (before the actors react).
     #[tactic(auto, unfolding(crate::specs::Measuring::came_counted))]
     pub fn on_unit(&mut self, before: &Glance, seen: Seen, after: &Glance)
         ensures { self.new ≡ came_counted before.now seen after.now self.old }
@@ -355,7 +355,7 @@ impl Measures {
         self.is_far_busy = (congested || was) && !acknowledges(before, after);
     }
 
-    /// A unit goes out: the transceiver before it, and behind it, before the actors hear of it.
+    /// Counts a sent unit, by the transceiver before and after it (before the actors react).
     #[tactic(auto, unfolding(crate::specs::Measuring::went_counted))]
     pub fn on_sent(&mut self, before: &Glance, seen: Seen, after: &Glance)
         ensures { self.new ≡ went_counted before.now seen after.now self.old }

@@ -1,10 +1,10 @@
-//! What the actors are told of units.
+//! The signals about units that are offered to the actors.
 ghost use Rattle.std.specs.Prelude.{◌≡◌};
 ghost use Rattle.link_transceiver.specs.Offers.{error_offers, counting_offers, to_monitors};
 
 use su_octets::Unit;
 
-/// An actor that is told of units.
+/// An actor that receives signals about units.
 #[derive(Clone, Copy, Debug, PartialEq, Eq)]
 pub enum Party {
     /// The alignment error rate monitor.
@@ -20,28 +20,28 @@ pub enum Party {
 /// A signal from the environment of a link.
 #[derive(Clone, Copy, Debug, PartialEq, Eq)]
 pub enum Notice {
-    /// A unit without errors came.
+    /// A unit without errors was received.
     Good,
-    /// A unit with errors came, or sixteen octets without a unit.
+    /// A unit with errors was received, or sixteen octets without a unit.
     Errored,
-    /// Messages were acknowledged; whether some are still sent and not acknowledged.
+    /// Messages were acknowledged; true if some are still unacknowledged.
     AckSeen(bool),
     /// Two of the last three units had an abnormal backward number, or two an abnormal forward indicator.
     Bad,
-    /// A unit came: its status code, or 8 where it is a fill-in or message signal unit.
+    /// A unit was received: its status code, or 8 for a fill-in or message signal unit.
     Unit(u8),
-    /// In place of `Unit(8)`: a fill-in or message signal unit was discarded, 1 for its backward number, 2 for its forward indicator.
+    /// In place of `Unit(8)`: a FISU or MSU was discarded, for its backward number (1) or forward indicator (2).
     Odd(u8),
-    /// Octet counting begins, or ends.
+    /// Octet counting begins (true) or ends.
     Counting(bool),
-    /// A message went out, for the first time or again.
+    /// A message was sent, for the first time or again.
     MsuSent,
 }
 
 /// A signal to an actor.
 #[derive(Clone, Copy, Debug, PartialEq, Eq)]
 pub struct Offer {
-    /// Who gets it.
+    /// The actor that gets the signal.
     pub to: Party,
     pub notice: Notice,
 }
@@ -52,7 +52,7 @@ impl Default for Offer {
 
     ghost is_default = { λ offer. offer ≡ two_bad };
 
-    /// Any one, for a place that holds none.
+    /// An arbitrary offer, for an unused place of an array.
     fn default() -> Self {
         Offer {
             to: Party::Rc,
@@ -61,29 +61,29 @@ impl Default for Offer {
     }
 }
 
-/// A unit that goes out.
+/// A unit to send.
 #[derive(Debug, Drop, PartialEq, Eq)]
 pub struct UnitOut {
     pub unit: Unit,
-    /// What is to be offered then: `MsuSent` where the unit carries a message.
+    /// The signal to offer then: `MsuSent` if the unit carries a message.
     pub offer: Option<Offer>,
 }
 
-/// What is offered for a unit with errors, and for sixteen octets without a unit, in this order.
+/// The offers for a unit with errors or for sixteen octets without a unit, in this order.
 pub fn error_offers() -> [Offer; 2]
     ensures { result ≡ error_offers }
 {
     to_monitors(Notice::Errored)
 }
 
-/// What is offered as octet counting begins or ends, in this order.
+/// The offers for octet counting that begins or ends, in this order.
 pub fn counting_offers(on: bool) -> [Offer; 2]
     ensures { result ≡ counting_offers on }
 {
     to_monitors(Notice::Counting(on))
 }
 
-/// Both error rate monitors are told, that of alignment first.
+/// Offers a signal to both error rate monitors, the alignment monitor first.
 pub(crate) fn to_monitors(notice: Notice) -> [Offer; 2]
     ensures { result ≡ to_monitors notice }
 {

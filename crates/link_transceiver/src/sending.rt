@@ -1,4 +1,4 @@
-//! What goes out.
+//! The units sent.
 ghost use Rattle.std.specs.Prelude.{◌≡◌, ◌<◌, IfSome};
 ghost use Rattle.resend_store.specs.Messages.{IsMessage};
 ghost use Rattle.su_octets.specs.Whole.{IsWhole, IsWholeHead};
@@ -12,11 +12,11 @@ use resend_store::{Msu, Outgoing, Sender};
 use su_octets::{Head, Unit};
 
 impl Transceiver {
-    /// What goes out next, with what is to be offered then; nothing before anything was said of the line.
+    /// The next unit to send, and the offer that goes with it; none before the first `EnvSignal::Line`.
     ///
-    /// One link status signal unit of congestion goes out first where that was asked for; then by the last other
-    /// `EnvSignal::Line`: link status signal units with its code, fill-in units, or what the sender gives (Q.703, 11.1.3 and
-    /// sections 5, 6 and 9), and fill-in units in place of all that while level 3 holds the link. The numbers of a unit without a message are those of a fill-in unit.
+    /// A requested busy unit is sent first. Otherwise the last other `EnvSignal::Line` decides: LSSUs with its code,
+    /// fill-in units, or the sender's units (Q.703, 11.1.3 and sections 5, 6 and 9). While level 3 holds the link,
+    /// fill-in units replace the sender's. A unit without a message has the numbers of a fill-in unit.
     #[tactic(auto, unfolding(crate::specs::Going::gone))]
     pub fn unit_out(&mut self) -> Option<UnitOut>
         ensures out { result ≡ (gone self.old).out }
@@ -51,7 +51,7 @@ impl Transceiver {
         quiet(Unit::Fisu(self.idle_head()))
     }
 
-    /// A message, or a fill-in unit where none goes out.
+    /// A message, or a fill-in unit if none is to be sent.
     fn message(&mut self) -> UnitOut
         ensures out { Some result ≡ (message_gone self.old).out }
         ensures transceiver { self.new ≡ (message_gone self.old).transceiver }
@@ -64,7 +64,7 @@ impl Transceiver {
         }
     }
 
-    /// The head of a unit that the sender has no part in.
+    /// The head of a unit that doesn't come from the sender.
     #[tactic(auto, unfolding(crate::specs::Going::idle_head, crate::specs::Going::idle_fsn))]
     fn idle_head(&self) -> Head
         ensures value { result ≡ idle_head self.now }
@@ -73,7 +73,7 @@ impl Transceiver {
         self.head_with(self.sender.fsn(), self.sender.fib())
     }
 
-    /// The head around these.
+    /// A head with this forward number and bit.
     fn head_with(&self, fsn: u8, fib: u8) -> Head
         requires fsn { fsn < 128 }
         requires fib { fib < 2 }
@@ -84,7 +84,7 @@ impl Transceiver {
         Head { bsn, bib, fsn, fib }
     }
 
-    /// The backward number and bit that go out.
+    /// The backward number and bit to send.
     fn backward_out(&self) -> Backward
         ensures value { result ≡ backward_out self.now }
         ensures whole { IsBackward result }
@@ -95,7 +95,7 @@ impl Transceiver {
         }
     }
 
-    /// What the sender gives.
+    /// The sender's next unit.
     fn next_unit(&mut self) -> UnitOut
         ensures out { Some result ≡ (sender_gone self.old (gives self.old.sender)).out }
         ensures transceiver { self.new ≡ (sender_gone self.old (gives self.old.sender)).transceiver }
@@ -109,7 +109,7 @@ impl Transceiver {
     }
 }
 
-/// What a sender gives next.
+/// The next unit of a sender.
 #[tactic(auto, unfolding(crate::specs::Going::gives))]
 fn give(sender: &mut Sender) -> Outgoing
     ensures unit { result ≡ (gives sender.old).unit }
@@ -121,7 +121,7 @@ fn give(sender: &mut Sender) -> Outgoing
     sender.next_unit()
 }
 
-/// The unit with a message or without one.
+/// A unit with this head, with or without a message.
 fn filled(head: Head, msu: Option<Msu>) -> UnitOut
     requires head { IsWholeHead head }
     requires message { IfSome msu IsMessage }
@@ -140,7 +140,7 @@ fn filled(head: Head, msu: Option<Msu>) -> UnitOut
     }
 }
 
-/// A unit that nobody is told of.
+/// A unit whose sending isn't reported to any actor.
 fn quiet(unit: Unit) -> UnitOut
     ensures { result ≡ quiet unit }
 {

@@ -1,50 +1,50 @@
-//! What the actors of a link tell its environment, and what the environment hands on.
+//! The signals between a link's actors and its environment.
 ghost use Rattle.std.specs.Prelude.{◌≡◌};
 ghost use Rattle.link_transceiver.specs.Effects.{renewed_hold};
 ghost use Rattle.link_transceiver.specs.TransceiverState.{is_held};
 
 use resend_store::Msu;
 
-/// How many messages are kept until they are handed out.
+/// How many accepted messages are kept until they are handed out.
 pub const MESSAGES: usize = 256;
 
-/// How many statuses are kept until they are handed out. The oldest give way to newer ones.
+/// How many statuses are kept until they are handed out. Newer ones replace the oldest.
 pub const STATUSES: usize = 64;
 
 /// The status code of congestion (Q.703, 9 and 11.1.3).
 pub const BUSY: u8 = 5;
 
-/// A signal of an actor to the environment of its link.
+/// A signal from an actor to the environment of its link.
 #[derive(Clone, Copy, Debug, PartialEq, Eq)]
 pub enum EnvSignal {
-    /// Both stores begin anew: the link is aligned again (Q.703, 7). A number and a bit that are withheld become 127 and 1, and messages are
-    /// accepted.
+    /// Both stores restart, since the link is aligned again (Q.703, 7). A withheld number and bit become 127 and 1.
+    /// Messages are accepted.
     Fresh,
     /// Whether fill-in and message signal units go through the stores from now on.
     Take(bool),
-    /// What goes out from now on: link status signal units with the code 0 to 4; 5 one with that code, and then as before; 8
-    /// fill-in units; 9 what the sender gives. Other numbers change nothing.
+    /// What is sent from now on: 0 to 4, link status signal units with this code; 5, one such unit, and then what was
+    /// sent before; 8, fill-in units; 9, the sender's units. Other numbers change nothing.
     Line(i32),
-    /// Whether acknowledgement is withheld from now on: the backward sequence number and the backward indicator bit stay as they are,
-    /// whatever unit comes (Q.703, 9). What fell due meanwhile shows as it ends.
+    /// Whether acknowledgement is withheld from now on: the backward sequence number and indicator bit don't change,
+    /// whatever is received (Q.703, 9). When withholding ends, those of the receiver are sent.
     Withhold(bool),
-    /// Whether messages that come are accepted from now on, as ever, or discarded once their units were judged (Q.703, figures 14 and 16).
+    /// Whether received messages are accepted from now on, or judged and then discarded (Q.703, figures 14 and 16).
     Deliver(bool),
     /// The link is in service.
     InServiceNow,
-    /// The link is out of service, for the reason that the actor numbers so.
+    /// The link is out of service, for the reason with this number (the actor's numbering).
     Down(i32),
-    /// The far side's processor is out (Q.703, 8).
+    /// The far side has a processor outage (Q.703, 8).
     RemoteOut,
-    /// It is back.
+    /// The far side's processor outage is over.
     RemoteBack,
-    /// The buffers are to be emptied (Q.703, figure 13). That is done once it is asked for (`Transceiver::clear`).
+    /// The buffers are to be cleared (Q.703, figure 13). `Transceiver::clear` does that.
     Clear,
-    /// The buffers were emptied (Q.703, figure 13).
+    /// The buffers were cleared (Q.703, figure 13).
     Cleared,
 }
 
-/// What a unit says of the other direction: which message was accepted last, and by its bit whether one was lost (Q.703, 5.2).
+/// A unit's acknowledgement: the last message accepted and, by the bit, whether one was lost (Q.703, 5.2).
 #[derive(Clone, Copy, Debug, PartialEq, Eq)]
 pub struct Backward {
     /// The backward sequence number, 0 to 127.
@@ -53,55 +53,55 @@ pub struct Backward {
     pub bib: u8,
 }
 
-/// Whether level 3 holds a link. A held one gives no message for the line, and accepts none; units are judged as ever, and acknowledgements
-/// obeyed.
+/// Whether level 3 holds a link. A held link sends and accepts no message; it still judges units and obeys
+/// acknowledgements.
 #[derive(Clone, Copy, Debug, PartialEq, Eq)]
 pub enum Hold {
-    /// It isn't held.
+    /// The link isn't held.
     Free,
-    /// It is held until both its directions begin anew (`EnvSignal::Fresh`).
+    /// The link is held until both its directions restart (`EnvSignal::Fresh`).
     UntilAnew,
-    /// It is held, also behind a new beginning, until level 3 says otherwise.
+    /// The link is held until level 3 says otherwise, even after a restart.
     Kept,
 }
 
-/// What goes out on the line, one unit after another.
+/// The kind of units sent on the line.
 #[derive(Clone, Copy, Debug, PartialEq, Eq)]
 pub enum LineKind {
     /// Link status signal units with this code.
     Status(u8),
     /// Fill-in signal units.
     FillIn,
-    /// What the sender gives: messages, and fill-in units between them.
+    /// The sender's units: messages, and fill-in units between them.
     Messages,
 }
 
-/// What was told of a link.
+/// A reported status of a link.
 #[derive(Clone, Copy, Debug, PartialEq, Eq)]
 pub enum LinkStatus {
-    /// It came into service.
+    /// The link came into service.
     InService,
-    /// It went out of service, for the reason that the actor numbered so.
+    /// The link went out of service, for the reason with this number (the actor's numbering).
     Down(i32),
-    /// The far side's processor is out.
+    /// The far side has a processor outage.
     RemoteOut,
-    /// It is back.
+    /// The far side's processor outage is over.
     RemoteBack,
-    /// The buffers were emptied.
+    /// The buffers were cleared.
     Cleared,
 }
 
-/// What is handed out to whoever uses a link.
+/// A report to the user of a link.
 #[derive(Debug, Drop, PartialEq, Eq)]
 pub enum Report {
     /// A message from the far side.
     Message(Msu),
-    /// What became of the link.
+    /// A change of the link's status.
     Status(LinkStatus),
 }
 
 impl Hold {
-    /// Whether a link is held so.
+    /// Whether the link is held.
     #[tactic(auto, unfolding(crate::specs::TransceiverState::is_held))]
     pub fn is_held(self) -> bool
         ensures { result ≡ is_held self }
@@ -112,7 +112,7 @@ impl Hold {
         }
     }
 
-    /// What is left of it as both directions begin anew.
+    /// What the hold becomes when both directions restart.
     pub(crate) fn renewed(self) -> Hold
         ensures { result ≡ renewed_hold self }
     {

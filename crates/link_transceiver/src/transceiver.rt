@@ -1,4 +1,4 @@
-//! The transceiver as its user sees it.
+//! The transceiver, as its user sees it.
 ghost use Rattle.std.specs.Prelude.{◌≡◌, ◌<◌, ◌≤◌, ◌↔◌, ◌∷◌, ◌++◌, [], IsTrue, false, length, All, IfOk, OnOk, OnErr, IfSome, slice_get};
 ghost use Rattle.std.specs.Option.{option_copied};
 ghost use Rattle.resend_store.specs.Limits.{MOST_WAITING, MOST_KEPT};
@@ -21,29 +21,29 @@ use std::alloc::{AllocError, Global};
 use std::collections::VecDeque;
 use std::marker::Model;
 
-/// What a link terminal keeps beside its actors and its line: its stores, what goes out, and what is to be handed out.
+/// What a link terminal keeps besides its actors and its line: its stores, what it sends, and its reports to level 3.
 ///
-/// All its room is made by `new`. After that only `retrieve` can answer that memory is wanting.
+/// `new` allocates all its memory. After that only `retrieve` can run out of memory.
 #[derive(Debug, Drop)]
 pub struct Transceiver {
     pub(crate) sender: Sender,
     pub(crate) receiver: Receiver,
     pub(crate) take: bool,
-    /// Whether messages that come are accepted, and not discarded.
+    /// Whether received messages are accepted. Otherwise they are discarded.
     pub(crate) deliver: bool,
-    /// The backward number and bit that go out in place of the receiver's.
+    /// The backward number and indicator bit sent in place of the receiver's, while acknowledgement is withheld.
     pub(crate) withheld: Option<Backward>,
     pub(crate) line: Option<LineKind>,
-    /// Whether one unit of status 'busy' goes out first.
+    /// Whether one unit of status 'busy' is sent first.
     pub(crate) busy: bool,
     pub(crate) hold: Hold,
-    /// Whether a unit at fault is told of by `Notice::Odd`, and the next one discarded.
+    /// Whether `Notice::Odd` reports abnormal units and the unit after one is discarded.
     pub(crate) odd: bool,
-    /// Whether the last one was at fault, so that the next is discarded.
+    /// Whether the last unit was abnormal, so that the next one is discarded.
     pub(crate) behind_odd: bool,
-    /// How many messages were out as the buffers were emptied, until a message goes out.
+    /// How many messages were unacknowledged when the buffers were cleared. It is 0 again once a message is sent.
     pub(crate) spare: u8,
-    /// Whether the buffers are to be emptied.
+    /// Whether the buffers are to be cleared.
     pub(crate) clearing: bool,
     /// How many messages were cleared.
     pub(crate) cleared: u64,
@@ -52,9 +52,9 @@ pub struct Transceiver {
     statuses: KeptQueue<LinkStatus, STATUSES>,
     in_service: bool,
     far_out: bool,
-    /// Whether it came into service since that was last asked.
+    /// Whether the link came into service since `came_into_service` was last called.
     came: bool,
-    /// Whether both its directions began anew since that was last asked.
+    /// Whether both directions restarted since `began_anew` was last called.
     began: bool,
 }
 
@@ -71,7 +71,7 @@ impl Model for Transceiver {
 }
 
 impl Transceiver {
-    /// That of a link which is out of service: nothing is kept, and nothing goes out.
+    /// The transceiver of a link that is out of service: its stores are empty, and it sends nothing.
     #[tactic(auto, unfolding(crate::specs::TransceiverState::first_transceiver))]
     pub fn new(alloc: Global, mode: Mode) -> Result<Transceiver, AllocError>
         ensures { IfOk result (λ transceiver. transceiver ≡ first_transceiver mode) }
@@ -79,7 +79,7 @@ impl Transceiver {
         Transceiver::within(alloc, USUAL_LIMITS, mode)
     }
 
-    /// The same with these limits of forced retransmission.
+    /// As `new`, with these limits of forced retransmission.
     pub fn within(alloc: Global, limits: RoundLimits, mode: Mode) -> Result<Transceiver, AllocError>
         ensures { IfOk result (λ transceiver. transceiver ≡ first_within limits mode) }
     {
@@ -110,7 +110,7 @@ impl Transceiver {
         })
     }
 
-    /// Does what an actor asks of the environment.
+    /// Does what an actor's signal to the environment requests.
     #[tactic(auto, unfolding(crate::specs::Effects::effect))]
     pub fn on_signal(&mut self, signal: EnvSignal)
         ensures { self.new ≡ effect signal self.old }
@@ -144,9 +144,9 @@ impl Transceiver {
         }
     }
 
-    /// Takes a message to send, with a field of 2 octets or more. It waits behind all others.
+    /// Puts a message with a SIF of 2 octets or more last in the transmission queue.
     ///
-    /// `Full` where `resend_store::MAX_WAITING` or more wait. Nothing changes then, and the message is dropped.
+    /// Returns `Full` if `resend_store::MAX_WAITING` or more wait. Then nothing changes, and the message is dropped.
     pub fn put(&mut self, msu: Msu) -> Result<(), PutError>
         requires { 2 ≤ length msu.sif.items }
         ensures full { (result ≡ Err PutError.Full) ↔ (MOST_WAITING ≤ length (waiting self.old.sender)) }
@@ -156,9 +156,9 @@ impl Transceiver {
         self.sender.put(msu)
     }
 
-    /// Takes a message that another link left behind (Q.704, changeover), with a field of 2 octets or more.
+    /// Takes a message diverted from another link (Q.704, changeover), with a SIF of 2 octets or more.
     ///
-    /// `Full` where `resend_store::MAX_KEPT` are unacknowledged or wait. Nothing changes then.
+    /// Returns `Full` if `resend_store::MAX_KEPT` messages are unacknowledged or waiting. Then nothing changes.
     pub fn put_diverted(&mut self, msu: Msu) -> Result<(), PutError>
         requires { 2 ≤ length msu.sif.items }
         ensures full { (result ≡ Err PutError.Full) ↔ (MOST_KEPT ≤ length self.old.sender.kept) }
@@ -168,10 +168,10 @@ impl Transceiver {
         self.sender.put_diverted(msu)
     }
 
-    /// Hands out, in order, what the far side may lack (Q.704, retrieval): what comes after the number, 0 to 127, that it
-    /// accepted last, or, where that number isn't known, what wasn't sent since both directions last began anew. Nothing is kept to send then.
+    /// Empties the buffers and hands out, in order, what the far side may lack (Q.704, retrieval): the messages after
+    /// the number, 0 to 127, or without it those not sent since both directions last restarted.
     ///
-    /// `BadAck` where the number acknowledges more than is sent, and then `NoMemory`. Nothing changes in either case.
+    /// Returns `BadAck` if the number acknowledges too much, else `NoMemory` if memory runs out. Then nothing changes.
     pub fn retrieve(&mut self, accepted: Option<u8>) -> Result<VecDeque<Msu>, RetrieveError>
         requires { IfSome accepted (λ fsn. fsn < 128) }
         ensures bad { (result ≡ Err RetrieveError.BadAck) ↔ (self.old.sender.sent < count_known self.old.sender accepted) }
@@ -183,7 +183,7 @@ impl Transceiver {
         self.sender.retrieve(accepted)
     }
 
-    /// How many messages are kept to send: unacknowledged and waiting ones.
+    /// How many messages are held for sending: the unacknowledged and the waiting ones.
     pub fn held(&self) -> usize
         ensures value { result ≡ length self.now.sender.kept }
         ensures window { IsWindow self.now.sender }
@@ -191,7 +191,7 @@ impl Transceiver {
         self.sender.held()
     }
 
-    /// The kept message at a place, the oldest at 0.
+    /// The held message at a place; the oldest is at 0.
     pub fn held_at(&self, place: usize) -> Option<&Msu>
         ensures { option_copied result ≡ slice_get self.now.sender.kept place }
     {
@@ -205,7 +205,7 @@ impl Transceiver {
         self.sender.sent()
     }
 
-    /// The forward sequence number, 0 to 127, of the message that was accepted last; 127 where there is none.
+    /// The forward sequence number, 0 to 127, of the last accepted message; 127 if there is none.
     pub fn accepted(&self) -> u8
         ensures value { result ≡ self.now.receiver.last }
         ensures within { result < 128 }
@@ -213,7 +213,7 @@ impl Transceiver {
         self.receiver.bsn()
     }
 
-    /// The forward sequence number, 0 to 127, of the message that was acknowledged last; 127 where the numbers began anew since.
+    /// The forward sequence number, 0 to 127, of the last acknowledged message; 127 if the numbers restarted since.
     pub fn acknowledged(&self) -> u8
         ensures value { result ≡ last_acknowledged self.now.sender }
         ensures within { result < 128 }
@@ -223,14 +223,14 @@ impl Transceiver {
         ((usize::from(self.sender.fsn()) + 128 - sent) % 128) as u8
     }
 
-    /// Whether a further message that is accepted can be kept.
+    /// Whether there is room for another accepted message.
     pub fn has_room(&self) -> bool
         ensures { IsTrue result ↔ (length self.now.messages < KEPT_MESSAGES) }
     {
         !self.messages.is_full()
     }
 
-    /// What is to be handed out next: messages first, then what was told of the link, each in order.
+    /// Takes the next report for level 3: messages first, then link statuses, each in order.
     #[tactic(auto, unfolding(crate::specs::Reporting::reported))]
     pub fn report(&mut self) -> Option<Report>
         ensures report { result ≡ (reported self.old).report }
@@ -243,14 +243,14 @@ impl Transceiver {
         }
     }
 
-    /// Whether the link is in service, by what was told last.
+    /// Whether the link is in service, as last reported.
     pub fn in_service(&self) -> bool
         ensures { result ≡ self.now.in_service }
     {
         self.in_service
     }
 
-    /// Whether the link came into service since this was last asked.
+    /// Whether the link came into service since the last call.
     pub fn came_into_service(&mut self) -> bool
         ensures value { result ≡ self.old.came }
         ensures asked { self.new ≡ record self.old { came = false } }
@@ -260,7 +260,7 @@ impl Transceiver {
         came
     }
 
-    /// Whether both directions began anew since this was last asked.
+    /// Whether both directions restarted since the last call.
     pub fn began_anew(&mut self) -> bool
         ensures value { result ≡ self.old.began }
         ensures asked { self.new ≡ record self.old { began = false } }
@@ -270,7 +270,7 @@ impl Transceiver {
         began
     }
 
-    /// Takes out, and drops, the message that waits to be sent at a place.
+    /// Removes and drops the waiting message at a place.
     pub fn drop_waiting(&mut self, place: usize)
         requires waits { self.old.sender.sent ≤ place }
         requires there { place < length self.old.sender.kept }
@@ -279,21 +279,21 @@ impl Transceiver {
         self.sender.drop_waiting(place);
     }
 
-    /// Whether the far side's processor is out, by what was told last; not while the link is down.
+    /// Whether the far side has a processor outage, as last reported; false while the link is down.
     pub fn far_out(&self) -> bool
         ensures { result ≡ self.now.far_out }
     {
         self.far_out
     }
 
-    /// What goes out, by what was last said of the line; none before that.
+    /// The kind of unit now sent, as last set by `EnvSignal::Line`; none before that.
     pub fn line(&self) -> Option<LineKind>
         ensures { result ≡ self.now.line }
     {
         self.line
     }
 
-    /// Holds the link, or holds it no more, as level 3 says (Q.704, changeover). A message that is under way ends.
+    /// Holds or releases the link, as level 3 says (Q.704, changeover). A message already being sent is completed.
     pub fn hold(&mut self, hold: Hold)
         ensures { self.new ≡ record self.old { hold = hold } }
     {
@@ -307,7 +307,7 @@ impl Transceiver {
         self.hold
     }
 
-    /// Both stores begin anew.
+    /// Restarts both stores.
     #[tactic(auto, unfolding(crate::specs::Effects::renewed))]
     fn renew(&mut self)
         ensures { self.new ≡ renewed self.old }
@@ -325,7 +325,7 @@ impl Transceiver {
         }
     }
 
-    /// Says what goes out from now on.
+    /// Sets what is sent from now on.
     #[tactic(auto, unfolding(crate::specs::Effects::directed))]
     fn direct(&mut self, number: i32)
         ensures { self.new ≡ directed number self.old }
@@ -338,14 +338,14 @@ impl Transceiver {
         }
     }
 
-    /// Keeps the backward number and bit as they are, or lets them follow the receiver's again.
+    /// Freezes the backward number and bit, or lets them follow the receiver's again.
     fn withhold(&mut self, on: bool)
         ensures { self.new ≡ withheld_by on self.old }
     {
         self.withheld = if on { Some(self.backward()) } else { None };
     }
 
-    /// The receiver's number and bit.
+    /// The receiver's backward number and bit.
     pub(crate) fn backward(&self) -> Backward
         ensures value { result ≡ backward_of self.now.receiver }
         ensures whole { IsBackward result }
@@ -356,7 +356,7 @@ impl Transceiver {
         }
     }
 
-    /// One more status waits; where there are too many the oldest gives way.
+    /// Queues a status for level 3. If the queue is full, the oldest is dropped.
     #[tactic(auto, unfolding(crate::specs::Effects::told))]
     fn tell(&mut self, status: LinkStatus)
         ensures { self.new ≡ told status self.old }
@@ -365,7 +365,7 @@ impl Transceiver {
     }
 }
 
-/// Puts one more behind the others, in place of the oldest where there is no room.
+/// Puts a status last, and drops the oldest if there is no room.
 #[tactic(auto, unfolding(crate::specs::Effects::latest), using(crate::proofs::Latest::latest_full, crate::proofs::Latest::latest_with_room))]
 fn keep_latest(statuses: &mut KeptQueue<LinkStatus, STATUSES>, status: LinkStatus)
     ensures { statuses.new ≡ latest (statuses.old ++ status ∷ []) }
@@ -376,7 +376,7 @@ fn keep_latest(statuses: &mut KeptQueue<LinkStatus, STATUSES>, status: LinkStatu
     statuses.push(status);
 }
 
-/// Whether that is the number of the status 'busy'.
+/// Whether the number is that of the status 'busy'.
 #[tactic(auto, unfolding(crate::specs::Effects::is_busy_named))]
 fn is_busy(number: i32) -> bool
     ensures { result ≡ is_busy_named number }
@@ -384,7 +384,7 @@ fn is_busy(number: i32) -> bool
     number == i32::from(BUSY)
 }
 
-/// What the number says is to go out.
+/// The kind of unit to send that a number names, if it names one.
 #[tactic(auto, unfolding(crate::specs::Effects::kind_named))]
 pub(crate) fn kind_named(number: i32) -> Option<LineKind>
     ensures { result ≡ kind_named number }
@@ -395,7 +395,7 @@ pub(crate) fn kind_named(number: i32) -> Option<LineKind>
     }
 }
 
-/// The same of a number that isn't negative.
+/// As `kind_named`, for a number that isn't negative.
 fn kind_by(number: u8) -> Option<LineKind>
     ensures { result ≡ kind_by number }
 {
