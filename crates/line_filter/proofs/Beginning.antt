@@ -1,4 +1,4 @@
--- What is written however a run ends.
+-- The output of a run, however it ends.
 use Rattle.std.proofs.Common.{◌≡◌, ℕ, ◌+◌, ◌-◌, ◌≤◌, Bool, true, List, [], ◌++◌, length, take, drop, map, Option, refl, sym, ap, ◌∙◌, subst, append_assoc, append-nil, take-append-drop, take-add, take_all, drop_of_length-le, length-drop, arith}
 use Rattle.std.specs.Prelude.{replicate}
 use Rattle.std.specs.Io.KnownBytes.{Appends, Consumes, Keeps}
@@ -12,7 +12,7 @@ use Rattle.line_filter.specs.Filters.{turned, SILENCE, Goes, Streams, Served, Wr
 use Rattle.line_filter.specs.declared.filter.Bits.{Bits}
 use Rattle.line_filter.proofs.Passing.{runs_joined, none_left}
 
--- ---- octets that are written
+-- ---- octets written
 rest_of : (octets : List ℕ) (gone : ℕ) → take (length octets - gone) (drop gone octets) ≡ drop gone octets
 rest_of octets gone =
     take_all (length octets - gone) (drop gone octets) (let e : length (drop gone octets) ≤ length octets - gone = omega (arith, length-drop gone octets) in e)
@@ -35,7 +35,7 @@ written_part old new octets gone appends =
 pub written_none : (old : Option (List ℕ)) (octets : List ℕ) → WritesPart old old octets
 written_none old octets = record { part = []; rest = octets; parts = refl; appends = Appends-nil old }
 
--- octets that were turned in their places
+-- Octets converted in place.
 pub out_turned : (f : ℕ → ℕ) (now items there out before given : List ℕ) (len : ℕ) → now ≡ take len (out ++ drop (length out) items) → there ≡ items → out ≡ map f there
     → len ≡ length there → items ≡ before ++ given → before ≡ [] → now ≡ map f given
 out_turned f now items there out before given len is same made many parts none =
@@ -46,7 +46,7 @@ out_turned f now items there out before given len is same made many parts none =
     ∙ (ap (λ l. take len (out ++ l)) gone
     ∙ (ap (λ l. take len l) (append-nil out) ∙ (whole ∙ (made ∙ ap (λ l. map f l) (same ∙ (parts ∙ ap (λ l. l ++ given) none))))))
 
--- ---- what goes out for a part of the line
+-- ---- the output for a part of the line
 pub part_none : {T : Type 0} (acts : T → Act → T → Type 0) (bits : Bits) (ahead count : ℕ) (s : State T) (read : List ℕ) (old new : Option (List ℕ))
     → WritesPart old new (replicate ahead SILENCE) → ServesPart acts bits ahead count s read old new
 part_none acts bits ahead count s read old new writes =
@@ -92,7 +92,7 @@ begun_ahead acts bits ahead count s read old new appends =
     begun_none acts bits ahead count s read old new
     (record { part = replicate ahead SILENCE; rest = []; parts = sym (append-nil (replicate ahead SILENCE)); appends = appends })
 
--- behind parts that were served, one of which a part is
+-- After complete parts, a part of which a prefix was written.
 pub begun_more : {T : Type 0} (acts : T → Act → T → Type 0) (bits : Bits) (ahead count : ℕ) (s m : State T) (next : ℕ) (old new : Streams) (later later_written : Option (List ℕ))
     (part : List ℕ) → Served acts bits ahead count s true next m old new → Consumes new.read later part → ServesPart acts bits 0 next m part new.written later_written
     → IsBegun acts bits ahead count s (record { read = old.read; written = old.written }) (record { read = later; written = later_written })
@@ -129,7 +129,7 @@ begun_more acts bits ahead count s m next old new later later_written part so_fa
       };
     }
 
--- behind parts that were served, with nothing more
+-- After complete parts, with no further part.
 pub begun_served : {T : Type 0} (acts : T → Act → T → Type 0) (bits : Bits) (ahead count : ℕ) (s m : State T) (next : ℕ) (old new : Streams) (later : Option (List ℕ)) (part : List ℕ)
     → Served acts bits ahead count s true next m old new → Consumes new.read later part
     → IsBegun acts bits ahead count s (record { read = old.read; written = old.written }) (record { read = later; written = new.written })
@@ -137,7 +137,7 @@ begun_served acts bits ahead count s m next old new later part so_far consumes =
     begun_more acts bits ahead count s m next old new later new.written part so_far consumes
     (part_none acts bits 0 next m part new.written new.written (written_none new.written []))
 
--- behind a read that gave nothing
+-- After a read that returned nothing.
 pub begun_kept : {T : Type 0} (acts : T → Act → T → Type 0) (bits : Bits) (ahead count : ℕ) (s m : State T) (next : ℕ) (old new : Streams) (later : Option (List ℕ))
     → Served acts bits ahead count s true next m old new → Keeps new.read later
     → IsBegun acts bits ahead count s (record { read = old.read; written = old.written }) (record { read = later; written = new.written })

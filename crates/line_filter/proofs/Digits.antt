@@ -28,7 +28,7 @@ all_same (d ∷ ds) = ap (λ b. is_ascii_digit d && b) (all_same ds)
 digits_parts : (word : List ℕ) → is_digits word ≡ true → (0 < length word) × (all_ascii_digits word ≡ true)
 digits_parts word h = let parts = and_parts _ _ h in (ltb-true _ _ parts.0, all_same word ∙ parts.1)
 
--- digits that are read as a number of 64 bits, and digits that aren't
+-- Digits that parse as a number of 64 bits, and digits that don't.
 pub fits_long : (word : List ℕ) (n : ℕ) → is_digits word ≡ true → ParsesUnsigned {E = ℕ} 64 10 word (Ok n) → Some n ≡ millisecond_of word
 unfolding number_up_to
 fits_long word n digits h =

@@ -1,4 +1,4 @@
--- Octets that are filled up, and units that fill some.
+-- Octets completed with 1s, and the octets that a unit fills.
 use Rattle.std.proofs.Common.{◌≡◌, ℕ, ◌+◌, ◌-◌, ◌*◌, ◌%◌, ◌^◌, ◌<◌, ◌≤◌, zero, suc, Bool, true, false, List, [], ◌∷◌, ◌++◌, length, inl, inr, refl, sym, ap, ◌∙◌, subst, append_assoc, append-nil, arith, drop}
 use Rattle.std.specs.Prelude.{◌⊎◌, ◌&&◌, replicate, slice_index_or}
 use Rattle.std.proofs.lemmas.List.{length-append}
@@ -11,7 +11,7 @@ use Rattle.bit_line.specs.Stuffers.{Gave}
 use Rattle.bit_line.specs.declared.stuffer.Stuffer.{Stuffer}
 use Rattle.line_filter.specs.Speaking.{Stuffs, Fills}
 
--- ---- a small domain, tried whole
+-- ---- a small domain, tested completely
 abbrev all_below : (ℕ → Bool) → ℕ → Bool
 all_below test zero = true
 all_below test (suc n) = test n && all_below test n
@@ -133,13 +133,13 @@ gave_length : (given : List ℕ) (units : List (List ℕ)) (s : Stuffer) → Gav
 gave_length given units s gave =
     omega (arith, length-append (bits_of given) (low_bits s.part.len s.part.bits), bits_length given, low_bits_length s.part.len s.part.bits, ap length gave.bits)
 
--- a unit fills one octet at least
+-- A unit fills at least one octet.
 pub some_octet : (given octets : List ℕ) (units : List (List ℕ)) (frame : List ℕ) (old new : Stuffer) → Gave given units old
     → Gave (given ++ octets) (units ++ frame ∷ []) new → 0 < length octets
 some_octet given octets units frame old new before after =
     omega (arith, gave_length given units old before, gave_length (given ++ octets) (units ++ frame ∷ []) new after, length-append given octets, line_longer units frame, new.part.len_fits)
 
--- ---- what a voice does
+-- ---- the steps of a voice
 pub whole_again : (xs : List ℕ) → 0 < length xs → slice_index_or xs 0 0 ∷ drop 1 xs ≡ xs
 whole_again [] some = absurd (omega (arith, some))
 whole_again (x ∷ xs) some = refl

@@ -1,4 +1,4 @@
--- Which orders are left, where that is known.
+-- The remaining orders, if they are known.
 use Rattle.std.proofs.Common.{◌≡◌, ℕ, ◌<◌, ◌≤◌, false, List, [], ◌∷◌, ◌++◌, length, Option, None, Some, refl, sym, ap, ◌∙◌, option_map, rules}
 use Rattle.std.specs.Prelude.{IsSome, IfSome, string_bytes}
 use Rattle.std.specs.Io.KnownBytes.{Consumes, IsAtEnd}
@@ -56,7 +56,7 @@ read_to_end l (Some xs) (Some ys) all none h end =
     let here : left_in l ys ≡ [] = ap (left_in l) end ∙ nothing_left l all none in
     (ap (left_in l) h ∙ here, here)
 
--- the order that waits is taken, or stays
+-- The waiting order is taken, or stays.
 pub taken : {S : Type 0} (bytes : S → List ℕ) (since now : ℕ) (behind : List ℕ → List Timed) (w r n : Option S) → r ≡ w → n ≡ None → since ≤ now
     → IfSome r (λ text. (since ≤ now) × ((more : List ℕ) → waiting_by since (option_map bytes w) ++ behind more
     ≡ record { at = since; text = bytes text } ∷ (waiting_by since (option_map bytes n) ++ behind more)))

@@ -1,4 +1,4 @@
--- What a further octet makes of lines.
+-- How one more octet changes the lines.
 use Rattle.std.proofs.Common.{◌≡◌, ℕ, suc, ◌+◌, ◌<◌, ◌≤◌, ◌==◌, nat_le, Bool, true, false, ◌&&◌, if◌then◌else◌, List, [], ◌∷◌, ◌++◌, length, None, get_or, drop, refl, sym, ap, ◌∙◌, arith, add-one, length-append, drop-cons, option_map}
 use Rattle.std.specs.Prelude.{string_bytes}
 use Rattle.std.specs.Str.{is_utf8}
@@ -12,7 +12,7 @@ use Rattle.line_filter.specs.declared.lines.OrderLines.{OrderLines}
 
 -- ---- lines
 
--- a line that is too long, one that is no text, and one that is
+-- A line that is too long, one that isn't UTF-8, and one that is.
 pub long_says : (line : List ℕ) → MOST_OCTETS < length line → line_says line ≡ order []
 unfolding line_says
 long_says line long = rw (lt-leb (length line) MOST_OCTETS long) refl
@@ -30,7 +30,7 @@ pub text_says : (line : List ℕ) → length line ≤ MOST_OCTETS → is_utf8 li
 unfolding line_says
 text_says line short is = rw (le-leb (length line) MOST_OCTETS short, is) refl
 
--- a line that has its end, and those behind it
+-- A complete line, and the lines after it.
 abbrev timed_with : ℕ → List (List ℕ) → PlainSays → List Timed
 timed_with since lines says = said_at since says ++ timed (wait_behind since says) lines
 
@@ -39,7 +39,7 @@ alike_by : (t : Bool) (since : ℕ) (l m rest ls ms : List ℕ) → line_says l 
 alike_by true since l m rest ls ms same on = ap (timed_with since (whole_lines [] rest)) same
 alike_by false since l m rest ls ms same on = on
 
--- of a line that is too long it doesn't matter what else it has
+-- If a line is too long, its further octets don't matter.
 pub long_alike : (since : ℕ) (l m more : List ℕ) → MOST_OCTETS < length l → MOST_OCTETS < length m
     → timed since (whole_lines l more) ≡ timed since (whole_lines m more)
 long_alike since l m [] hl hm = refl
@@ -51,19 +51,19 @@ pub lengthened : (since : ℕ) (line more : List ℕ) (octet : ℕ) → MOST_OCT
     → timed since (whole_lines line more) ≡ timed since (whole_lines (line ++ octet ∷ []) more)
 lengthened since line more octet long = long_alike since line (line ++ octet ∷ []) more long (omega (arith, length-append line (octet ∷ [])))
 
--- ---- an octet is looked at
+-- ---- an octet is examined
 
 next_octet : (part more : List ℕ) (from octet : ℕ) → from < length part → octet ≡ get_or part from octet
     → drop from part ++ more ≡ octet ∷ (drop (from + 1) part ++ more)
 next_octet part more from octet within is = rw (add-one, drop-cons part from octet) (ap (λ b. b ∷ (drop (suc from) part ++ more)) (sym is))
 
--- it ends the line
+-- The octet ends the line.
 ends : (since : ℕ) (line part more : List ℕ) (from octet : ℕ) → from < length part → octet ≡ get_or part from octet → octet ≡ 10
     → timed since (whole_lines line (drop from part ++ more)) ≡ timed_with since (whole_lines [] (drop (from + 1) part ++ more)) (line_says line)
 ends since line part more from octet within is end =
     ap (λ bs. timed since (whole_lines line bs)) (next_octet part more from octet within is ∙ ap (λ b. b ∷ (drop (from + 1) part ++ more)) end)
 
--- it doesn't
+-- The octet doesn't end the line.
 goes_on : (since : ℕ) (line part more : List ℕ) (from octet : ℕ) → from < length part → octet ≡ get_or part from octet → (octet == 10) ≡ false
     → timed since (whole_lines line (drop from part ++ more)) ≡ timed since (whole_lines (line ++ octet ∷ []) (drop (from + 1) part ++ more))
 goes_on since line part more from octet within is other =
@@ -98,7 +98,7 @@ looked_at_other old new octet more within is other none waits since part line =
     ∙ (line old.since (drop (old.from + 1) old.part.items ++ more)
     ∙ (sym (goes_on old.since old.line.items old.part.items more old.from octet within is other) ∙ ap (λ w. w ++ behind_of old more) (sym (nothing_waits old none))))
 
--- ---- nothing was looked at
+-- ---- nothing was examined
 
 pub begun : (part line more : List ℕ) → part ≡ [] → line ≡ [] → timed 0 (whole_lines line (drop 0 part ++ more)) ≡ orders_of more
 begun part line more e1 e2 = rw (e1, e2) refl

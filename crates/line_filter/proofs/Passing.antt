@@ -1,4 +1,4 @@
--- Octets, part behind part.
+-- Octets of the line, exchanged part by part.
 use Rattle.std.proofs.Common.{◌≡◌, ℕ, ◌+◌, ◌<◌, Bool, true, false, List, [], ◌∷◌, ◌++◌, length, take, drop, map, Option, refl, sym, ap, ◌∙◌, subst, append_assoc, append-nil, length-append, get_or, set, zero, suc, arith}
 use Rattle.std.specs.Prelude.{replicate}
 use Rattle.std.specs.Io.KnownBytes.{Appends, Consumes, IsAtEnd, Keeps}
@@ -24,7 +24,7 @@ steps_as : {T : Type 0} (acts : T → Act → T → Type 0) (m n : ℕ) (s t : S
     → Steps acts m s comes gives bytes goes_on t → Steps acts n s comes gives bytes goes_on t
 steps_as acts m n s t comes gives bytes goes_on is steps = let P : ℕ → Type 0 = λ k. Steps acts k s comes gives bytes goes_on t in subst P is steps
 
--- a run that goes on behind another is one run: it doesn't depend on the cut
+-- Two runs in succession are one run: it doesn't depend on where the input is cut.
 pub runs_joined : {T : Type 0} (acts : T → Act → T → Type 0) (count : ℕ) (s m : State T) (xs os bs : List ℕ) (t : State T) (goes_on : Bool) (ys ps cs : List ℕ)
     → Runs acts count s xs os bs true m → Runs acts (count + length xs) m ys ps cs goes_on t → Runs acts count s (xs ++ ys) (os ++ ps) (bs ++ cs) goes_on t
 runs_joined acts count s m xs os bs _ _ _ _ _ first begins =
@@ -79,7 +79,7 @@ passed_more acts count s t u come more before now after next last old mid new co
       counted = longer count next last comes come p.counted is;
     })
 
--- an order ended the run
+-- An order ended the run.
 pub passed_ended : {T : Type 0} (acts : T → Act → T → Type 0) (count : ℕ) (s t u : State T) (come octets dropped before now after : List ℕ) (next last : ℕ) (old mid new : Stand)
     (comes gives : ℕ) → Passed acts count s come before now next t old mid → after ≡ now ++ gives ∷ [] → Told (λ bytes. Steps acts next t comes gives bytes false u) mid new
     → last ≡ next + 1 → octets ≡ (come ++ comes ∷ []) ++ dropped
@@ -102,7 +102,7 @@ passed_ended acts count s t u come octets dropped before now after next last old
       },
     )
 
--- all octets went each way
+-- All octets were exchanged.
 pub passed_all : {T : Type 0} (acts : T → Act → T → Type 0) (count : ℕ) (s t : State T) (come octets before now : List ℕ) (next : ℕ) (old new : Stand)
     → Passed acts count s come before now next t old new → octets ≡ come
     → (given : List ℕ) × (now ≡ before ++ given) × Told (λ bytes. Goes acts count s octets given bytes true next t) old new
@@ -116,7 +116,7 @@ passed_all acts count s t come octets before now next old new p all = (
   },
 )
 
--- ---- octets turned in their places
+-- ---- octets converted in place
 turned_there : (f : ℕ → ℕ) (init : List ℕ) (i : ℕ) → i < length init
     → set (map f (take i init) ++ drop i init) i (f (get_or (map f (take i init) ++ drop i init) i 0)) ≡ map f (take (suc i) init) ++ drop (suc i) init
 turned_there f [] i low = absurd (omega (arith, low))
@@ -155,7 +155,7 @@ served_none acts bits ahead count s read written mid told silence = record {
   tells = tells_none told;
 }
 
--- a read that gave nothing
+-- A read that returned nothing.
 pub served_kept : {T : Type 0} (acts : T → Act → T → Type 0) (bits : Bits) (ahead count : ℕ) (s t : State T) (goes_on : Bool) (next : ℕ) (old new last : Streams)
     → Served acts bits ahead count s goes_on next t old new → Keeps new.read last.read → last.written ≡ new.written → last.told ≡ new.told
     → Served acts bits ahead count s goes_on next t old last
@@ -175,7 +175,7 @@ served_kept acts bits ahead count s t goes_on next old new last so_far kept same
 pub none_left : (come dropped : List ℕ) → dropped ≡ [] → come ++ dropped ≡ come
 none_left come dropped none = ap (λ l. come ++ l) none ∙ append-nil come
 
--- a part more
+-- One more part.
 pub served_more : {T : Type 0} (acts : T → Act → T → Type 0) (bits : Bits) (ahead count : ℕ) (s m t : State T) (goes_on : Bool) (next last : ℕ) (old new later : Streams) (part written : List ℕ)
     → Served acts bits ahead count s true next m old new → Consumes new.read later.read part → Appends new.written later.written written
     → Told (λ bytes. Serves acts bits next m part written bytes goes_on last t) new.told later.told → Served acts bits ahead count s goes_on last t old later
@@ -216,7 +216,7 @@ pub steps_on : {T : Type 0} (acts : T → Act → T → Type 0) (count : ℕ) (s
     → Told (λ bytes. Steps acts count s comes gives bytes goes_on t) old new → Told (λ bytes. Steps acts count s comes gives bytes is t) old new
 steps_on acts count s t comes gives goes_on is old new same told = let P : Bool → Type 0 = λ b. Told (λ bytes. Steps acts count s comes gives bytes b t) old new in subst P same told
 
--- the end of what there is to read
+-- The end of the input.
 pub over_end : {T : Type 0} (acts : T → Act → T → Type 0) (bits : Bits) (ahead count : ℕ) (s t : State T) (next : ℕ) (old new last : Streams) (part : List ℕ)
     → Served acts bits ahead count s true next t old new → Consumes new.read last.read part → part ≡ [] → IsAtEnd last.read → last.written ≡ new.written → last.told ≡ new.told
     → IsOver acts bits ahead count s next t old last

@@ -1,4 +1,4 @@
--- Lines that are told, one behind another.
+-- Lines reported one after another.
 use Rattle.std.proofs.Common.{◌≡◌, ℕ, List, [], ◌++◌, Option, sym, subst, append_assoc, append-nil}
 use Rattle.std.proofs.KnownBytes.{Appends-nil, Appends-trans}
 use Rattle.line_filter.specs.Orders.{told}

@@ -1,4 +1,4 @@
--- What goes out is what was said.
+-- The octets sent are those of the terminal's units.
 use Rattle.std.proofs.Common.{◌≡◌, ℕ, ◌+◌, Bool, true, List, [], ◌∷◌, ◌++◌, length, Option, refl, sym, ap, ◌∙◌, subst, append_assoc, append-nil}
 use Rattle.std.specs.Prelude.{replicate}
 use Rattle.su_octets.specs.Bits.{low_bits, bits_of}

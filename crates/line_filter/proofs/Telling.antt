@@ -1,4 +1,4 @@
--- What is told, part behind part.
+-- Reports, written part by part.
 use Rattle.std.proofs.Common.{◌≡◌, ℕ, ◌+◌, ◌/◌, ◌%◌, ◌<◌, Bool, true, false, List, [], ◌∷◌, ◌++◌, length, take, ap, Option, None, Some, refl, sym, ◌∙◌, subst, append-nil, Result, OnOk}
 use Rattle.std.proofs.lemmas.List.{take_more, flat_map_more}
 use Rattle.std.proofs.lemmas.Result.{on_ok_weaker}
@@ -20,7 +20,7 @@ moved x y is P h = subst P is h
 pub not_both : (b : Bool) → b ≡ false → IsTrue b → ⊥
 not_both b denied shown = absurd (let e : false ≡ true = sym denied ∙ shown in cc)
 
--- one line more
+-- One more line.
 pub lines_more : {X : Type 0} (f : X → List ℕ) (items : List X) (i : ℕ) (x : X) (text : List ℕ) (a b c : Stand)
     → i < length items → x ≡ get_or items i x → text ≡ f x → TellsLines a b (flat_map f (take i items)) → TellsLines b c text
     → TellsLines a c (flat_map f (take (i + 1) items))
@@ -79,7 +79,7 @@ due_more acts now t u w left fewer last old mid new text so_far next no_end more
   tells = tells_trans old mid new so_far.bytes more.bytes so_far.tells more.tells;
 }
 
--- orders begin anew, or the same are left
+-- Orders begin anew, or stay unchanged.
 pub looked : {A E : Type 0} (r : Result A E) (now : ℕ) (begins : Bool) (left last : Option (List Timed)) (old new : Stand) → BeginsAnew begins left last
     → OnOk r (TellsLines old new (anew_told now begins)) → OnOk r (Told (λ bytes. LooksAnew now left bytes last) old new)
 looked r now begins left last old new is line =

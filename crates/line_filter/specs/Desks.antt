@@ -1,4 +1,4 @@
--- What the parts of a run do to a desk, and to what is told.
+-- How the parts of a run change a desk and its reports.
 use Rattle.std.specs.Prelude.{ℕ, List, Option}
 use Rattle.line_filter.specs.Orders.{Timed}
 use Rattle.line_filter.specs.Reporting.{Stand, TellsLines}
@@ -8,7 +8,7 @@ use Rattle.line_filter.specs.declared.desk.Desk.{Desk}
 abbrev pub state_of : {T O P : Type 0} → (O → Option (List Timed)) → Desk T O P → State T
 state_of left d = record { term = d.terminal; voice = d.voice; left = left d.orders }
 
--- bytes were told of which R speaks
+-- Reports were written whose bytes fulfil R.
 pub record Told (R : List ℕ → Type 0) (old new : Stand) : Type 0 where
   pub bytes : List ℕ
   pub are : R bytes

@@ -1,4 +1,4 @@
--- What a filter reads, writes and tells.
+-- The octets that a filter reads and writes, and its reports.
 use Rattle.std.specs.Prelude.{◌≡◌, ℕ, ◌+◌, Bool, true, List, [], ◌++◌, length, map, replicate}
 use Rattle.std.specs.Prelude.{Option}
 use Rattle.std.specs.Io.KnownBytes.{Appends, Consumes, IsAtEnd}
@@ -9,21 +9,20 @@ use Rattle.line_filter.specs.Runs.{State, Runs}
 use Rattle.line_filter.specs.declared.filter.Bits.{Bits}
 use Rattle.line_filter.specs.declared.filter.Bits.TheVariants.{Low, High}
 
--- an octet of the line as a byte, whose lowest bit or whose highest is the first; and the other way
--- round
+-- An octet as a byte whose lowest or highest bit is the first on the line; and back.
 abbrev pub turned : Bits → ℕ → ℕ
 turned Low octet = octet
 turned High octet = reverse_bits w8 octet
 
--- an octet of 1s, which is the same both ways
+-- An octet of 1s, which is the same in both bit orders.
 abbrev pub SILENCE : ℕ
 SILENCE = 255
 
--- how many of them may go out before any octet came in
+-- The most octets of silence sent before any octet is received.
 abbrev pub MOST_AHEAD : ℕ
 MOST_AHEAD = 8000
 
--- of octets that came in, these went each way; the others are dropped, where an order ended the run
+-- Of the received octets, `come` were exchanged. The others are dropped if an order ended the run.
 pub record Goes {T : Type 0} (acts : T → Act → T
     → Type 0) (count :
     ℕ) (s : State T) (octets out bytes :
@@ -35,7 +34,7 @@ pub record Goes {T : Type 0} (acts : T → Act → T
   pub none_dropped : goes_on ≡ true → dropped ≡ []
   pub counted : next ≡ count + length come
 
--- the octets as bytes, read and written
+-- The exchanged octets as bytes read and written.
 pub record Serves {T : Type 0} (acts : T → Act → T
     → Type 0) (bits :
     Bits) (count : ℕ) (s : State T) (read written bytes : List ℕ) (goes_on : Bool) (next : ℕ)
@@ -44,13 +43,13 @@ pub record Serves {T : Type 0} (acts : T → Act → T
   pub goes : Goes acts count s (map (turned bits) read) out bytes goes_on next t
   pub written_is : written ≡ map (turned bits) out
 
--- what was to be read, what is written, and what is told, before and after
+-- The input, the output and the reports of a run, before or after it.
 pub record Streams : Type 0 where
   pub read : Option (List ℕ)
   pub written : Option (List ℕ)
   pub told : Stand
 
--- some bytes were read, and what they lead to was written and told behind octets of silence
+-- Bytes were read; the output for them, after the octets of silence, and the reports were written.
 pub record Served {T : Type 0} (acts : T → Act → T
     → Type 0) (bits :
     Bits) (ahead count :
@@ -64,7 +63,7 @@ pub record Served {T : Type 0} (acts : T → Act → T
   pub appends : Appends old.written new.written (replicate ahead SILENCE ++ written)
   pub tells : TellsLines old.told new.told bytes
 
--- The run is over: all octets went each way, or an order ended it.
+-- The run is over: all octets were exchanged, or an order ended it.
 pub record IsOver {T : Type 0} (acts : T → Act → T
     → Type 0) (bits :
     Bits) (ahead count :
@@ -73,15 +72,15 @@ pub record IsOver {T : Type 0} (acts : T → Act → T
   pub served : Served acts bits ahead count s goes_on next t old new
   pub end_met : goes_on ≡ true → IsAtEnd new.read
 
--- a beginning of these bytes is written, or all of them
+-- A prefix of these bytes is written, or all of them.
 pub record WritesPart (old new : Option (List ℕ)) (bytes : List ℕ) : Type 0 where
   pub part : List ℕ
   pub rest : List ℕ
   pub parts : bytes ≡ part ++ rest
   pub appends : Appends old new part
 
--- of bytes that were read the first went each way, and what goes out for them behind octets of
--- silence is written, or a beginning of that
+-- The first of the bytes read were exchanged. The octets of silence and the output for these bytes
+-- are written, or a prefix of that.
 pub record ServesPart {T : Type 0} (acts : T → Act → T
     → Type 0) (bits :
     Bits) (ahead count : ℕ) (s : State T) (read : List ℕ) (old new : Option (List ℕ)) : Type 0 where
@@ -95,13 +94,13 @@ pub record ServesPart {T : Type 0} (acts : T → Act → T
   pub runs : Runs acts count s come out bytes goes_on last
   pub writes : WritesPart old new (replicate ahead SILENCE ++ map (turned bits) out)
 
--- what is left to read on the line, and what was written there
+-- The rest of the input of the line, and its output.
 pub record Line : Type 0 where
   pub read : Option (List ℕ)
   pub written : Option (List ℕ)
 
--- A run is begun: what is written is a beginning of what a run writes for octets that were read.
--- However it ends, also where something fails.
+-- A run has begun: the output is a prefix of that of a run for octets that were read. It holds
+-- however the run ends, even if a call fails.
 pub record IsBegun {T : Type 0} (acts : T → Act → T
     → Type 0) (bits : Bits) (ahead count : ℕ) (s : State T) (old new : Line) : Type 0 where
   pub read : List ℕ

@@ -1,4 +1,4 @@
--- What holds of every voice: what was stuffed stands for units.
+-- An invariant of every voice: the stuffed octets represent units.
 use Rattle.std.specs.Prelude.{ℕ, List}
 use Rattle.bit_line.specs.Stuffers.{Gave}
 use Rattle.bit_line.specs.declared.stuffer.Stuffer.{Stuffer}

@@ -1,4 +1,4 @@
--- What follows for all that goes out.
+-- Laws for all octets sent.
 use Rattle.std.specs.Prelude.{◌≡◌, ℕ, ◌<◌, ◌≤◌, true, Bool, List, [], ◌∷◌, ◌++◌, replicate, Option}
 use Rattle.std.specs.Prelude.{None, Some}
 use Rattle.su_octets.specs.Bits.{bits_of}
@@ -8,9 +8,9 @@ use Rattle.line_filter.specs.Acts.{Act}
 use Rattle.line_filter.specs.Runs.{State, Runs, begins, octet}
 use Rattle.line_filter.specs.Speaking.{Voice, Gives, fixed, fresh, silent}
 
--- What the terminal was answered each time it was asked, the newest first: the octets of a unit, or
--- that there is none. Before the last silence these bits went out, and behind it these units. A
--- silence ends its octet with 1s, and behind it the line begins anew.
+-- The terminal's answers, the newest first: the octets of a unit, or none. Up to the last silence
+-- these bits were sent, and these units after it. A silence completes its octet with 1s; after it
+-- the line begins anew.
 pub data IsSaid : List (Option (List ℕ)) → List Bool → List (List ℕ) → Type 0 where
   nothing : IsSaid [] [] []
   unit : {answers : List (Option (List ℕ))} {bits : List Bool} {frames : List (List ℕ)}
@@ -20,8 +20,8 @@ pub data IsSaid : List (Option (List ℕ)) → List Bool → List (List ℕ) →
       (ones : ℕ) → 0 < ones → ones ≤ 8 → IsSaid answers bits frames
       → IsSaid (None ∷ answers) (bits ++ (line_of frames ++ replicate ones true)) []
 
--- the answer that the octet which goes out next wants: none, the octets of the unit that the
--- terminal gave, or that it gave none
+-- The answer that the next octet needs: none, the octets of the unit that the terminal returned, or
+-- that it returned no unit.
 abbrev pub answer_of :
     {T : Type 0} {acts : T → Act → T → Type 0} {t u : T} {v w : Voice} {gives : ℕ}
     → Gives acts t v gives u w → List (Option (List ℕ))
@@ -29,7 +29,7 @@ answer_of (fixed ready sending same) = []
 answer_of (fresh x ready act stuffs) = Some stuffs.frame ∷ []
 answer_of (silent ready act none fills) = None ∷ []
 
--- the terminal's answers along a run, the newest first
+-- The terminal's answers along a run, the newest first.
 abbrev pub answers_along :
     {T : Type 0} {acts : T → Act → T
     → Type 0} {count : ℕ} {s t : State T} {come out bytes : List ℕ} {goes_on : Bool}
@@ -38,8 +38,7 @@ answers_along begins = []
 answers_along (octet comes gives more goes last rest steps) =
     answer_of steps.exchanges.out ++ answers_along rest
 
--- the octets that went out, and those that are ready, are the whole ones of what was said by these
--- answers
+-- The octets sent and those that are ready are the complete octets of the units in these answers.
 pub record Speaks (answers : List (Option (List ℕ))) (out : List ℕ) (v : Voice) : Type 0 where
   pub bits : List Bool
   pub frames : List (List ℕ)

@@ -12,14 +12,14 @@ pub record Timed : Type 0 where
   pub at : ℕ
   pub text : List ℕ
 
--- the next order, where it is known which are left
+-- The next order, if the remaining orders are known.
 abbrev pub NextIs : ℕ → Option (List Timed) → List ℕ → Option (List Timed) → Type 0
 NextIs now None text new = Unit {0}
 NextIs now (Some []) text new = ⊥
 NextIs now (Some (o ∷ os)) text None = ⊥
 NextIs now (Some (o ∷ os)) text (Some left) = (left ≡ os) × (o.text ≡ text) × (o.at ≤ now)
 
--- none is due yet
+-- No order is due yet.
 abbrev pub NoneIsDue : ℕ → Option (List Timed) → Option (List Timed) → Type 0
 NoneIsDue now None new = Unit {0}
 NoneIsDue now (Some []) None = ⊥
@@ -27,21 +27,21 @@ NoneIsDue now (Some []) (Some left) = left ≡ []
 NoneIsDue now (Some (o ∷ os)) None = ⊥
 NoneIsDue now (Some (o ∷ os)) (Some left) = (left ≡ o ∷ os) × (now < o.at)
 
--- orders may begin anew of which nothing is known; others don't, and the same are left
+-- Orders of an unknown stream may begin anew; known ones don't, and stay unchanged.
 abbrev pub BeginsAnew : Bool → Option (List Timed) → Option (List Timed) → Type 0
 BeginsAnew true None new = Unit {0}
 BeginsAnew true (Some os) new = ⊥
 BeginsAnew false old new = new ≡ old
 
--- a line that is told: the millisecond, and a text
+-- A report line: the millisecond, and a text.
 abbrev pub told : ℕ → List ℕ → List ℕ
 told now text = (decimal now ++ 32 ∷ text) ++ 10 ∷ []
 
--- a line that an order asked for
+-- A line that an order requested.
 abbrev pub listed : {Z : Type 0} → ℕ → List ℕ → String Z → List ℕ
 listed now order line = told now (order ++ 32 ∷ string_bytes line)
 
--- the lines of an order that was obeyed, or refused
+-- The lines that report an order as obeyed or refused.
 abbrev pub answered : ℕ → List ℕ → Answer → List ℕ
 answered now order Done = told now (codes "ok " ++ order)
 answered now order (Said text) = told now (codes "ok " ++ order) ++ told now (string_bytes text)
@@ -52,23 +52,23 @@ answered now order (Refused text) = told now (codes "refused " ++ string_bytes t
 abbrev pub QUIT : List ℕ
 QUIT = codes "quit"
 
--- what is told where orders begin anew
+-- The report if orders begin anew.
 abbrev pub TRUNCATED : List ℕ
 TRUNCATED = codes "orders truncated"
 
--- what is told where they do, or don't
+-- The report whether they begin anew: a line, or none.
 abbrev pub anew_told : ℕ → Bool → List ℕ
 anew_told now true = told now TRUNCATED
 anew_told now false = []
 
--- orders begin anew, which is told, or the same are left
+-- Orders begin anew, which is reported, or stay unchanged.
 pub record LooksAnew (now : ℕ) (left : Option (List Timed)) (bytes : List ℕ)
     (last : Option (List Timed)) : Type 0 where
   pub begins : Bool
   pub anew : BeginsAnew begins left last
   pub tells : bytes ≡ anew_told now begins
 
--- what a terminal has to tell, told in order
+-- Reports of a terminal, written in order.
 pub data Tells {T : Type 0} (acts : T → Act → T → Type 0) (now : ℕ) (t : T) :
     List ℕ → T → Type 0 where
   nothing : Tells acts now t [] t
@@ -76,14 +76,14 @@ pub data Tells {T : Type 0} (acts : T → Act → T → Type 0) (now : ℕ) (t :
       → acts u (reported (Some text)) w
       → Tells acts now t (bytes ++ told now text) w
 
--- all of it
+-- All pending reports of a terminal, written in order.
 pub record TellsAll {T : Type 0} (acts : T → Act → T
     → Type 0) (now : ℕ) (t : T) (bytes : List ℕ) (u : T) : Type 0 where
   pub last : T
   pub tells : Tells acts now t bytes last
   pub none_left : acts last (reported None) u
 
--- an order is obeyed, and behind it all that the terminal has to tell is told
+-- An order is obeyed; after it all pending reports of the terminal are written.
 pub record Obeys {T : Type 0} (acts : T → Act → T
     → Type 0) (now : ℕ) (t : T) (order : List ℕ) (bytes : List ℕ) (u : T) : Type 0 where
   pub answer : Answer

@@ -1,4 +1,4 @@
--- A run: what goes out and what is told for the octets that come in and the orders.
+-- A run: the octets sent and the reports, given the octets received and the orders.
 use Rattle.std.specs.Prelude.{◌≡◌, ℕ, ◌+◌, ◌/◌, ◌%◌, Bool, true, false, List, [], ◌∷◌, ◌++◌, length}
 use Rattle.std.specs.Prelude.{Option, codes}
 use Rattle.line_filter.specs.Acts.{Act, heard, passed}
@@ -6,7 +6,7 @@ use Rattle.line_filter.specs.Speaking.{Voice, Gives}
 use Rattle.line_filter.specs.Orders.{Timed, NextIs, NoneIsDue, LooksAnew, QUIT, told, TellsAll}
 use Rattle.line_filter.specs.Orders.{Obeys}
 
--- how many octets are a millisecond, on a line of 64 kbit/s
+-- How many octets are a millisecond, on a line of 64 kbit/s.
 abbrev pub OCTETS : ℕ
 OCTETS = 8
 
@@ -15,8 +15,8 @@ pub record State (T : Type 0) : Type 0 where
   pub voice : Voice
   pub left : Option (List Timed)
 
--- One octet goes out, one comes in, and what there is to tell is told. That one goes out doesn't
--- depend on the one that comes in.
+-- One octet is sent, one is received, and pending reports are written. The octet sent doesn't
+-- depend on the octet received.
 pub record Exchanges {T : Type 0} (acts : T → Act → T
     → Type 0) (now :
     ℕ) (s : State T) (comes gives : ℕ) (bytes : List ℕ) (t : State T) : Type 0 where
@@ -27,8 +27,8 @@ pub record Exchanges {T : Type 0} (acts : T → Act → T
   pub tells : TellsAll acts now heard_it bytes t.term
   pub orders : t.left ≡ s.left
 
--- orders that are due are obeyed in their order, up to one that ends the run; where they begin anew
--- that is told
+-- Due orders are obeyed in order, up to one that ends the run. If orders begin anew, that is
+-- reported.
 pub data ObeysDue {T : Type 0} (acts : T → Act → T
     → Type 0) (now : ℕ) (t : T) (left : Option (List Timed)) : List ℕ → T → Option (List Timed)
     → Type 0 where
@@ -45,7 +45,7 @@ pub data ObeysDue {T : Type 0} (acts : T → Act → T
       → ObeysDue acts now t left bytes u fewer → LooksAnew now fewer more last
       → ObeysDue acts now t left (bytes ++ more) u last
 
--- either none is left that is due, or one ends the run
+-- Either no due order remains, or an order ends the run.
 abbrev pub Ends : ℕ → Option (List Timed) → List ℕ → Bool → Option (List Timed) → Type 0
 Ends now left bytes true last = (bytes ≡ []) × NoneIsDue now left last
 Ends now left bytes false last = (bytes ≡ told now (codes "ok quit")) × NextIs now left QUIT last
@@ -61,7 +61,7 @@ pub record ObeysAll {T : Type 0} (acts : T → Act → T
   pub voice : t.voice ≡ s.voice
   pub are : bytes ≡ first ++ second
 
--- a millisecond passes: what there is to tell is told, and orders are obeyed
+-- A millisecond passes: pending reports are written, and due orders are obeyed.
 pub record Minds {T : Type 0} (acts : T → Act → T
     → Type 0) (now :
     ℕ) (s : State T) (bytes : List ℕ) (goes_on : Bool) (t : State T) : Type 0 where
@@ -76,7 +76,7 @@ pub record Minds {T : Type 0} (acts : T → Act → T
   pub obeys : ObeysAll acts now calm second goes_on t
   pub are : bytes ≡ first ++ second
 
--- behind so many octets: each eighth is a millisecond
+-- After `count` octets: at each eighth, a millisecond passes.
 pub data Behind {T : Type 0} (acts : T → Act → T → Type 0) (count : ℕ) (s : State T) :
     List ℕ → Bool → State T → Type 0 where
   between : (count % OCTETS ≡ 0 → ⊥) → Behind acts count s [] true s
@@ -84,7 +84,7 @@ pub data Behind {T : Type 0} (acts : T → Act → T → Type 0) (count : ℕ) (
       → Minds acts (count / OCTETS) s bytes goes_on t
       → Behind acts count s bytes goes_on t
 
--- an octet each way, behind so many
+-- One octet is exchanged, after `count` earlier ones.
 pub record Steps {T : Type 0} (acts : T → Act → T
     → Type 0) (count :
     ℕ) (s : State T) (comes gives :
@@ -96,7 +96,7 @@ pub record Steps {T : Type 0} (acts : T → Act → T
   pub behind : Behind acts (count + 1) middle second goes_on t
   pub are : bytes ≡ first ++ second
 
--- Octets each way, behind so many, and the bytes that are told. It goes on until an order ends it.
+-- Octets are exchanged after `count` earlier ones, with the reports; an order may end it.
 pub data Runs {T : Type 0} (acts : T → Act → T → Type 0) (count : ℕ) (s : State T) :
     List ℕ → List ℕ → List ℕ → Bool → State T → Type 0 where
   begins : Runs acts count s [] [] [] true s

@@ -1,4 +1,4 @@
--- What a line of a stream of orders says.
+-- The meaning of a line in a stream of orders.
 use Rattle.std.specs.Prelude.{ℕ, ◌||◌, Bool, if◌then◌else◌, List, [], ◌∷◌, ◌++◌, Option, None, Some}
 use Rattle.std.specs.Prelude.{codes, string_bytes}
 use Rattle.std.specs.List.{flat_map}
@@ -8,15 +8,15 @@ use Rattle.script_lines.specs.Lines.{is_silent}
 use Rattle.line_filter.specs.declared.says.LineSays.{LineSays}
 use Rattle.line_filter.specs.declared.says.LineSays.TheVariants as code
 
--- a millisecond: digits alone, as far as 64 bits hold it
+-- A millisecond: only digits, up to 2^64 - 1.
 abbrev pub millisecond_of : List ℕ → Option ℕ
 millisecond_of word = number_up_to 18446744073709551615 word
 
 pub data PlainSays : Type 0 where
   nothing : PlainSays
-  at : ℕ → PlainSays  -- what follows waits until this millisecond
+  at : ℕ → PlainSays  -- later orders wait until this millisecond
   order : List ℕ → PlainSays
-  order_at : ℕ → List ℕ → PlainSays  -- both
+  order_at : ℕ → List ℕ → PlainSays  -- an order that waits until this millisecond
 
 abbrev pub plain_says : LineSays → PlainSays
 plain_says code.Nothing = nothing
@@ -24,11 +24,11 @@ plain_says (code.At millisecond) = at millisecond
 plain_says (code.Order text) = order (string_bytes text)
 plain_says (code.OrderAt millisecond text) = order_at millisecond (string_bytes text)
 
--- words, parted by one space
+-- The words, separated by single spaces.
 abbrev pub joined : List ℕ → List (List ℕ) → List ℕ
 joined first words = first ++ flat_map (λ (word : List ℕ). 32 ∷ word) words
 
--- the word that a report has behind its millisecond, if it isn't that of an order that was obeyed
+-- This word after a millisecond marks a report that isn't about an obeyed order.
 abbrev pub is_report : List ℕ → Bool
 is_report word =
     bytes_eq word (codes "in")
@@ -44,13 +44,13 @@ is_report word =
     || (bytes_eq word (codes "refused")
     || (bytes_eq word (codes "lost") || bytes_eq word (codes "orders")))))))))))))
 
--- such a report says nothing; what is none is an order, which no terminal obeys
+-- Such a report means nothing; any other line is an order, which terminals refuse.
 abbrev pub by_other : List ℕ → List (List ℕ) → PlainSays
 by_other first [] = order (joined first [])
 by_other first (word ∷ words) =
     if is_report word then nothing else order (joined first (word ∷ words))
 
--- behind a millisecond: `ok` and the order that was obeyed then, another report, or none
+-- The words after a millisecond: `ok` and the order obeyed then, another report, or neither.
 abbrev pub by_report : ℕ → List ℕ → List (List ℕ) → PlainSays
 by_report millisecond first [] = by_other first []
 by_report millisecond first (word ∷ []) = by_other first (word ∷ [])
@@ -58,7 +58,7 @@ by_report millisecond first (word ∷ next ∷ words) =
     if bytes_eq word (codes "ok") then order_at millisecond (joined next words)
     else by_other first (word ∷ next ∷ words)
 
--- `at`, and a millisecond
+-- `at`, and a millisecond.
 abbrev pub by_time : Option ℕ → List ℕ → List (List ℕ) → PlainSays
 by_time None first words = order (joined first words)
 by_time (Some millisecond) first words = at millisecond
@@ -73,8 +73,8 @@ abbrev pub by_first : Option ℕ → List ℕ → List (List ℕ) → PlainSays
 by_first (Some millisecond) first words = by_report millisecond first words
 by_first None first words = by_at (bytes_eq first (codes "at")) first words
 
--- Blank lines and comments say nothing, and a line that is no order says one that no terminal
--- obeys.
+-- Blank lines and comments mean nothing. A line without a valid order means one that terminals
+-- refuse.
 abbrev pub says_of : List (List ℕ) → PlainSays
 says_of [] = nothing
 says_of (first ∷ words) =

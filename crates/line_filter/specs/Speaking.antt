@@ -1,5 +1,4 @@
--- The octets that go out: the stuffing of the units that a terminal gives, and 1s where it gives
--- none.
+-- The octets sent: the stuffing of the units that a terminal returns, and 1s if it returns none.
 use Rattle.std.specs.Prelude.{◌≡◌, ℕ, ◌<◌, ◌≤◌, true, List, [], ◌∷◌, ◌++◌, replicate, None, Some}
 use Rattle.su_octets.specs.Bits.{bits_of}
 use Rattle.su_octets.specs.Frame.{Frame, SpareBitsAreZero}
@@ -9,17 +8,17 @@ use Rattle.bit_line.specs.Stuffers.{Gave}
 use Rattle.bit_line.specs.declared.stuffer.Stuffer.{Stuffer}
 use Rattle.line_filter.specs.Acts.{Act, asked}
 
--- what has been stuffed, and its octets that are still to go out
+-- The bits stuffed so far, and the complete octets still to be sent.
 pub record Voice : Type 0 where
   pub sending : Stuffer
   pub ready : List ℕ
 
--- nothing went out
+-- Nothing was sent.
 pub record IsSilent (v : Voice) : Type 0 where
   pub sending : Gave [] [] v.sending
   pub ready : v.ready ≡ []
 
--- behind the units before it, a unit is stuffed, and these octets are whole
+-- A unit is stuffed after the units before it; these octets are then complete.
 pub record Stuffs (old : Stuffer) (unit : units.Unit) (octets : List ℕ) (new : Stuffer) :
     Type 0 where
   pub frame : List ℕ
@@ -28,7 +27,7 @@ pub record Stuffs (old : Stuffer) (unit : units.Unit) (octets : List ℕ) (new :
   pub gave : (given : List ℕ) (sent : List (List ℕ)) → Gave given sent old
       → Gave (given ++ octets) (sent ++ frame ∷ []) new
 
--- this octet ends with 1s what the units before have filled of it; behind it the line begins anew
+-- 1s complete the octet that the units before it fill in part; then the line begins anew.
 pub record Fills (old : Stuffer) (octet : ℕ) (new : Stuffer) : Type 0 where
   pub ones : ℕ
   pub some : 0 < ones
@@ -37,8 +36,8 @@ pub record Fills (old : Stuffer) (octet : ℕ) (new : Stuffer) : Type 0 where
       → bits_of (given ++ octet ∷ []) ≡ line_of sent ++ replicate ones true
   pub anew : Gave [] [] new
 
--- The octet that goes out next. Only where the one before was the last that is whole of its unit,
--- the terminal is asked for a further unit.
+-- The next octet sent. The terminal is asked for a unit only if the last octet was the last
+-- complete one of its unit.
 pub data Gives {T : Type 0} (acts : T → Act → T
     → Type 0) (t : T) (v : Voice) (octet : ℕ) (u : T) (w : Voice) : Type 0 where
   fixed : v.ready ≡ octet ∷ w.ready → w.sending ≡ v.sending → u ≡ t → Gives acts t v octet u w

@@ -1,4 +1,4 @@
-//! A terminal on a line, its orders, and where it tells what becomes of it.
+//! A terminal on a line, with its orders and its reports.
 ghost use Rattle.std.specs.Prelude.{◌≡◌, ◌↔◌, ℕ, ◌+◌, ◌/◌, ◌++◌, ◌∷◌, [], IfOk, IfSome, OnOk, IsTrue, codes};
 ghost use Rattle.std.specs.List.{flat_map};
 ghost use Rattle.line_filter.specs.Orders.{QUIT, LooksAnew, anew_told, TellsAll, Obeys, told, listed, answered};
@@ -17,22 +17,22 @@ use std::io::{self, ErrorKind};
 /// How many octets are a millisecond, on a line of 64 kbit/s.
 const OCTETS: u64 = 8;
 
-/// A terminal on a line.
+/// A terminal on a line, with its orders, its reports and the count of octets.
 #[derive(Drop)]
 pub struct Desk<T, O, P> {
     /// The terminal.
     pub terminal: T,
-    /// What goes out.
+    /// The octets that the terminal sends.
     pub voice: Voice,
-    /// What gives orders.
+    /// The source of orders.
     pub orders: O,
-    /// Where things are told.
+    /// The destination of reports.
     pub reports: P,
-    /// How many octets came in.
+    /// How many octets were received.
     pub count: u64,
 }
 
-/// Tells a line.
+/// Reports a line.
 fn tell_line<P: Reports, L: Display>(alloc: Global, reports: &mut P, line: &L) -> io::Result<()>
     ensures { OnOk result (IfSome (L.output line.now) (λ text. TellsLine (P.stand reports.old) (P.stand reports.new) (text ++ 10 ∷ []))) }
 {
@@ -40,11 +40,11 @@ fn tell_line<P: Reports, L: Display>(alloc: Global, reports: &mut P, line: &L) -
     reports.tell(text.as_bytes())
 }
 
-/// Tells a line, the millisecond first.
+/// Reports a line that begins with the millisecond.
 ///
 /// # Errors
 ///
-/// Where there is no memory, or that can't be told.
+/// If memory runs out or the report can't be written.
 #[tactic(auto, using(crate::proofs::Reporting::tells_one))]
 pub fn tell<P: Reports>(alloc: Global, now: u64, text: &str, reports: &mut P) -> io::Result<()>
     ensures { OnOk result (TellsLines (P.stand reports.old) (P.stand reports.new) (told now text.now)) }
@@ -52,7 +52,7 @@ pub fn tell<P: Reports>(alloc: Global, now: u64, text: &str, reports: &mut P) ->
     tell_line(alloc, reports, &format_args!("{now} {text}"))
 }
 
-/// Tells that orders begin anew, where they do.
+/// Reports that orders begin anew, if they do.
 #[tactic(auto, using(crate::proofs::Reporting::tells_none))]
 fn tell_anew<P: Reports>(alloc: Global, now: u64, begins: bool, reports: &mut P) -> io::Result<()>
     ensures { OnOk result (TellsLines (P.stand reports.old) (P.stand reports.new) (anew_told now begins)) }
@@ -64,11 +64,11 @@ fn tell_anew<P: Reports>(alloc: Global, now: u64, begins: bool, reports: &mut P)
     }
 }
 
-/// Looks whether orders begin anew, and tells it where they do.
+/// Checks whether orders begin anew, and reports it if they do.
 ///
 /// # Errors
 ///
-/// Where orders fail, there is no memory, or that can't be told.
+/// If reading the orders fails, memory runs out or the report can't be written.
 pub fn look_anew<O: Orders, P: Reports>(
     alloc: Global,
     now: u64,
@@ -81,7 +81,7 @@ pub fn look_anew<O: Orders, P: Reports>(
     tell_anew(alloc, now, begins, reports)
 }
 
-/// Tells all that the terminal has to tell.
+/// Writes all pending reports of the terminal.
 fn tell_all<T: LineTerminal, P: Reports>(
     alloc: Global,
     terminal: &mut T,
@@ -99,7 +99,7 @@ fn tell_all<T: LineTerminal, P: Reports>(
     Err(io::Error::from(ErrorKind::Other))
 }
 
-/// Tells lines that an order asked for.
+/// Reports the lines that an order requested.
 fn tell_lines<P: Reports>(
     alloc: Global,
     now: u64,
@@ -115,7 +115,7 @@ fn tell_lines<P: Reports>(
     Ok(())
 }
 
-/// Tells that an order was obeyed.
+/// Reports that an order was obeyed.
 #[tactic(auto, using(crate::proofs::Reporting::tells_one))]
 fn tell_done<P: Reports>(alloc: Global, now: u64, order: &str, reports: &mut P) -> io::Result<()>
     ensures { OnOk result (TellsLines (P.stand reports.old) (P.stand reports.new) (told now (codes "ok " ++ order.now))) }
@@ -123,7 +123,7 @@ fn tell_done<P: Reports>(alloc: Global, now: u64, order: &str, reports: &mut P) 
     tell_line(alloc, reports, &format_args!("{now} ok {order}"))
 }
 
-/// Tells why an order was refused.
+/// Reports why an order was refused.
 #[tactic(auto, using(crate::proofs::Reporting::tells_one))]
 fn tell_refused<P: Reports>(alloc: Global, now: u64, why: &str, reports: &mut P) -> io::Result<()>
     ensures { OnOk result (TellsLines (P.stand reports.old) (P.stand reports.new) (told now (codes "refused " ++ why.now))) }
@@ -131,7 +131,7 @@ fn tell_refused<P: Reports>(alloc: Global, now: u64, why: &str, reports: &mut P)
     tell_line(alloc, reports, &format_args!("{now} refused {why}"))
 }
 
-/// Tells what an order was answered.
+/// Reports the answer to an order.
 #[tactic(auto, using(crate::proofs::Reporting::tells_trans))]
 fn tell_answer<P: Reports>(
     alloc: Global,
@@ -156,7 +156,7 @@ fn tell_answer<P: Reports>(
     }
 }
 
-/// Obeys an order, and tells what comes of it.
+/// Obeys an order, and writes the reports that follow from it.
 fn obey<T: LineTerminal, P: Reports>(
     alloc: Global,
     terminal: &mut T,
@@ -180,7 +180,7 @@ fn is_quit(order: &str) -> bool
 }
 
 impl<T, O, P> Desk<T, O, P> {
-    /// The millisecond of its line.
+    /// The current millisecond of its line: received octets divided by 8.
     pub fn millisecond(&self) -> u64
         ensures { result ≡ self.now.count / OCTETS }
     {
@@ -189,7 +189,7 @@ impl<T, O, P> Desk<T, O, P> {
 }
 
 impl<T: LineTerminal, O: Orders, P: Reports> Desk<T, O, P> {
-    /// One octet goes out, and one comes in.
+    /// Sends one octet and receives one.
     fn exchange(&mut self, alloc: Global, octet: u8) -> io::Result<u8>
         ensures made { IfOk result (λ gives. Told (λ bytes. Exchanges T.acts (self.old.count / OCTETS) (state_of O.left self.old) octet gives bytes
             (state_of O.left self.new)) (P.stand self.old.reports) (P.stand self.new.reports)) }
@@ -206,7 +206,7 @@ impl<T: LineTerminal, O: Orders, P: Reports> Desk<T, O, P> {
         Ok(out)
     }
 
-    /// Obeys the orders that are due. Whether the run goes on.
+    /// Obeys the orders that are due. Returns whether the run goes on.
     fn obey_due(&mut self, alloc: Global, now: u64) -> io::Result<bool>
         ensures made { IfOk result (λ goes_on. Told (λ bytes. ObeysAll T.acts now (state_of O.left self.old) bytes goes_on (state_of O.left self.new))
             (P.stand self.old.reports) (P.stand self.new.reports)) }
@@ -227,7 +227,7 @@ impl<T: LineTerminal, O: Orders, P: Reports> Desk<T, O, P> {
         Err(io::Error::from(ErrorKind::Other))
     }
 
-    /// A millisecond has passed. Whether the run goes on.
+    /// Lets a millisecond pass. Returns whether the run goes on.
     fn mind(&mut self, alloc: Global, now: u64) -> io::Result<bool>
         ensures made { IfOk result (λ goes_on. Told (λ bytes. Minds T.acts now (state_of O.left self.old) bytes goes_on (state_of O.left self.new))
             (P.stand self.old.reports) (P.stand self.new.reports)) }
@@ -239,7 +239,7 @@ impl<T: LineTerminal, O: Orders, P: Reports> Desk<T, O, P> {
         Ok(goes_on)
     }
 
-    /// What comes behind so many octets: each eighth is a millisecond. Whether the run goes on.
+    /// Handles `count` received octets: at each eighth, a millisecond passes. Returns whether the run goes on.
     fn go_behind(&mut self, alloc: Global, count: u64) -> io::Result<bool>
         ensures made { IfOk result (λ goes_on. Told (λ bytes. Behind T.acts count (state_of O.left self.old) bytes goes_on (state_of O.left self.new))
             (P.stand self.old.reports) (P.stand self.new.reports)) }
@@ -252,7 +252,7 @@ impl<T: LineTerminal, O: Orders, P: Reports> Desk<T, O, P> {
         Ok(goes_on)
     }
 
-    /// An octet each way, the one that goes out put behind the others. Whether the run goes on.
+    /// Receives one octet and appends the octet sent to `out`. Returns whether the run goes on.
     pub(crate) fn step(&mut self, alloc: Global, octet: u8, out: &mut Vec<u8>) -> io::Result<bool>
         ensures made { IfOk result (λ goes_on. (gives : ℕ) × (out.new.items ≡ out.old.items ++ gives ∷ [])
             × Told (λ bytes. Steps T.acts self.old.count (state_of O.left self.old) octet gives bytes goes_on (state_of O.left self.new))

@@ -1,4 +1,4 @@
-//! The filter.
+//! The filter: reads octets of a line and writes those of a terminal.
 ghost use Rattle.std.specs.Prelude.{◌≡◌, ◌≤◌, ℕ, ◌++◌, List, map, replicate, OnOk, IfOk};
 ghost use Rattle.std.specs.Io.KnownBytes.{Appends};
 ghost use Rattle.line_filter.specs.Desks.{state_of, Told};
@@ -12,26 +12,26 @@ use crate::writing::write_part;
 use std::alloc::Global;
 use std::io::{self, ErrorKind, Read, Write};
 
-/// How many octets the line is asked for at once.
+/// The most octets per read of the line.
 const PART: usize = 4096;
 
-/// An octet of 1s.
+/// An octet of 1s: silence.
 const SILENCE: u8 = 255;
 
-/// How many of them may go out before any octet came in.
+/// The most octets of silence sent before any octet is received.
 pub const MOST_AHEAD: usize = 8_000;
 
-/// Which bit of an octet is the first on the line.
+/// Which bit of an octet is sent first on the line.
 #[derive(Clone, Copy, PartialEq, Eq, Debug)]
 pub enum Bits {
-    /// The lowest.
+    /// The lowest bit.
     Low,
-    /// The highest, as channels of cards have it.
+    /// The highest bit, as on channels of interface cards.
     High,
 }
 
 impl Bits {
-    /// An octet as it stands on the line, or the other way round.
+    /// Converts between an octet in a file and an octet with its first bit lowest; either way.
     fn turn(self, octet: u8) -> u8
         ensures { result ≡ turned self octet }
     {
@@ -41,7 +41,7 @@ impl Bits {
         }
     }
 
-    /// Octets the other way round, where their first bit is the highest.
+    /// Converts octets in place, reversing their bits if their first bit is the highest.
     pub fn turn_all(self, octets: &mut [u8])
         ensures { octets.new ≡ map (turned self) octets.old }
     {
@@ -52,7 +52,7 @@ impl Bits {
 }
 
 impl<T: LineTerminal, O: Orders, P: Reports> Desk<T, O, P> {
-    /// Octets each way, those that go out put behind the others. Whether the run goes on.
+    /// Receives octets and appends the octets sent to `out`. Returns whether the run goes on.
     fn pass(&mut self, alloc: Global, octets: &[u8], out: &mut Vec<u8>) -> io::Result<bool>
         ensures { IfOk result (λ goes_on. (given : List ℕ) × (out.new.items ≡ out.old.items ++ given)
             × Told (λ bytes. Goes T.acts self.old.count (state_of O.left self.old) octets.now given bytes goes_on self.new.count (state_of O.left self.new))
@@ -67,7 +67,7 @@ impl<T: LineTerminal, O: Orders, P: Reports> Desk<T, O, P> {
         Ok(true)
     }
 
-    /// What bytes of the line lead to, written as one. Whether the run goes on.
+    /// Receives octets and writes those sent in one call. Returns whether the run goes on.
     fn serve<W: Write>(
         &mut self,
         alloc: Global,
@@ -90,7 +90,7 @@ impl<T: LineTerminal, O: Orders, P: Reports> Desk<T, O, P> {
     }
 }
 
-/// Writes so many octets of silence.
+/// Writes `ahead` octets of silence.
 fn write_ahead<W: Write>(writer: &mut W, ahead: usize) -> io::Result<()>
     requires { ahead ≤ MOST_AHEAD }
     ensures all { OnOk result (Appends (W.contents writer.old) (W.contents writer.new) (replicate ahead SILENCE)) }
@@ -100,13 +100,13 @@ fn write_ahead<W: Write>(writer: &mut W, ahead: usize) -> io::Result<()>
     write_part(writer, &silence[..ahead])
 }
 
-/// Has a terminal speak on a line: writes so many octets of silence, 8,000 at most, and then one octet for each that it reads, up to the end
-/// of what there is to read or an order that ends the run. What comes out doesn't depend on how the line is cut by reads.
+/// Runs a terminal on a line: writes `ahead` octets of silence, at most 8,000, then one octet for each octet read. It
+/// stops at the end of the input or at an order that ends the run. The output doesn't depend on how reads cut the line.
 ///
 /// # Errors
 ///
-/// Where memory, a read, a write or the terminal fails, or after 2^64 - 1 octets or reads. What is written then is a beginning of that, for
-/// octets that were read.
+/// If memory, a read, a write or the terminal fails, or after 2^64 - 1 octets or reads. The octets written are then a
+/// prefix of the output for octets that were read.
 pub fn run_line<T: LineTerminal, O: Orders, P: Reports, R: Read, W: Write>(
     alloc: Global,
     desk: &mut Desk<T, O, P>,

@@ -1,6 +1,6 @@
-//! A line as a filter: one octet goes out for each that comes in, and eight of them are a millisecond.
+//! A terminal on a line as a filter: it sends one octet for each received, and eight octets are a millisecond.
 //!
-//! What stands at its end is any terminal that is asked for units, hears octets, and lets milliseconds pass.
+//! The terminal is any type that returns units, takes octets, and lets milliseconds pass.
 #![tactic(auto)]
 
 mod desk;

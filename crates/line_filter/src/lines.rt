@@ -1,4 +1,4 @@
-//! Lines as their octets come.
+//! Lines of orders, read octet by octet.
 ghost use Rattle.std.specs.Prelude.{◌≡◌, ◌<◌, ◌≤◌, ◌++◌, ◌∷◌, [], ℕ, List, Some, None, IfOk, IfSome, IsNone, IsSome, OnOk, length, string_bytes};
 ghost use Rattle.line_filter.specs.Says.{plain_says};
 ghost use Rattle.line_filter.specs.Streams.{line_says, said_at, wait_behind, waiting_of, timed, whole_lines, left_in, orders_of, IsHeld};
@@ -7,25 +7,25 @@ use crate::says::{LineSays, line_says};
 use std::alloc::{AllocError, Global};
 use std::str;
 
-/// How many octets a line has at most, without its end.
+/// The most octets of a line, without its end.
 pub const MOST_OCTETS: usize = 600;
 
-/// Lines of orders, as far as they were read.
+/// Lines of orders as far as they have been read.
 #[derive(Drop)]
 pub struct OrderLines {
-    /// The octets that were read last.
+    /// The octets of the last read.
     pub part: Vec<u8>,
-    /// How many of them were looked at.
+    /// How many of them were examined.
     pub from: usize,
-    /// The line under way, as far as it was looked at; of one that is too long, no more than shows that.
+    /// The current line so far; of a line that is too long, one octet more than the limit.
     pub line: Vec<u8>,
-    /// The millisecond before which no order is obeyed.
+    /// The millisecond before which the next order isn't obeyed.
     pub since: u64,
-    /// The order that comes next, where its line has its end.
+    /// The next order, if its line is complete.
     pub waiting: Option<String>,
 }
 
-/// What a line says. One that is too long or isn't UTF-8 says an order without words, which is refused.
+/// The meaning of a line. A line that is too long or isn't UTF-8 means an order without words, which is refused.
 fn says(alloc: Global, line: &[u8]) -> Result<LineSays, AllocError>
     ensures { IfOk result (λ s. plain_says s ≡ line_says line.now) }
 {
@@ -39,7 +39,7 @@ fn says(alloc: Global, line: &[u8]) -> Result<LineSays, AllocError>
 }
 
 impl OrderLines {
-    /// Nothing was read.
+    /// The lines before any read.
     pub fn new(alloc: Global) -> Self
         ensures { (more : List ℕ) → left_in result more ≡ orders_of more }
     {
@@ -52,7 +52,7 @@ impl OrderLines {
         }
     }
 
-    /// Takes note of what a line says.
+    /// Records the meaning of a line.
     fn note(&mut self, said: LineSays)
         requires { self.old.waiting ≡ None }
         ensures order { waiting_of self.new ≡ said_at self.old.since (plain_says said) }
@@ -70,7 +70,7 @@ impl OrderLines {
         }
     }
 
-    /// The end of the line under way.
+    /// Ends the current line.
     fn end_line(&mut self, alloc: Global) -> Result<(), AllocError>
         requires { self.old.waiting ≡ None }
         ensures line { OnOk result (self.new.line.items ≡ []) }
@@ -84,7 +84,7 @@ impl OrderLines {
         Ok(())
     }
 
-    /// One octet more of the line under way.
+    /// Appends an octet to the current line.
     fn lengthen(&mut self, octet: u8) -> Result<(), AllocError>
         ensures line { OnOk result ((since : ℕ) (more : List ℕ) → timed since (whole_lines self.new.line.items more)
             ≡ timed since (whole_lines (self.old.line.items ++ octet ∷ []) more)) }
@@ -97,7 +97,7 @@ impl OrderLines {
         Ok(())
     }
 
-    /// Looks at one octet more, where there is one that wasn't looked at.
+    /// Examines the next octet, which the caller ensures exists.
     pub fn look(&mut self, alloc: Global) -> Result<(), AllocError>
         requires next { self.old.from < length self.old.part.items }
         requires none { self.old.waiting ≡ None }
@@ -113,7 +113,7 @@ impl OrderLines {
         Ok(())
     }
 
-    /// Octets that were read, where all before were looked at.
+    /// Takes octets of a new read, after all earlier ones were examined.
     pub fn fill(&mut self, octets: &[u8]) -> Result<(), AllocError>
         requires { length self.old.part.items ≤ self.old.from }
         ensures { OnOk result ((more : List ℕ) → left_in self.new more ≡ left_in self.old (octets.now ++ more)) }
@@ -124,7 +124,7 @@ impl OrderLines {
         Ok(())
     }
 
-    /// The order that comes next, if it is due.
+    /// The next order, if it is due.
     pub fn take_due(&mut self, now: u64) -> Option<String>
         requires { IsSome self.old.waiting }
         ensures due { IfSome result (λ text. (self.old.since ≤ now)

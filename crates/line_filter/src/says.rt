@@ -1,4 +1,4 @@
-//! What a line says.
+//! The meaning of a line of orders.
 ghost use Rattle.std.specs.Prelude.{◌≡◌, IfOk, codes, string_bytes};
 ghost use Rattle.std.specs.Str.{bytes_eq};
 ghost use Rattle.script_lines.specs.Lines.{texts, is_silent};
@@ -9,20 +9,20 @@ use crate::times::millisecond;
 use script_lines::words_in;
 use std::alloc::{AllocError, Global};
 
-/// What a line of a stream of orders says.
+/// The meaning of a line in a stream of orders.
 #[derive(Debug, Drop, PartialEq, Eq)]
 pub enum LineSays {
-    /// Nothing: it is blank, a comment, or a report of something else than an order that was obeyed.
+    /// A blank line, a comment, or a report of anything other than an obeyed order.
     Nothing,
-    /// `at MS`: what follows waits until this millisecond.
+    /// `at MS`: the orders after it wait until this millisecond.
     At(u64),
-    /// An order: its words, parted by one space.
+    /// An order: its words, separated by single spaces.
     Order(String),
     /// `MS ok ORDER`, a report: an order, and the millisecond at which it was obeyed.
     OrderAt(u64, String),
 }
 
-/// Words, parted by one space.
+/// The words, separated by single spaces.
 fn joined(alloc: Global, first: &str, words: &[&str]) -> Result<String, AllocError>
     ensures { IfOk result (λ text. string_bytes text ≡ joined first.now (texts words.now)) }
 {
@@ -45,14 +45,14 @@ fn is_silent(words: &[&str]) -> bool
     }
 }
 
-/// The order of these words.
+/// The order with these words.
 fn order_says(alloc: Global, first: &str, words: &[&str]) -> Result<LineSays, AllocError>
     ensures { IfOk result (λ s. plain_says s ≡ order (joined first.now (texts words.now))) }
 {
     Ok(LineSays::Order(joined(alloc, first, words)?))
 }
 
-/// Whether a report has this word behind its millisecond, and isn't that of an order that was obeyed.
+/// Whether this word after a millisecond marks a report that isn't about an obeyed order.
 fn is_report(word: &str) -> bool
     ensures { result ≡ is_report word.now }
 {
@@ -72,7 +72,7 @@ fn is_report(word: &str) -> bool
         || word == "orders"
 }
 
-/// What a line says behind its first word, a millisecond, where that isn't the report of an order that was obeyed.
+/// The meaning of a line that begins with a millisecond, unless it reports an obeyed order.
 fn other_says(alloc: Global, first: &str, words: &[&str]) -> Result<LineSays, AllocError>
     ensures { IfOk result (λ s. plain_says s ≡ by_other first.now (texts words.now)) }
 {
@@ -82,7 +82,7 @@ fn other_says(alloc: Global, first: &str, words: &[&str]) -> Result<LineSays, Al
     }
 }
 
-/// What a line says behind its first word, a millisecond.
+/// The meaning of a line that begins with a millisecond.
 fn report_says(
     alloc: Global,
     first: &str,
@@ -103,7 +103,7 @@ fn report_says(
     }
 }
 
-/// `at MS`, or an order.
+/// The meaning of a line that begins with another word: `at MS`, or an order.
 fn plain_line_says(alloc: Global, first: &str, words: &[&str]) -> Result<LineSays, AllocError>
     ensures { IfOk result (λ s. plain_says s ≡ by_at (bytes_eq first.now (codes "at")) first.now (texts words.now)) }
 {
@@ -122,7 +122,7 @@ fn plain_line_says(alloc: Global, first: &str, words: &[&str]) -> Result<LineSay
     }
 }
 
-/// What a line says by its words.
+/// The meaning of a line with these words.
 fn words_say(alloc: Global, words: &[&str]) -> Result<LineSays, AllocError>
     ensures { IfOk result (λ s. plain_says s ≡ says_of (texts words.now)) }
 {
@@ -138,7 +138,7 @@ fn words_say(alloc: Global, words: &[&str]) -> Result<LineSays, AllocError>
     }
 }
 
-/// What a line says, without its end.
+/// The meaning of a line, given without its end.
 pub fn line_says(alloc: Global, line: &str) -> Result<LineSays, AllocError>
     ensures { IfOk result (λ s. plain_says s ≡ says_of (words_of line.now)) }
 {

@@ -1,4 +1,4 @@
-//! Orders, read on as they come.
+//! Orders, read as they arrive.
 ghost use Rattle.std.specs.Prelude.{◌≡◌, ◌≤◌, None, IfOk, length, option_map};
 ghost use Rattle.line_filter.specs.Streams.{orders_of};
 ghost use Rattle.line_filter.specs.Reading.{left_of, Stays, IsRead};
@@ -8,21 +8,21 @@ use crate::orders::Orders;
 use std::alloc::Global;
 use std::io::{self, ErrorKind, Read};
 
-/// How many octets are asked for at once.
+/// The most octets per read.
 const PART: usize = 1024;
 
-/// The orders that the lines of a reader say. Where a reader has nothing now, it may have more later; a line counts when its end has
-/// come.
+/// The orders in the lines of a reader. A reader that returns nothing now may return more later; a line counts once its
+/// end has arrived.
 #[derive(Drop)]
 pub struct LineOrders<R> {
-    /// What gives the octets.
+    /// The source of the octets.
     pub reader: R,
-    /// The lines, as far as they were read.
+    /// The lines as far as they have been read.
     pub lines: OrderLines,
 }
 
 impl<R: Read> LineOrders<R> {
-    /// No line was read.
+    /// The orders of a reader of which nothing was read yet.
     pub fn new(alloc: Global, reader: R) -> Self
         ensures orders { left_of R.remaining result ≡ option_map orders_of (R.remaining reader) }
         ensures reader { result.reader ≡ reader }
@@ -33,7 +33,7 @@ impl<R: Read> LineOrders<R> {
         }
     }
 
-    /// Reads on, where all was looked at. Whether there may be more.
+    /// Reads more, after all octets were examined. Returns whether there may be more.
     fn read_on(&mut self) -> io::Result<bool>
         requires looked { length self.old.lines.part.items ≤ self.old.lines.from }
         requires none { self.old.lines.waiting ≡ None }

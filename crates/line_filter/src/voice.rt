@@ -1,4 +1,4 @@
-//! The octets that go out.
+//! The octets that a terminal sends.
 ghost use Rattle.std.specs.Prelude.{◌≡◌, ◌+◌, ◌-◌, ◌^◌, ◌<◌, true, ◌++◌, ◌∷◌, [], replicate, IfOk, IfSome, IsNone};
 ghost use Rattle.su_octets.specs.Bits.{low_bits};
 ghost use Rattle.su_octets.specs.Whole.{IsWhole};
@@ -11,13 +11,13 @@ use std::io;
 use std::marker::Model;
 use su_octets::Unit;
 
-/// What a terminal's units are made into: octets, one after another.
+/// The octets made from a terminal's units, one after another.
 #[derive(Drop)]
 pub struct Voice {
     sending: Stuffer,
-    /// The octets that are whole of the last unit.
+    /// The complete octets of the last unit.
     ready: ArrayVec<u8, 352>,
-    /// How many of them went out.
+    /// How many of them were sent.
     gone: usize,
 }
 
@@ -36,7 +36,7 @@ impl Model for Voice {
     ghost invariant = { λ v. IsVoice v.sending };
 }
 
-/// The octet that has these bits first, and then 1s.
+/// The octet with these bits first, and then 1s.
 fn filled(bits: u8, len: u8) -> u8
     requires few { len < 8 }
     requires fits { bits < 2 ^ len }
@@ -46,7 +46,7 @@ fn filled(bits: u8, len: u8) -> u8
 }
 
 impl Voice {
-    /// Nothing went out.
+    /// A voice that has sent nothing.
     pub fn new() -> Self
         ensures { IsSilent result }
     {
@@ -57,7 +57,7 @@ impl Voice {
         }
     }
 
-    /// The first octet of a unit, where none is under way.
+    /// The first octet of a unit, if no unit is being sent.
     pub fn begin(&mut self, unit: &Unit) -> u8
         requires { IsWhole unit.now }
         ensures { Stuffs self.old.sending unit.now (result ∷ self.new.ready) self.new.sending }
@@ -67,7 +67,7 @@ impl Voice {
         self.ready[0]
     }
 
-    /// The octet that ends with 1s, where no unit is under way.
+    /// The octet that 1s complete, if no unit is being sent.
     pub fn fall_silent(&mut self) -> u8
         ensures fills { Fills self.old.sending result self.new.sending }
         ensures ready { self.new.ready ≡ self.old.ready }
@@ -77,7 +77,7 @@ impl Voice {
         filled(bits, len)
     }
 
-    /// The octet that goes out next of the unit under way; none where none is.
+    /// The next octet of the unit being sent, or none.
     pub fn rest(&mut self) -> Option<u8>
         ensures some { IfSome result (λ octet. (self.old.ready ≡ octet ∷ self.new.ready) × (self.new.sending ≡ self.old.sending)) }
         ensures none { IsNone result → (self.old.ready ≡ []) × (self.new ≡ self.old) }
@@ -90,7 +90,7 @@ impl Voice {
         None
     }
 
-    /// The octet that goes out next where no unit is under way: the terminal is asked for one.
+    /// The next octet if no unit is being sent: asks the terminal for a unit.
     fn ask<T: LineTerminal>(&mut self, terminal: &mut T) -> io::Result<u8>
         requires { self.old.ready ≡ [] }
         ensures { IfOk result (λ octet. Gives T.acts terminal.old self.old octet terminal.new self.new) }
@@ -101,11 +101,11 @@ impl Voice {
         }
     }
 
-    /// The octet that goes out next. The terminal is asked for a unit only where none is under way.
+    /// The next octet to send. It asks the terminal for a unit only if none is being sent.
     ///
     /// # Errors
     ///
-    /// Where the terminal can't give a unit: no octet goes out.
+    /// If the terminal can't return a unit: then no octet is sent.
     pub fn next<T: LineTerminal>(&mut self, terminal: &mut T) -> io::Result<u8>
         ensures { IfOk result (λ octet. Gives T.acts terminal.old self.old octet terminal.new self.new) }
     {

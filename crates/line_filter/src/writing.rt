@@ -1,15 +1,15 @@
-//! Octets that are written as far as they can be.
+//! Writing octets as far as possible.
 ghost use Rattle.std.specs.Prelude.{OnOk};
 ghost use Rattle.std.specs.Io.KnownBytes.{Appends};
 ghost use Rattle.line_filter.specs.Filters.{WritesPart};
 
 use std::io::{self, ErrorKind, Write};
 
-/// Writes octets. An interrupted write is tried again.
+/// Writes octets, and retries an interrupted write.
 ///
 /// # Errors
 ///
-/// Where a write fails, or takes nothing; a beginning of the octets is written then.
+/// If a write fails or accepts no octets; a prefix of the octets is written then.
 pub fn write_part<W: Write>(writer: &mut W, octets: &[u8]) -> io::Result<()>
     ensures all { OnOk result (Appends (W.contents writer.old) (W.contents writer.new) octets.now) }
     ensures part { WritesPart (W.contents writer.old) (W.contents writer.new) octets.now }

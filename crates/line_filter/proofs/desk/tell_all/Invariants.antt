@@ -1,4 +1,4 @@
--- What was told so far.
+-- The reports written so far.
 use Rattle.line_filter.specs.Orders.{Tells}
 use Rattle.line_filter.specs.Desks.{Told}
 use Rattle.line_filter.proofs.desk.tell_all.Given as goal

@@ -1,4 +1,4 @@
--- What was told is the lines so far.
+-- The lines so far were reported.
 use Rattle.std.proofs.Common.{take}
 use Rattle.std.specs.List.{flat_map}
 use Rattle.line_filter.specs.Orders.{listed}

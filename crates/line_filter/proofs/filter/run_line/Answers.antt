@@ -27,7 +27,7 @@ loop-read-preserved g c = elim c.match-read.branch [
   | in-Err+else-ne w ↦ rw (w.desk-is, w.writer-is) (served_kept _ _ _ _ _ _ _ _ _ _ _ c.loop-read.invariant w.in-Err.ensures.bytes refl refl)
 ]
 
--- ---- what is written, however it ends
+-- ---- the output, however the run ends
 pub returns-in_err-write_ahead-clause-begun : goal.returns-in_err-write_ahead-clause-begun
 returns-in_err-write_ahead-clause-begun g c = begun_none _ _ _ _ _ _ _ _ c.write_ahead.ensures.part
 

@@ -1,4 +1,4 @@
--- What was read so far, and written, and told.
+-- The octets read and written and the reports so far.
 use Rattle.std.proofs.Common.{true}
 use Rattle.line_filter.specs.Desks.{state_of}
 use Rattle.line_filter.specs.Filters.{Served}

@@ -1,4 +1,4 @@
--- The text so far, and the words to come.
+-- The text so far, and the words not yet joined.
 use Rattle.std.proofs.Common.{◌≡◌, ◌++◌, ◌∷◌, drop}
 use Rattle.std.specs.Prelude.{string_bytes}
 use Rattle.std.specs.List.{flat_map}

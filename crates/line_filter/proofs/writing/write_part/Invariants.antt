@@ -1,4 +1,4 @@
--- What was written so far.
+-- The octets written so far.
 use Rattle.std.proofs.Common.{◌≤◌, length, take}
 use Rattle.std.specs.Io.KnownBytes.{Appends}
 use Rattle.line_filter.proofs.writing.write_part.Given as goal

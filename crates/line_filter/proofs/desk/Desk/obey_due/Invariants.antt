@@ -1,4 +1,4 @@
--- The orders so far.
+-- The orders obeyed so far.
 use Rattle.std.proofs.Common.{◌≡◌}
 use Rattle.line_filter.specs.Runs.{ObeysDue}
 use Rattle.line_filter.specs.Desks.{Told}

@@ -1,4 +1,4 @@
--- The octets so far went each way.
+-- The octets so far were exchanged.
 use Rattle.std.proofs.Common.{take}
 use Rattle.line_filter.specs.Desks.{state_of}
 use Rattle.line_filter.proofs.Passing.{Passed}

@@ -1,4 +1,4 @@
--- Those so far are turned.
+-- The octets so far are converted.
 use Rattle.std.proofs.Common.{◌≡◌, ◌++◌, map, take, drop}
 use Rattle.line_filter.specs.Filters.{turned}
 use Rattle.line_filter.proofs.filter.Bits.turn_all.Given as goal

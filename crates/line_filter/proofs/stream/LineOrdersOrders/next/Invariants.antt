@@ -1,4 +1,4 @@
--- What is left stays so.
+-- The remaining orders are unchanged.
 use Rattle.line_filter.specs.Reading.{left_of, Stays}
 use Rattle.line_filter.proofs.stream.LineOrdersOrders.next.Given as goal
 
