@@ -1,4 +1,4 @@
--- Why there is no terminal over a set.
+-- Why `new_terminal` returns no terminal.
 use Rattle.std.proofs.Common.{ℕ, List, Option}
 use Rattle.turn_code.specs.declared.draft.Draft.{Draft}
 use Rattle.script_terminal.specs.Opening.{IsRefusedOver}

@@ -1,4 +1,4 @@
--- A set on lines as a run begins.
+-- A link set on lines when a run begins.
 use Rattle.std.proofs.Common.{◌≡◌, ◌∙◌, ℕ, ◌+◌, Bool, true, true≢false, List, [], ◌∷◌, ◌++◌, length, Option, Result, Ok, Err, OnOk, is_ok, refl, sym, subst, arith, length-append}
 use Rattle.std.proofs.lemmas.List.Elements.{All-nil, All-cons, All-append}
 use Rattle.set_tending.specs.Wires.{IsNewWire}
@@ -43,7 +43,7 @@ all_counts n m ss all so_far = record { count = so_far.count ∙ all; new = so_f
 pub rounds_none : (ahead : ℕ) (p : SetPlace) (a : Stand) (f : Option (List Traffic)) → Made (λ bytes traffic. Rounds ahead p bytes traffic true p) a a f f
 rounds_none ahead p a f = record { bytes = []; traffic = []; are = begins; tells = tells_none a; gives = grows_none f }
 
--- one round more, by what was ahead then
+-- one more round, with the value that `ahead` had then
 pub rounds_more : (ahead now : ℕ) (p q r : SetPlace) (goes_on : Bool) (a b c : Stand) (f g h : Option (List Traffic)) → now ≡ ahead
     → Made (λ bytes traffic. Rounds ahead p bytes traffic true q) a b f g → Made (λ bytes traffic. IsRound now q bytes traffic goes_on r) b c g h
     → Made (λ bytes traffic. Rounds ahead p bytes traffic goes_on r) a c f h
@@ -55,7 +55,7 @@ rounds_more ahead now p q r goes_on a b c f g h same before more = record {
   gives = grows_then f g h before.traffic more.traffic before.gives more.gives;
 }
 
--- the run goes on, and lines were asked whether they are over
+-- the run goes on; the lines were asked whether they are over, which changes nothing
 pub rounds_on : (ahead : ℕ) (p q : SetPlace) (goes_on : Bool) (a b : Stand) (f g h : Option (List Traffic)) → goes_on ≡ true
     → Made (λ bytes traffic. Rounds ahead p bytes traffic goes_on q) a b f g → Grows g h [] → Made (λ bytes traffic. Rounds ahead p bytes traffic true q) a b f h
 rounds_on ahead p q goes_on a b f g h is made none_given = record {
@@ -66,7 +66,7 @@ rounds_on ahead p q goes_on a b f g h is made none_given = record {
   gives = grows_last f g h made.traffic made.gives none_given;
 }
 
--- one round more, by what was ahead then, and the run has ended
+-- one more round, with the value that `ahead` had then, and the run has ended
 pub has_run : (ahead now : ℕ) (p q r : SetPlace) (goes_on : Bool) (a b c : Stand) (f g h : Option (List Traffic)) → now ≡ ahead
     → Made (λ bytes traffic. Rounds ahead p bytes traffic true q) a b f g → Made (λ bytes traffic. IsRound now q bytes traffic goes_on r) b c g h
     → Made (λ bytes traffic. Ran ahead p bytes traffic r) a c f h
@@ -82,7 +82,7 @@ has_run ahead now p q r goes_on a b c f g h same before more = record {
   gives = grows_then f g h before.traffic more.traffic before.gives more.gives;
 }
 
--- behind it lines were asked whether they are over
+-- after the round the lines were asked whether they are over
 pub has_run_on : (ahead : ℕ) (p q : SetPlace) (a b : Stand) (f g h : Option (List Traffic)) → Made (λ bytes traffic. Ran ahead p bytes traffic q) a b f g → Grows g h []
     → Made (λ bytes traffic. Ran ahead p bytes traffic q) a b f h
 has_run_on ahead p q a b f g h made none_given = record {
@@ -97,7 +97,7 @@ from_ok : {A E : Type 0} (r : Result A E) (P : Type 0) → is_ok r ≡ true → 
 from_ok (Ok v) P is h = h
 from_ok (Err e) P is h = absurd (true≢false (sym is))
 
--- a new set on lines ran
+-- a new link set on lines ran
 pub ran_from : {A E O P : Type 0} (r : Result A E) (left : O → Option (List Timed)) (tender : Tended) (ahead : ℕ) (orders : O) (reports : P) (old : SetDesk O P) (last : SetPlace)
     (a b : Stand) (f g : Option (List Traffic)) → IsNewSetDesk tender ahead orders reports old
     → OnOk r (Made (λ bytes traffic. Ran old.ahead (place_of left old) bytes traffic last) a b f g) → is_ok r ≡ true → RanFrom ahead tender

@@ -1,4 +1,4 @@
--- What an order to a set changes.
+-- What an order to a link set changes.
 use Rattle.std.proofs.Common.{◌≡◌, ◌∙◌, ℕ, ◌+◌, ◌<◌, ◌≤◌, nat_lt, Bool, true, false, List, ◌++◌, codes, slice_get, slice_set, Option, None, Some, option_map, Result, Ok, Err, IfOk, IfSome, IsSome, IsNone, true≢false, refl, sym, ap, subst, arith}
 use Rattle.std.proofs.lemmas.Bool.Decides.{nat_tests}
 use Rattle.std.proofs.lemmas.Option.{none-some, same_Some}
@@ -26,7 +26,7 @@ use Rattle.line_play.specs.declared.set_orders.Focus.{Focus}
 use Rattle.line_play.specs.declared.set_orders.SetOrder.{SetOrder}
 use Rattle.line_play.specs.declared.set_orders.SetOrder.TheVariants as order
 
--- what is told as a refusal
+-- the text reported as a refusal
 pub why_so : {A E : Type 0} (r : Result (Option A) E) (f : A → List ℕ) (text : List ℕ) (P : List ℕ → Type 0) → P text → IfOk r (λ (o : Option A). IfSome o (λ (a : A). f a ≡ text))
     → IfOk r (λ (o : Option A). IfSome o (λ (a : A). P (f a)))
 why_so (Ok (Some a)) f text P h same = subst P (sym same) h
@@ -46,7 +46,7 @@ obeys_at said command l t u same start other =
 pub each_all : (command : Command) (first last gone : ℕ) (t u : Tended) → ObeyEach command first t gone u → gone ≡ last → ObeyEach command first t last u
 each_all command first last gone t u each all = subst (λ (n : ℕ). ObeyEach command first t n u) all each
 
--- from the first to before the last of those of which an order speaks
+-- links `first` to `last` - 1 of those that the order addresses obey the command
 pub commands : (command : Command) (whom : Focus) (p : Stood) (u : Tended) (first last : ℕ) → first ≡ first_of whom → last ≡ last_of whom p.tender
     → ObeyEach command first p.tender last u → Commands command whom p (record p { tender = u })
 commands command whom p u first last first_is last_is each = record {
@@ -56,7 +56,7 @@ commands command whom p u first last first_is last_is each = record {
   same = refl;
 }
 
--- counts begin anew, of links from the first to before the last of those of which an order speaks
+-- the counts restart for links `first` to `last` - 1 of those that the order addresses
 pub reset_none : (l : ℕ) (p : Stood) → terminal_at p.tender l ≡ None → p ≡ reset_at l p
 reset_none l p none_there = λ i. record p { since = ap (λ (o : Option Term). reset_to l o p.since) (sym none_there) i }
 
@@ -107,7 +107,7 @@ pub refused_rebalance : {A E : Type 0} (r : Result (Option A) E) (f : A → List
 refused_rebalance r f p u error fault same told_so =
     why_so r f (rebalance_error_text error) (λ (w : List ℕ). NoRebalance p w (record p { tender = u })) (no_rebalance p u error fault same) told_so
 
--- what a link refuses it for
+-- the fault for which a link refuses a command
 pub refused_fault : {A E : Type 0} (r : Result (Option A) E) (f : A → List ℕ) (error : CommandError)
     → IfOk r (λ (o : Option A). IfSome o (λ (a : A). f a ≡ command_error_text error)) → IfOk r (λ (o : Option A). IfSome o (λ (a : A). IsFault (f a)))
 refused_fault r f error told_so = why_so r f (command_error_text error) (λ (w : List ℕ). IsFault w) (record { error = error; is = refl }) told_so
@@ -118,14 +118,14 @@ refused_command (Ok (Some a)) f p q focus since fault = record { fault = fault; 
 refused_command (Ok None) f p q focus since fault = tt
 refused_command (Err e) f p q focus since fault = tt
 
--- a question that is refused changes nothing
+-- a refused question changes nothing
 pub refused_line : {A E : Type 0} (r : Result (Option A) E) (f : A → List ℕ) (line : Option (List ℕ)) (p : Stood)
     → IfOk r (λ (o : Option A). IfSome o (λ (a : A). line ≡ Some (codes "refused " ++ f a))) → IfOk r (λ (o : Option A). IfSome o (λ (a : A). NotShown line p (f a) p))
 refused_line (Ok (Some a)) f line p refused = record { refused = refused; same = refl }
 refused_line (Ok None) f line p refused = tt
 refused_line (Err e) f line p refused = tt
 
--- what but the state of an actor and a variable is asked for is always told
+-- all questions except those about an actor's state or a variable are always answered
 pub may_show : (s : SetOrder) (whom : Focus) (t : Tended) → ((p : _) → s ≡ order.State p → ⊥) → ((p v : _) → s ≡ order.Value p v → ⊥) → MayShow (plain_set_order s) whom t
 may_show (order.On focus) whom t not_state not_value = tt
 may_show (order.Link obeyed) whom t not_state not_value = tt
@@ -141,7 +141,7 @@ may_show order.Held whom t not_state not_value = tt
 may_show order.Unsure whom t not_state not_value = tt
 may_show order.Rebalance whom t not_state not_value = tt
 
--- the line of a link that is there, and none of one that isn't
+-- the line of a link that exists; none of a link that doesn't
 pub line_refused : {A E : Type 0} (r : Result (Option A) E) (f : A → List ℕ) (line : List ℕ) (there : Option (List ℕ)) → there ≡ Some line
     → IfOk r (λ (o : Option A). IfSome o (λ (a : A). line ≡ codes "refused " ++ f a)) → IfOk r (λ (o : Option A). IfSome o (λ (a : A). there ≡ Some (codes "refused " ++ f a)))
 line_refused (Ok (Some a)) f line there is refused = is ∙ ap (λ (xs : List ℕ). Some xs) refused
@@ -156,7 +156,7 @@ line_shown (Err e) line there is shown = tt
 pub nowhere_shown : (there : Option (List ℕ)) → there ≡ None → IsShowable there
 nowhere_shown there none_there = λ why refused. none-some (codes "refused " ++ why) (sym none_there ∙ refused)
 
--- the line of a link that is there
+-- the line of a link that exists
 pub there_line : (at : ℕ → Option (List ℕ)) (line text : List ℕ) (l k : ℕ) → Some line ≡ at l → l ≡ k → text ≡ line → at k ≡ Some text
 there_line at line text l k there place is = sym (there ∙ ap at place) ∙ ap (λ (xs : List ℕ). Some xs) (sym is)
 
@@ -202,7 +202,7 @@ still order.Held whom p none_there not_on not_link not_reset not_rebalance = ref
 still order.Unsure whom p none_there not_on not_link not_reset not_rebalance = refl
 still order.Rebalance whom p none_there not_on not_link not_reset not_rebalance = absurd (not_rebalance refl)
 
--- what holds whatever comes of a call
+-- a property that holds for every result of a call
 pub where_none : {A E : Type 0} (r : Result (Option A) E) (P : Type 0) → P → IfOk r (λ (o : Option A). IsNone o → P)
 where_none (Ok o) P h = λ none. h
 where_none (Err e) P h = tt

@@ -1,4 +1,4 @@
--- What follows for all that a set on lines did.
+-- Laws for every run of a link set on lines.
 use Rattle.std.proofs.Common.{◌≡◌, ℕ, Bool, true, List, [], ◌∷◌, ◌++◌, append-nil, append_assoc, length, Option, sym, ap, subst}
 use Rattle.script_links.specs.resend_store_types.messages.Msu.{Msu}
 use Rattle.line_filter.specs.Orders.{Timed}
@@ -18,7 +18,7 @@ use Rattle.line_play.specs.declared.set_orders.Focus.{Focus}
 use Rattle.line_play.specs.SetRounds.{Waited, Carries, passes, misses, ends, fails, opens, CarriesAll, no_link, one_link, Tells, nothing, one, ObeysWaiting, rests, obeys, TakesOrder, at_once, behind, report, Attends, waited, comes, looks, AttendsAll, none_due, full, quits, SetPlace, IsRound, Rounds, begins, round}
 use Rattle.line_play.specs.SetLaws.{sent_in, sent_waiting, sent_taking, sent_attending, sent_by_all, sent_along, told_in, told_along}
 
--- what was sent, one part behind another
+-- the messages sent, one part after another
 sent_more : (t u : Tended) (sent xs ys : List Msu) (told : List Told) → Lived t ((sent ++ xs) ++ ys) told u → Lived t (sent ++ (xs ++ ys)) told u
 sent_more t u sent xs ys told l = subst (λ (zs : List Msu). Lived t zs told u) (append_assoc sent xs ys) l
 
@@ -77,7 +77,7 @@ lived_all t p sent told waiting left _ _ _ _ _ l (none_due {bytes} {q} {now} {fe
 lived_all t p sent told waiting left _ _ _ _ _ l (full {bytes} {q} {now} {fewer} before many) = lived_attending t p sent told waiting left bytes q now fewer l before
 lived_all t p sent told waiting left _ _ _ _ _ l (quits {bytes} {q} {now} {fewer} last before next) = lived_attending t p sent told waiting left bytes q now fewer l before
 
--- ---- what is told
+-- ---- reports
 
 lived_telling : (t s : Tended) (sent : List Msu) (told : List Told) (bytes : List ℕ) (v : Tended) → Lived t sent told s → (made : Tells s bytes v) → Lived t sent (told ++ told_in made) v
 lived_telling t s sent told _ _ l nothing = told_none t s sent told l
@@ -125,7 +125,7 @@ lived_round t p q sent told ahead bytes traffic goes_on l is =
     is.attends)
     is.tells_more.tells
 
--- a run is a life of its set, of which `send` took what was told as ok
+-- a run is a life of its link set, in which `send` took the messages that were reported as ok
 pub lived_along : (ahead : ℕ) (p r : SetPlace) (bytes : List ℕ) (traffic : List Traffic) (goes_on : Bool) → (run : Rounds ahead p bytes traffic goes_on r)
     → Lived p.set (sent_along run) (told_along run) r.set
 lived_along ahead p _ _ _ _ begins = lived_none p.set

@@ -1,4 +1,4 @@
--- Orders to a set, obeyed and told.
+-- Orders to a link set, carried out and reported.
 use Rattle.std.proofs.Common.{◌≡◌, ◌∙◌, inl, inr, ℕ, ◌<◌, Bool, true, false, List, [], ◌∷◌, ◌++◌, length, codes, Option, None, Some, is_some, Result, Ok, Err, OnOk, IfOk, IfSome, IsSome, IsNone, option_map, true≢false, refl, sym, ap, subst, arith}
 use Rattle.std.proofs.lemmas.Result.{on_ok_weaker}
 use Rattle.std.proofs.lemmas.Option.{none-some}
@@ -23,7 +23,7 @@ use Rattle.line_play.proofs.SetDoing.{why_so}
 use Rattle.line_play.specs.SetObeying.{BAD_LINE, AreNoMessage, IsSent, IsUntaken, no_label, fault, IsTurnedDown, no_message, full, IsRefused, bad, unsent, untaken, other, Obeys, sends, does, refuses}
 use Rattle.line_play.specs.SetOrders.{PlainSetOrder, plain_set_order, send, is_send}
 
--- ---- what is no message
+-- ---- octets that are no message
 
 pub unread : (octets : List ℕ) → AreUnread octets → AreNoMessage octets
 unread octets (inl none_there) = inl (omega (arith, ap length none_there))
@@ -64,13 +64,13 @@ pub with_fault : {A E : Type 0} (r : Result (Option A) E) (f : A → List ℕ) (
     → IfOk r (λ (o : Option A). IfSome o (λ (a : A). f a ≡ send_error_text error)) → IfOk r (λ (o : Option A). IfSome o (λ (a : A). IsUntaken m t (f a) u))
 with_fault r f m t u error is same told_so = why_so r f (send_error_text error) (λ (w : List ℕ). IsUntaken m t w u) (fault error is refl same) told_so
 
--- what is refused isn't sent
+-- a refused message isn't sent
 pub never_none : {A E : Type 0} (r : Result (Option A) E) (P : Type 0) → IfOk r (λ (o : Option A). IsSome o) → IfOk r (λ (o : Option A). IsNone o → P)
 never_none (Ok None) P some = λ none. absurd (true≢false (sym some))
 never_none (Ok (Some x)) P some = λ none. absurd (true≢false none)
 never_none (Err e) P some = tt
 
--- ---- what orders send
+-- ---- the messages that orders send
 
 -- an order that isn't `send` sends nothing
 pub quiet : (s : SetOrder) → ((octets : _) → s ≡ order.Send octets → ⊥) → is_send (plain_set_order s) ≡ false
@@ -90,7 +90,7 @@ quiet order.Rebalance not = refl
 
 -- ---- an order is obeyed
 
--- only the set may have changed
+-- only the link set may have changed
 with_tender : (p : Stood) (u : Tended) → u ≡ p.tender → record p { tender = u } ≡ p
 with_tender p u same = λ i. record p { tender = same i }
 
@@ -117,7 +117,7 @@ refused r order text why said whom p q a b text_is is line =
     })
     line
 
--- what its order said isn't taken
+-- the link set didn't take the message of the order
 pub refused_send : {A E : Type 0} (r : Result A E) (order octets text why : List ℕ) (whom : Focus) (p : Stood) (u : Tended) (a b : Stand) → text ≡ why
     → IsTurnedDown octets p.tender why u → OnOk r (TellsLines a b (told u.ticks (codes "refused " ++ text)))
     → OnOk r (TellsSuch (λ bytes. Obeys order (Some (send octets)) whom p bytes (record p { tender = u })) a b)
@@ -134,7 +134,7 @@ pub refused_other : {A E : Type 0} (r : Result A E) (order text why : List ℕ) 
 refused_other r order text why what whom p q a b text_is none_there adds may line =
     refused r order text why (Some what) whom p q a b text_is (other what refl none_there adds may) line
 
--- its message was taken
+-- the link set took the message of the order
 pub agreed_send : {A E : Type 0} (r : Result A E) (order octets : List ℕ) (whom : Focus) (p : Stood) (u : Tended) (a b : Stand)
     → IsSent octets p.tender u → OnOk r (TellsLines a b (told u.ticks (codes "ok " ++ order)))
     → OnOk r (TellsSuch (λ bytes. Obeys order (Some (send octets)) whom p bytes (record p { tender = u })) a b)
@@ -155,7 +155,7 @@ agreed_other r order what whom p q a b none_there may adds changes answer =
     (λ (h : TellsSuch (IsAnswer what whom q order) a b). record { bytes = h.bytes; are = does what refl none_there may adds changes h.are; tells = h.tells })
     answer
 
--- the order by its text, and what it says by another name
+-- the order by its text; its meaning may go by another name
 pub obeyed_as : {A E : Type 0} (r : Result A E) (order text : List ℕ) (one next : Option PlainSetOrder) (whom : Focus) (p q : Stood) (a b : Stand) → text ≡ order → one ≡ next
     → OnOk r (TellsSuch (λ bytes. Obeys text one whom p bytes q) a b) → OnOk r (TellsSuch (λ bytes. Obeys order next whom p bytes q) a b)
 obeyed_as r order text one next whom p q a b text_is same made =
@@ -173,12 +173,12 @@ answered r said whom p order a b c agreed asked =
     })
     asked
 
--- what isn't some is none
+-- an option that holds no value is `None`
 pub not_some : {A : Type 0} (o : Option A) (P : Type 0) → ((a : A) → o ≡ Some a → ⊥) → (IsNone o → P) → P
 not_some None P no_more h = h refl
 not_some (Some a) P no_more h = absurd (no_more a refl)
 
--- what holds of a value holds of what it is
+-- a property carries over to an equal value
 pub moved : {A : Type 0} (x y : A) → x ≡ y → (P : A → Type 0) → P x → P y
 moved x y e P h = subst P e h
 

@@ -1,4 +1,4 @@
--- What the words of an order to a set say.
+-- The meaning of the words of an order to a link set.
 use Rattle.std.proofs.Common.{◌≡◌, ◌∙◌, ℕ, ◌≤◌, List, [], ◌∷◌, length, Bor, Option, None, Some, option_map, Result, IfOk, refl, ap, arith}
 use Rattle.std.specs.Prelude.{◌≢◌, option_and_then, codes}
 use Rattle.std.proofs.lemmas.Result.{IfOk-weaker}
@@ -9,7 +9,7 @@ use Rattle.script_links.specs.Orders.{order_of}
 use Rattle.line_play.specs.SetOrders.{plain_set_order, links, alone_of, asked_of, other_order_of, sent_word, send_of, by_sent_word, set_order_of}
 use Rattle.line_play.specs.declared.set_orders.SetOrder.{SetOrder}
 
--- a word that is none of these
+-- a word that is none of the order words
 pub other_word : (word : List ℕ) → word ≢ codes "measure" → word ≢ codes "table" → word ≢ codes "held" → word ≢ codes "unsure" → word ≢ codes "rebalance"
     → option_map links (order_of word) ≡ alone_of word
 other_word word n_measure n_table n_held n_unsure n_rebalance =

@@ -1,4 +1,4 @@
--- A round of a set on lines, part by part.
+-- A round of a link set on lines, part by part.
 use Rattle.std.proofs.Common.{◌≡◌, ◌∙◌, ◌⊎◌, ℕ, ◌+◌, ◌≤◌, ◌<◌, ◌==◌, nat_le, if◌then◌else◌, true≢false, Bool, true, false, List, [], ◌∷◌, ◌++◌, append-nil, append_assoc, length, replicate, take, drop, get_or, slice_get, slice_set, codes, Option, None, Some, Result, Ok, Err, OnOk, IfOk, refl, sym, ap, subst, arith}
 use Rattle.std.proofs.lemmas.Bool.Decides.{nat_tests}
 use Rattle.std.proofs.lemmas.Option.{none-some, same_Some, slice_get-get_or}
@@ -23,7 +23,7 @@ use Rattle.line_play.specs.SetOrders.{PlainSetOrder, said_in, says_so, is_send}
 use Rattle.line_play.proofs.SetObeying.{obeyed_as}
 use Rattle.line_play.specs.SetRounds.{Waited, goes_first, Made, line_told, passed_told, PassesOn, Carries, passes, misses, ends, fails, opens, CarriesAt, CarriesAll, no_link, one_link, TellsAll, ObeysWaiting, rests, obeys, TakesOrder, at_once, behind, report, Attends, waited, comes, looks, AttendsAll, none_due, full, quits, MOST_WAITING, SetPlace, IsRound, Rests}
 
--- ---- what is given
+-- ---- octets given to lines
 
 pub grows_none : (g : Option (List Traffic)) → Grows g g []
 grows_none None = tt
@@ -38,14 +38,14 @@ grows_then (Some f) (Some g) (Some h) xs ys p q = q ∙ ap (λ (l : List Traffic
 pub grows_more : (f g h : Option (List Traffic)) (n : ℕ) (x : Traffic) → Grows f g (replicate n x) → Grows g h (x ∷ []) → Grows f h (replicate (n + 1) x)
 grows_more f g h n x before more = subst (λ (xs : List Traffic). Grows f h xs) (replicate_more n x) (grows_then f g h (replicate n x) (x ∷ []) before more)
 
--- nothing is given by a call
+-- a call that gives nothing to a line leaves the traffic as it was
 grows_same : (f g h : Option (List Traffic)) (xs : List Traffic) → Grows f g [] → Grows g h xs → Grows f h xs
 grows_same f g h xs none_given more = grows_then f g h [] xs none_given more
 
 pub grows_last : (f g h : Option (List Traffic)) (xs : List Traffic) → Grows f g xs → Grows g h [] → Grows f h xs
 grows_last f g h xs more none_given = subst (λ (ys : List Traffic). Grows f h ys) (append-nil xs) (grows_then f g h xs [] more none_given)
 
--- octets that are given are some
+-- octets given to a line, which are not empty, are its traffic
 pub given_some : (link : ℕ) (octets : List ℕ) (f g : Option (List Traffic)) → (octets ≡ [] → ⊥)
     → Grows f g (octets_go link octets ∷ []) → Grows f g (given link octets)
 given_some link [] f g some gives = absurd (some refl)
@@ -67,7 +67,7 @@ is_some_there octets b is denied none_there =
 pub given_none : (link : ℕ) (octets : List ℕ) (f : Option (List Traffic)) → octets ≡ [] → Grows f f (given link octets)
 given_none link octets f none_there = subst (λ (xs : List ℕ). Grows f f (given link xs)) (sym none_there) (grows_none f)
 
--- the octets at the front, or none where there are too few
+-- the first `count` octets, or none if there are fewer
 pub front_there : (count : ℕ) (octets part : List ℕ) → count ≤ length octets → part ≡ take count octets → part ≡ front_of count octets
 front_there count octets part many is =
     let e : nat_le count (length octets) ≡ true = grind (arith, nat_tests) in
@@ -80,12 +80,12 @@ front_short count octets few =
 
 -- ---- a line
 
--- what goes out stands behind nothing
+-- the octets sent, appended to nothing
 pub from_none : (link ahead : ℕ) (came : List ℕ) (t : Tended) (w : Wire) (out : List ℕ) (passed : Passed) (u : Tended) (x : Wire) (after : List ℕ) → out ≡ []
     → Passes link ahead came t w out passed u x after → Passes link ahead came t w [] passed u x after
 from_none link ahead came t w out passed u x after none_there made = subst (λ (xs : List ℕ). Passes link ahead came t w xs passed u x after) none_there made
 
--- what came passed, and nothing is told
+-- the octets received passed, and nothing is reported
 pub passed_same : (link ahead : ℕ) (t u : Tended) (w x : Wire) (came out : List ℕ) (passed : Passed) (a : Stand) (f g : Option (List Traffic))
     → passed ≡ Same → Passes link ahead came t w [] passed u x out → Grows f g (given link out)
     → Made (λ bytes traffic. PassesOn link ahead came t w bytes traffic u x) a a f g
@@ -97,7 +97,7 @@ passed_same link ahead t u w x came out passed a f g is made gives = record {
   gives = gives;
 }
 
--- and something is
+-- the octets received passed, and a report is made
 pub passed_told_so : {A E : Type 0} (r : Result A E) (link ahead : ℕ) (t u : Tended) (w x : Wire) (came out : List ℕ) (passed as_told : Passed) (a b : Stand)
     (f g : Option (List Traffic)) → passed ≡ as_told → Passes link ahead came t w [] passed u x out → Grows f g (given link out)
     → OnOk r (TellsLines a b (passed_told u.ticks link as_told)) → OnOk r (Made (λ bytes traffic. PassesOn link ahead came t w bytes traffic u x) a b f g)
@@ -112,12 +112,12 @@ passed_told_so r link ahead t u w x came out passed as_told a b f g is made give
     })
     line
 
--- what a line said, by what that is
+-- the answer of a line, replaced by an equal one
 pub said_so : (link : ℕ) (part : List ℕ) (said as_said : Came) (f g : Option (List Traffic)) → said ≡ as_said → Grows f g (arrived link part said)
     → Grows f g (arrived link part as_said)
 said_so link part said as_said f g is arrives = subst (λ (s : Came). Grows f g (arrived link part s)) is arrives
 
--- behind what came of the line
+-- the octets received on the line passed; their report may follow
 pub passed_on : {A E : Type 0} (r : Result A E) (link ahead : ℕ) (t u : Tended) (w x : Wire) (part came : List ℕ) (count : ℕ) (said : Came) (a b : Stand)
     (f g h : Option (List Traffic)) → Grows f g (arrived link part said) → said ≡ line.Octets count → came ≡ front_of count part
     → OnOk r (Made (λ bytes traffic. PassesOn link ahead came t w bytes traffic u x) a b g h)
@@ -135,7 +135,7 @@ passed_on r link ahead t u w x part came count said a b f g h arrives is came_is
     })
     made
 
--- it isn't open
+-- the line isn't open
 pub missed : {A E : Type 0} (r : Result A E) (link ahead : ℕ) (t u : Tended) (w : Wire) (a : Stand) (f g : Option (List Traffic))
     → Grows f g (line_says link line.Closed ∷ []) → OnOk r (Hears link t SILENT u)
     → OnOk r (Made (λ bytes traffic. Carries link ahead t w bytes traffic u w) a a f g)
@@ -220,7 +220,7 @@ carried_more ahead link t u v ws xs ys a b c f g h before more = record {
   gives = grows_then f g h before.traffic more.traffic before.gives more.gives;
 }
 
--- what stands in a vector once a slice of all of it was written
+-- the content of a vector after a slice of its full length was overwritten
 front_whole : (xs ys : List Wire) → take (length xs) (xs ++ ys) ≡ xs
 front_whole xs ys = take-append-le (length xs) xs ys (omega arith) ∙ take_all (length xs) xs (omega arith)
 
@@ -248,12 +248,12 @@ waits_more t u w waiting now left first a b c before there more = record {
   tells = tells_trans a b c before.bytes more.bytes before.tells more.tells;
 }
 
--- as many wait as did
+-- the number of waiting orders is unchanged
 pub waits_same : (t u : Stood) (waiting now left : List Waited) (a b : Stand) → TellsSuch (λ bytes. ObeysWaiting t waiting bytes u now) a b
     → left ≡ now → TellsSuch (λ bytes. ObeysWaiting t waiting bytes u left) a b
 waits_same t u waiting now left a b before same = subst (λ (l : List Waited). TellsSuch (λ bytes. ObeysWaiting t waiting bytes u l) a b) (sym same) before
 
--- an order as it was read
+-- an order is carried out as it was read
 pub taken_at_once : {A E : Type 0} (r : Result A E) (order text : List ℕ) (said : Option PlainSetOrder) (t u : Stood) (waiting : List Waited) (a b : Stand) → text ≡ order
     → said ≡ said_in order → (waiting ≡ []) ⊎ (goes_first waiting said ≡ true) → OnOk r (TellsSuch (λ bytes. Obeys text said t.focus t bytes u) a b)
     → OnOk r (TellsSuch (λ bytes. TakesOrder order t waiting bytes u waiting) a b)
@@ -298,7 +298,7 @@ attends_looked t u waiting now left last ms a b c before ms_is more = record {
   tells = tells_trans a b c before.bytes more.bytes before.tells more.tells;
 }
 
--- none waits, or the first sends a message
+-- no order waits, or the first waiting order sends a message
 pub rests_none : (waiting : List Waited) → None ≡ slice_get waiting 0 → Rests waiting
 rests_none [] none_there = tt
 rests_none (first ∷ more) none_there = absurd (none-some first none_there)

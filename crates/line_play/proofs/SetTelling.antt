@@ -1,4 +1,4 @@
--- What a set on lines tells, line by line.
+-- The lines that a link set reports, one by one.
 use Rattle.std.proofs.Common.{◌≡◌, ◌∙◌, ℕ, ◌+◌, ◌<◌, List, [], ◌∷◌, ◌++◌, length, take, codes, slice_get, unwrap_or, Option, None, Some, Result, Ok, Err, OnOk, refl, sym, ap, subst}
 use Rattle.std.proofs.lemmas.List.{take_more, flat_map_more}
 use Rattle.std.proofs.lemmas.Result.{on_ok_weaker}
@@ -24,20 +24,20 @@ use Rattle.line_play.specs.declared.set_orders.SetOrder.TheVariants as order
 use Rattle.line_play.specs.SetRounds.{Takes, Tells, nothing, one, TellsAll}
 use lib.ListN.{get_or}
 
--- the same line, by what its millisecond and its text are
+-- a reported line, with its millisecond and its text replaced by equal ones
 pub told_as : {A E : Type 0} (r : Result A E) (a b : Stand) (now later : ℕ) (text bytes : List ℕ) → now ≡ later → text ≡ bytes
     → OnOk r (TellsLines a b (told now text)) → OnOk r (TellsLines a b (told later bytes))
 told_as r a b now later text bytes now_is text_is line =
     subst (λ (n : ℕ). OnOk r (TellsLines a b (told n bytes))) now_is (subst (λ (xs : List ℕ). OnOk r (TellsLines a b (told now xs))) text_is line)
 
--- what holds holds however a call ends
+-- a property that holds however a call ends
 pub ok_so : {A E : Type 0} (r : Result A E) (P : Type 0) → P → OnOk r P
 ok_so (Ok v) P h = h
 ok_so (Err e) P h = tt
 
--- ---- what orders ask for
+-- ---- answers to orders
 
--- a line of a link, where it is there
+-- a line of a link, if the link exists
 pub told_there : {A E : Type 0} (r : Result A E) (a b : Stand) (now : ℕ) (text : List ℕ → List ℕ) (line said : List ℕ) (o : Option (List ℕ)) → Some line ≡ o → said ≡ line
     → OnOk r (TellsLines a b (told now (text said))) → OnOk r (TellsLines a b (told_if now text o))
 told_there r a b now text line said o there is line_told =
@@ -51,7 +51,7 @@ pub count_line : (name word text : List ℕ) (l count n : ℕ) → name ≡ word
     → text ≡ decimal l ++ (codes " measure " ++ (name ++ (codes " " ++ decimal count))) → text ≡ count_text word l n
 count_line name word text l count n same is are = are ∙ (ap (λ (xs : List ℕ). count_text xs l count) same ∙ ap (λ (k : ℕ). count_text word l k) is)
 
--- one measurement more
+-- one more measurement
 pub counts_more : (f : Measure → List ℕ) (all : List Measure) (i : ℕ) (m : Measure) (a b c : Stand) → i < length all → m ≡ get_or all i m
     → TellsLines a b (flat_map f (take i all)) → TellsLines b c (f m) → TellsLines a c (flat_map f (take (i + 1) all))
 counts_more f all i m a b c within is before line =
@@ -77,7 +77,7 @@ pub each_to : (said : PlainSetOrder) (p : Stood) (first last gone : ℕ) (a b : 
     → TellsSuch (ShowsEach said p first last) a b
 each_to said p first last gone a b all before = subst (λ (n : ℕ). TellsSuch (ShowsEach said p first n) a b) all before
 
--- other orders ask for nothing of links
+-- other orders ask links nothing
 pub shown_none : (s : SetOrder) (p : Stood) (l : ℕ) (a : Stand) → ((x : _) → s ≡ order.State x → ⊥) → ((x y : _) → s ≡ order.Value x y → ⊥)
     → ((m : _) → s ≡ order.Measure m → ⊥) → (s ≡ order.Aborted → ⊥) → (s ≡ order.Measures → ⊥) → TellsLines a a (shown_of (plain_set_order s) p l)
 shown_none (order.On focus) p l a not_state not_value not_measure not_aborted not_measures = tells_none a
@@ -94,7 +94,7 @@ shown_none order.Held p l a not_state not_value not_measure not_aborted not_meas
 shown_none order.Unsure p l a not_state not_value not_measure not_aborted not_measures = tells_none a
 shown_none order.Rebalance p l a not_state not_value not_measure not_aborted not_measures = tells_none a
 
--- ---- what is told of the set
+-- ---- answers about the link set
 
 pub held_is : (c d : LinkSet) (l held : ℕ) (o : Option ℕ) → held ≡ unwrap_or o 0 → o ≡ read_at held_count (slice_get c.links l) → c ≡ d
     → held ≡ unwrap_or (read_at held_count (slice_get d.links l)) 0
@@ -165,7 +165,7 @@ lines_shown r s whom p first last a b first_is last_is not_table not_unsure not_
     })
     lines
 
--- ---- what the set tells
+-- ---- reports of the link set
 
 pub tells_nothing : (t : Tended) (a : Stand) → TellsSuch (λ bytes. Tells t bytes t) a a
 tells_nothing t a = record { bytes = []; are = nothing; tells = tells_none a }

@@ -1,4 +1,4 @@
--- What is told next is the first of what waits.
+-- The next report is the first of those that wait.
 use Rattle.std.proofs.Common.{◌≡◌, List, [], ◌∷◌, ◌++◌, drop, map, Option, Some, None, slice_get, refl, sym, ap, ◌∙◌}
 use Rattle.script_links.specs.resend_store_types.messages.Msu.{Msu}
 use Rattle.link_transceiver.specs.declared.signals.LinkStatus.{LinkStatus}
@@ -18,7 +18,7 @@ empty : {A : Type 0} (xs : List A) → slice_get xs 0 ≡ None → xs ≡ []
 empty [] e = refl
 empty (y ∷ ys) e = cc
 
--- ---- what was told of the link is handed out
+-- ---- a link status is handed out
 status_first : (h : TransceiverState) (o : Option LinkStatus) (s : LinkStatus) → slice_get h.statuses 0 ≡ o → (status_reported h o).report ≡ Some (Status s)
     → h.statuses ≡ s ∷ (status_reported h o).transceiver.statuses
 status_first h (Some x) s e is =
@@ -92,7 +92,7 @@ rest_same : (h : TransceiverState) → with_none_left (reported h).transceiver �
 unfolding reported
 rest_same h = rest_by h (slice_get h.messages 0)
 
--- ---- what waits, behind that
+-- ---- the reports that wait after it
 with_message : (held : Report) (m : Msu) (ms more : List Msu) (old new : List LinkStatus) → ms ≡ m ∷ more → new ≡ old
     → last_behind held (map Message ms) (map Status old) ≡ held ∷ last_behind (Message m) (map Message more) (map Status new)
 with_message held m ms more old new is same =

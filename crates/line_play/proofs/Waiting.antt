@@ -21,12 +21,12 @@ none_waits ws count b count_is is shown =
     let z : count ≡ 0 = grind (arith, nat_tests) in
     none_in ws (sym count_is ∙ z)
 
--- and the other way round
+-- the converse: if no orders wait, the test is true
 pub waits_none : (ws : List Waiting) (count : ℕ) (b : Bool) → count ≡ length ws → b ≡ (count == 0) → texts ws ≡ [] → IsTrue b
 waits_none [] count b count_is is none_there = is ∙ grind (arith, nat_tests, count_is)
 waits_none (w ∷ ws) count b count_is is none_there = absurd (omega (arith, ap length none_there))
 
--- the first of them
+-- the first waiting order
 pub first_is : (ws : List Waiting) (r : Option (Bor Waiting)) → IsItemAt ws 0 r → option_map (λ w. waited_of w.now) r ≡ slice_get (texts ws) 0
 first_is [] None item = refl
 first_is [] (Some x) item = absurd (true≢false item.0)
@@ -61,7 +61,7 @@ put_behind r old new w b is b_is shown =
     let more : new ≡ old ++ w ∷ [] = is ∙ ap (λ (x : Bool). if x then old ++ w ∷ [] else old) done in
     ap texts more ∙ map-append waited_of old (w ∷ [])
 
--- ---- those that start links
+-- ---- waiting orders that start links
 
 or_none : (x y : Bool) → x ≡ false → y ≡ false → (x || y) ≡ false
 or_none false false a b = refl

@@ -1,4 +1,4 @@
--- What an order on a line says.
+-- The meaning of an order on a line.
 use Rattle.std.specs.Prelude.{ℕ, Bool, true, false, if◌then◌else◌, List, [], ◌∷◌, Option, None}
 use Rattle.std.specs.Prelude.{Some, option_and_then}
 use Rattle.script_links.specs.Orders.{order_of}
@@ -8,7 +8,7 @@ use Rattle.script_links.specs.TermCommands.{out, ticks, told, accepted, retrievi
 use Rattle.script_links.specs.TermCommands.{counting_aborted, resetting, state, shown, expected}
 use Rattle.script_links.specs.TermCommands.{term_command_of}
 
--- of a script's commands those that leave the line and its time alone
+-- the script commands that affect neither the line nor its time
 abbrev pub is_on_line : PlainTermCommand → Bool
 is_on_line (order o) = true
 is_on_line (unit octets) = false
@@ -28,7 +28,7 @@ is_on_line (state process) = true
 is_on_line (shown process variable) = true
 is_on_line (expected text) = false
 
--- those whose answer says more than that they were obeyed
+-- the commands whose answer says more than that they were obeyed
 abbrev pub is_question : PlainTermCommand → Bool
 is_question (order o) = false
 is_question (unit octets) = false
@@ -55,7 +55,7 @@ abbrev pub by_order : Option Order → Option PlainTermCommand → Option PlainT
 by_order None command = command
 by_order (Some o) command = Some (order o)
 
--- what a terminal is told may stand alone, without `command`
+-- a script command for a terminal may stand by itself, without the word `command`
 unfoldable pub line_command_of : List (List ℕ) → Option PlainTermCommand
 line_command_of [] = None
 line_command_of (word ∷ []) =

@@ -9,7 +9,7 @@ use Rattle.line_play.specs.InTurn.{Tells}
 use Rattle.line_play.specs.LinkActs.{Gives, Hears, Passes, asks_all, ObeysWords}
 use Rattle.line_play.specs.declared.link_end.LinkEnd.{LinkEnd}
 
--- what a terminal at the end of a line does; what is held changes by what is told alone
+-- an act of a terminal at the end of a line; only reporting changes the held message
 abbrev pub end_acts : LinkEnd → Act → LinkEnd → Type 0
 end_acts l (asked unit) m = Gives l.terminal unit m.terminal × (m.held ≡ l.held)
 end_acts l (heard octet) m = Hears l.terminal octet m.terminal × (m.held ≡ l.held)
@@ -19,8 +19,8 @@ end_acts l (obeyed order answer) m =
     ObeysWords (asks_all (words_of order)) (words_of order) l.terminal order answer m.terminal
     × (m.held ≡ l.held)
 
--- a terminal on a line, with these orders and reports: no octet came, none went, and nothing waits
--- to be told
+-- a terminal on a line, with these orders and reports: no octet was received or sent, and no
+-- report waits
 pub record IsNewDesk {O P : Type 0} (terminal : Term) (orders : O) (reports : P)
     (desk : Desk LinkEnd O P) : Type 0 where
   pub terminal_is : desk.terminal.terminal ≡ terminal

@@ -1,4 +1,4 @@
--- What a terminal has measured (Q.752), as lines.
+-- The measurements of a terminal (Q.752), as lines.
 use Rattle.std.specs.Prelude.{ℕ, List, ◌∷◌, [], ◌++◌, map}
 use Rattle.std.specs.Fmt.{decimal}
 use Rattle.script_links.specs.TermCommands.{ABORTED}
@@ -8,7 +8,7 @@ use Rattle.script_terminal.specs.Term.{Term}
 use Rattle.script_terminal.specs.link_transceiver_types.measures.Measures.{Measures}
 use Rattle.script_terminal.specs.resend_store_types.measures.Measure.{Measure}
 
--- a name, and what was counted
+-- the name of a measurement and its count
 abbrev pub measured_line : Measures → Measure → List ℕ
 measured_line measures measure =
     measure_word measure ++ 32 ∷ decimal (count_of measure measures)
@@ -16,6 +16,6 @@ measured_line measures measure =
 abbrev pub aborted_line : Term → List ℕ
 aborted_line t = ABORTED ++ 32 ∷ decimal t.processes.aborted
 
--- all of them, in their order
+-- the lines of all measurements, in their order
 abbrev pub measured_lines : Term → List (List ℕ)
 measured_lines t = map (measured_line t.processes.measures) all_measures ++ aborted_line t ∷ []

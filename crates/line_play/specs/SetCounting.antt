@@ -1,4 +1,4 @@
--- What was counted of the links of a set since their counts began anew (Q.752).
+-- The counts of a link since they were last reset (Q.752).
 use Rattle.std.specs.Prelude.{ℕ, ◌-◌, Option, None, Some}
 use Rattle.script_terminal.specs.Measuring.{count_of}
 use Rattle.script_terminal.specs.Term.{Term}
@@ -6,23 +6,23 @@ use Rattle.script_terminal.specs.resend_store_types.measures.Measure.{Measure}
 use Rattle.line_play.specs.declared.set_measures.Begun.{Begun}
 use Rattle.line_play.specs.declared.set_measures.Since.{Since}
 
--- what a terminal counts, less what it had counted as its counts began anew
+-- a terminal's count, less its value at the last reset
 abbrev pub since_count : Measure → Option Begun → Term → ℕ
 since_count m None t = count_of m t.processes.measures
 since_count m (Some b) t = count_of m t.processes.measures - count_of m b.measures
 
--- the same of the proving periods that were aborted
+-- the number of aborted proving periods since the last reset
 abbrev pub since_aborted : Option Begun → Term → ℕ
 since_aborted None t = t.processes.aborted
 since_aborted (Some b) t = t.processes.aborted - b.aborted
 
--- 0 where there is no such link
+-- the count of a link; 0 if there is no such link
 abbrev pub counted_by : (Option Begun → Term → ℕ) → Option Since → Option Term → ℕ
 counted_by f None t = 0
 counted_by f (Some s) None = 0
 counted_by f (Some s) (Some t) = f s.begun t
 
--- counts begin anew
+-- the counts start again from their present values
 abbrev pub begun_at : Term → Since
 begun_at t = record {
   begun = Some (record { measures = t.processes.measures; aborted = t.processes.aborted });

@@ -1,4 +1,4 @@
--- A set on lines, with its orders and reports.
+-- A link set on lines, with its orders and reports.
 use Rattle.std.specs.Prelude.{◌≡◌, ℕ, Bool, true, false, List, [], length, All, Option, None}
 use Rattle.line_filter.specs.Orders.{Timed}
 use Rattle.set_tending.specs.Tended.{Tended}
@@ -11,16 +11,16 @@ use Rattle.line_play.specs.declared.set_desk.SetDesk.{SetDesk}
 use Rattle.line_play.specs.declared.set_measures.Since.{Since}
 use Rattle.line_play.specs.declared.set_orders.Focus.TheVariants.{Link as OneLink}
 
--- all that was counted of a link since it was made
+-- the counts of a link since it was made
 abbrev pub IsNewCount : Since → Type 0
 IsNewCount s = s.begun ≡ None
 
--- so it is of each link
+-- the counts of each link since it was made
 pub record AreNewCounts (links : ℕ) (ss : List Since) : Type 0 where
   pub count : length ss ≡ links
   pub new : All IsNewCount ss
 
--- a line for each link, on which nothing came or went
+-- a wire for each line, on which nothing was received or sent
 pub record AreNewWires (links : ℕ) (ws : List Wire) : Type 0 where
   pub count : length ws ≡ links
   pub new : All IsNewWire ws
@@ -35,7 +35,7 @@ place_of left d = record {
   left = left d.orders;
 }
 
--- nothing came or went, no order waits, and orders speak of link 0
+-- nothing was received or sent, no order waits, and orders address link 0
 pub record IsNewSetDesk {O P : Type 0} (tender : Tended) (ahead : ℕ) (orders : O) (reports : P)
     (desk : SetDesk O P) : Type 0 where
   pub set : desk.state.tender ≡ tender
@@ -54,15 +54,15 @@ abbrev pub some_round :
 some_round begins = false
 some_round (round more others goes_on before is) = true
 
--- rounds were made, one at least, one behind another, and the last one ended the run or didn't
+-- at least one round was made, one after another; the last one ended the run or didn't
 pub record Ran (ahead : ℕ) (p : SetPlace) (bytes : List ℕ) (traffic : List Traffic) (q : SetPlace) :
     Type 0 where
   pub goes_on : Bool
   pub rounds : Rounds ahead p bytes traffic goes_on q
   pub some : some_round rounds ≡ true
 
--- A set ran from its first round on: nothing had come or gone, no order waited, and orders spoke of
--- link 0. What was told, and what lines were given, is that of its rounds.
+-- A link set ran from its first round on: nothing had been received or sent, no order waited, and
+-- orders addressed link 0. Its rounds made the reports and gave the lines their octets.
 pub record RanFrom (ahead : ℕ) (tender : Tended) : Type 0 where
   pub first : SetPlace
   pub set : first.set ≡ tender

@@ -1,5 +1,5 @@
--- What follows for all that a set on lines did: which messages `send` took, and which reports of
--- links were told.
+-- Laws for every run of a link set on lines: the messages that `send` took, and the link reports
+-- that were made.
 use Rattle.std.specs.Prelude.{ℕ, Bool, List, [], ◌∷◌, ◌++◌, Option}
 use Rattle.script_links.specs.resend_store_types.messages.Msu.{Msu}
 use Rattle.line_filter.specs.Orders.{Timed}
@@ -17,7 +17,7 @@ use Rattle.line_play.specs.SetRounds.{looks}
 use Rattle.line_play.specs.SetRounds.{AttendsAll, none_due, full, quits, SetPlace}
 use Rattle.line_play.specs.SetRounds.{Rounds, begins, round}
 
--- ---- the messages of orders that were told as ok, in their order
+-- ---- the messages of orders that were reported as ok, in their order
 
 abbrev pub sent_in :
     {order : List ℕ} {said : Option PlainSetOrder} {whom : Focus} {p : Stood} {bytes : List ℕ}
@@ -62,7 +62,7 @@ abbrev pub sent_along :
 sent_along begins = []
 sent_along (round more others goes_on before is) = sent_along before ++ sent_by_all is.attends
 
--- ---- the reports of links that were told, in their order
+-- ---- the reports of links, in the order in which they were made
 
 abbrev pub told_in : {t : Tended} {bytes : List ℕ} {u : Tended} → Tells t bytes u → List Told
 told_in nothing = []

@@ -1,4 +1,4 @@
--- Orders to a set on lines: what they say, and what comes of them.
+-- Orders to a link set on lines: their meaning and their outcome.
 use Rattle.std.specs.Prelude.{◌≡◌, ◌⊎◌, ℕ, ◌<◌, false, List, [], ◌∷◌, ◌++◌, length, codes}
 use Rattle.std.specs.Prelude.{Option, None, Some}
 use Rattle.link_group.specs.Printed.{send_error_text}
@@ -15,35 +15,35 @@ use Rattle.line_play.specs.SetDoing.{Stood, Changes, Refuses, MayShow}
 use Rattle.line_play.specs.SetOrders.{PlainSetOrder, send, is_send}
 use Rattle.line_play.specs.SetShowing.{IsAnswer}
 
--- A message has 5 to 273 octets: one of service information, a label of four, and what stands
--- behind.
+-- A message has 5 to 273 octets: one of service information, four of the routing label, and the
+-- user data.
 abbrev pub AreNoMessage : List ℕ → Type 0
 AreNoMessage octets = (length octets < 5) ⊎ (273 < length octets)
 
--- an order sends this message
+-- the order sends this message
 pub record Sends (said : Option PlainSetOrder) (m : Msu) : Type 0 where
   pub octets : List ℕ
   pub says : said ≡ Some (send octets)
   pub is : IsMessageOf octets m
 
--- the message of these octets is taken
+-- the link set takes the message of these octets
 pub record IsSent (octets : List ℕ) (old new : Tended) : Type 0 where
   pub message : Msu
   pub is : IsMessageOf octets message
   pub room : tended_send_fault old.set message ≡ None
   pub acts : Acts (message ∷ []) [] old new
 
--- what is told of a line that reads as no order, or sends what is no message
+-- the refusal of a line that is no order, or of a `send` whose octets are no message
 abbrev pub BAD_LINE : List ℕ
 BAD_LINE = codes "X1 BadLine"
 
--- a message isn't taken, and nothing changes: it has no label, or there is a fault
+-- a message isn't taken, and nothing changes: it has no label, or the link set has a fault
 pub data IsUntaken (m : Msu) (old : Tended) (why : List ℕ) (new : Tended) : Type 0 where
   no_label : label_in m.sif.items ≡ None → why ≡ BAD_LINE → new ≡ old → IsUntaken m old why new
   fault : (error : SendError) → tended_send_fault old.set m ≡ Some error
       → why ≡ send_error_text error → new ≡ old → IsUntaken m old why new
 
--- nothing changes: these octets are no message, or it isn't taken
+-- nothing changes: these octets are no message, or the message isn't taken
 pub data IsTurnedDown (octets : List ℕ) (old : Tended) (why : List ℕ) (new : Tended) :
     Type 0 where
   no_message : AreNoMessage octets → why ≡ BAD_LINE → new ≡ old → IsTurnedDown octets old why new
@@ -52,9 +52,9 @@ pub data IsTurnedDown (octets : List ℕ) (old : Tended) (why : List ℕ) (new :
 
 -- ---- an order is obeyed
 
--- Why an order that says this may be refused, by code and name, and what it has done then. It says
--- none, or it sends what is no message, or its message isn't taken, and nothing changes; or it is
--- another that is refused.
+-- Why an order may be refused, by code and name, and what has changed then. Nothing changes if the
+-- line is no order, if its octets are no message, or if the message isn't taken. Any other order
+-- is refused as `Refuses` states.
 pub data IsRefused (said : Option PlainSetOrder) (whom : Focus) (p : Stood) (why : List ℕ)
     (q : Stood) : Type 0 where
   bad : said ≡ None → why ≡ BAD_LINE → q ≡ p → IsRefused said whom p why q
@@ -67,9 +67,9 @@ pub data IsRefused (said : Option PlainSetOrder) (whom : Focus) (p : Stood) (why
       → Adds p.tender q.tender → Refuses what whom p why q
       → IsRefused said whom p why q
 
--- An order about these links, written so, that says this is obeyed, and that is told: `send` took
--- its message, for which there was room; or what else it says is done by calls of the set that take
--- none, and what it asked for is told behind that; or it is refused.
+-- An order to the addressed links is obeyed and reported in one of three ways. `send`: the link
+-- set had room and took its message. Another order: calls of the link set that take no message
+-- carry it out, and its answer is reported after that. Or the order is refused.
 pub data Obeys (order : List ℕ) (said : Option PlainSetOrder) (whom : Focus) (p : Stood) :
     List ℕ → Stood → Type 0 where
   sends : {u : Tended} (m : Msu) → Sends said m → tended_send_fault p.tender.set m ≡ None

@@ -1,4 +1,4 @@
--- A set that tends itself over the set of a text.
+-- A self-tending link set whose terminals run the processes of a text.
 use Rattle.std.specs.Prelude.{◌≡◌, ℕ, List, [], All, length}
 use Rattle.turn_code.specs.declared.draft.Draft.{Draft}
 use Rattle.script_links.specs.resend_store_types.messages.Mode.{Mode}
@@ -18,26 +18,26 @@ use Rattle.line_play.specs.declared.set_opening.SetPlan.{SetPlan}
 abbrev pub IsEmpty : Term → Type 0
 IsEmpty t = (window_of t).kept ≡ []
 
--- the name is the first that the set of processes lacks of those that a terminal wants; want of
--- memory says nothing
+-- the name is the first needed by a terminal that the processes lack; `NoMemory` states nothing
+-- about the names
 abbrev pub LacksOne : Draft → OpenError → Type 0
 LacksOne d (NoName name) = IsFirstLacking d name wanted
 LacksOne d NoMemory = Unit {0}
 
--- so many new terminals over a set of processes, with this error correction and these limits
+-- `count` new terminals that run these processes, with this error correction and these limits
 pub record AreNewTerminals (d : Draft) (limits : RoundLimits) (mode : Mode) (count : ℕ)
     (ts : List Term) : Type 0 where
   pub number : length ts ≡ count
   pub are_new : All (IsOverWithin d limits mode) ts
 
--- a set of such terminals, as a plan says, of which nothing was told, and no tick has passed
+-- a link set of such terminals, as planned, before any report or tick
 pub record IsNewTenderOf (plan : SetPlan) (d : Draft) (t : Tended) : Type 0 where
   pub terminals : List Term
   pub new : AreNewTerminals d plan.limits plan.mode plan.links terminals
   pub tended :
       IsNewTended plan.ends plan.tests (new_set plan.ends.own plan.ends.peer terminals) t
 
--- the bytes are a text whose set has all that a terminal wants, and the set of links is over it
+-- the bytes are a text whose processes have all names that a terminal needs; the link set runs them
 pub record IsNewTenderOver (plan : SetPlan) (t : Tended) (bytes : List ℕ) : Type 0 where
   pub draft : Draft
   pub is_set : IsSetOf bytes draft

@@ -1,4 +1,4 @@
--- What an order to a set says.
+-- The meaning of an order to a link set.
 use Rattle.std.specs.Prelude.{ℕ, nat_lt, Bool, true, false, not, ◌&&◌, if◌then◌else◌}
 use Rattle.std.specs.Prelude.{List, [], ◌∷◌}
 use Rattle.std.specs.Prelude.{length, codes, string_bytes}
@@ -18,7 +18,7 @@ use Rattle.line_play.specs.declared.set_orders.Focus.TheVariants.{Link as OneLin
 use Rattle.line_play.specs.declared.set_orders.SetOrder.{SetOrder}
 use Rattle.line_play.specs.declared.set_orders.SetOrder.TheVariants as code
 
--- ---- orders, as what their words say
+-- ---- orders, by the meaning of their words
 
 pub data PlainSetOrder : Type 0 where
   on : Focus → PlainSetOrder
@@ -52,7 +52,7 @@ plain_set_order code.Rebalance = rebalance
 
 -- ---- words
 
--- one word: what is asked of all links or of the set, or what a terminal's script tells a terminal
+-- a single word: a question to all links or to the set, or a script command for a terminal
 abbrev pub alone_of : List ℕ → Option PlainSetOrder
 alone_of word =
     if bytes_eq word (codes "measure") then Some measures
@@ -62,12 +62,12 @@ alone_of word =
     else (if bytes_eq word (codes "rebalance") then Some rebalance
     else option_map links (order_of word)))))
 
--- behind `on`: a link's number, or all
+-- the word after `on`: a link number, or `all`
 abbrev pub focus_of : List ℕ → Option Focus
 focus_of word =
     if bytes_eq word (codes "all") then Some All else option_map OneLink (count_of word)
 
--- of a terminal's script what asks for something, and `measure reset`
+-- the script commands for a terminal that are questions, and `measure reset`
 abbrev pub question_of : PlainTermCommand → Option PlainSetOrder
 question_of (term.order o) = None
 question_of (term.unit octets) = None
@@ -95,7 +95,7 @@ pair_of first word =
     if bytes_eq first (codes "on") then option_map on (focus_of word)
     else asked_of (first ∷ word ∷ [])
 
--- an order but `send`
+-- any order except `send`
 abbrev pub other_order_of : List (List ℕ) → Option PlainSetOrder
 other_order_of [] = None
 other_order_of (word ∷ []) = alone_of word
@@ -104,7 +104,7 @@ other_order_of (first ∷ word ∷ next ∷ more) = asked_of (first ∷ word ∷
 
 -- ---- `send`
 
--- the word behind it, where that is all
+-- the word after `send`, if no other word follows
 abbrev pub sent_word : List (List ℕ) → Option (List ℕ)
 sent_word [] = None
 sent_word (first ∷ []) = None
@@ -121,16 +121,16 @@ abbrev pub by_sent_word : Option (List ℕ) → Option PlainSetOrder → Option 
 by_sent_word None other = other
 by_sent_word (Some word) other = option_and_then send_of (octets_of word)
 
--- ---- what a line's words say
+-- ---- the meaning of a line's words
 
 abbrev pub set_order_of : List (List ℕ) → Option PlainSetOrder
 set_order_of words = by_sent_word (sent_word words) (other_order_of words)
 
--- what a line says, if it says an order
+-- the order that a line states, if it states one
 abbrev pub said_in : List ℕ → Option PlainSetOrder
 said_in line = set_order_of (words_of line)
 
--- ---- which orders need not wait behind others
+-- ---- orders that need not wait for others
 
 abbrev pub is_stop : Order → Bool
 is_stop orders.Power = false
@@ -160,7 +160,7 @@ is_start orders.Flush = false
 is_start orders.Continue = false
 is_start orders.Overload = false
 
--- which links orders speak of, and `stop`, where none that waits starts some
+-- `on` may overtake waiting orders; `stop` may if no waiting order starts links
 abbrev pub overtakes : Bool → PlainSetOrder → Bool
 overtakes starts (on focus) = true
 overtakes starts (links order) = is_stop order && not starts
@@ -176,7 +176,7 @@ overtakes starts held = false
 overtakes starts unsure = false
 overtakes starts rebalance = false
 
--- what starts links
+-- whether an order starts links
 abbrev pub starts_links : PlainSetOrder → Bool
 starts_links (on focus) = false
 starts_links (links order) = is_start order
@@ -192,12 +192,12 @@ starts_links held = false
 starts_links unsure = false
 starts_links rebalance = false
 
--- where a line says an order, whether it is such
+-- whether the line states an order with this property
 abbrev pub says_so : (PlainSetOrder → Bool) → Option PlainSetOrder → Bool
 says_so test None = false
 says_so test (Some said) = test said
 
--- what sends a message
+-- whether an order sends a message
 abbrev pub is_send : PlainSetOrder → Bool
 is_send (on focus) = false
 is_send (links order) = false

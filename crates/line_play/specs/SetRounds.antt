@@ -1,4 +1,4 @@
--- A round of a set on lines: what comes, what goes out, what is obeyed and what is told.
+-- A round of a link set on lines: octets received and sent, orders obeyed, reports made.
 use Rattle.std.specs.Prelude.{◌≡◌, ◌⊎◌, ℕ, ◌+◌, ◌≤◌, Bool, true, false, List, [], ◌∷◌, ◌++◌, length}
 use Rattle.std.specs.Prelude.{replicate, slice_get, slice_set, map, codes, string_bytes}
 use Rattle.std.specs.Prelude.{Option, None, Some, option_map}
@@ -26,7 +26,7 @@ use Rattle.line_play.specs.SetOrders.{starts_links, says_so, is_send}
 use Rattle.line_play.specs.LineTraffic.{Traffic, line_says, Grows, coming, given, silence_for}
 use Rattle.line_play.specs.declared.set_lines.Came.TheVariants as line
 
--- Bytes were told, octets came of lines and were given to them, of all of which R speaks.
+-- R holds for the bytes reported and for the traffic of the lines between two states.
 pub record Made (R : List ℕ → List Traffic → Type 0) (old new : Stand)
     (before after : Option (List Traffic)) : Type 0 where
   pub bytes : List ℕ
@@ -37,7 +37,7 @@ pub record Made (R : List ℕ → List Traffic → Type 0) (old new : Stand)
 
 -- ---- a line
 
--- what is told of a line
+-- the report about a line
 abbrev pub line_told : ℕ → ℕ → List ℕ → List ℕ
 line_told now link what = told now (decimal link ++ (codes " line " ++ what))
 
@@ -46,7 +46,7 @@ passed_told now link Same = []
 passed_told now link Silent = line_told now link (codes "silent")
 passed_told now link Back = line_told now link (codes "back")
 
--- octets that came of a line are heard, and what goes out goes on
+-- the octets received on a line are passed to its link, and the octets to send are given to it
 pub record PassesOn (link ahead : ℕ) (came : List ℕ) (t : Tended) (w : Wire)
     (bytes : List ℕ) (traffic : List Traffic) (u : Tended) (x : Wire) : Type 0 where
   pub out : List ℕ
@@ -55,9 +55,9 @@ pub record PassesOn (link ahead : ℕ) (came : List ℕ) (t : Tended) (w : Wire)
   pub tells : bytes ≡ passed_told u.ticks link passed
   pub gives : traffic ≡ given link out
 
--- A round of a line. It is open: what came is heard, and what goes out goes on. Or it says that it
--- isn't: 1s are heard. Or it says that it ended, failed, or was opened, which is told; as many
--- octets of 1s go ahead then.
+-- A round of a line. If it is open, its link receives the octets that came, and its octets are
+-- sent. If it reports that it is closed, the link receives 1s. If it reports that it ended, failed
+-- or was opened, that is reported; on opening, `ahead` octets of 1s are sent first.
 pub data Carries (link ahead : ℕ) (t : Tended) (w : Wire) :
     List ℕ → List Traffic → Tended → Wire → Type 0 where
   passes : {bytes : List ℕ} {traffic : List Traffic} {u : Tended} {x : Wire} (came : List ℕ)
@@ -72,7 +72,7 @@ pub data Carries (link ahead : ℕ) (t : Tended) (w : Wire) :
   opens : Carries link ahead t w (line_told t.ticks link (codes "open"))
       (line_says link line.Opened ∷ replicate ahead (silence_for link)) t w
 
--- the line at a place
+-- the line with this number
 pub record CarriesAt (link ahead : ℕ) (t : Tended) (ws : List Wire)
     (bytes : List ℕ) (traffic : List Traffic) (u : Tended) (xs : List Wire) : Type 0 where
   pub before : Wire
@@ -81,7 +81,7 @@ pub record CarriesAt (link ahead : ℕ) (t : Tended) (ws : List Wire)
   pub carries : Carries link ahead t before bytes traffic u after
   pub lines : xs ≡ slice_set ws link after
 
--- so many lines, from the first on
+-- the first `count` lines, one after another
 pub data CarriesAll (ahead : ℕ) (t : Tended) (ws : List Wire) :
     ℕ → List ℕ → List Traffic → Tended → List Wire → Type 0 where
   no_link : CarriesAll ahead t ws 0 [] [] t ws
@@ -91,31 +91,31 @@ pub data CarriesAll (ahead : ℕ) (t : Tended) (ws : List Wire) :
       → CarriesAt link ahead u xs more others v ys
       → CarriesAll ahead t ws (link + 1) (bytes ++ more) (traffic ++ others) v ys
 
--- ---- what the set tells
+-- ---- reports of the link set
 
--- what is told next is taken
+-- the next report is taken
 pub record Takes (t : Tended) (x : Told) (u : Tended) : Type 0 where
   pub reports : t.reports ≡ report_in x ++ u.reports
   pub same : u ≡ record t { reports = u.reports }
 
--- one thing after another
+-- reports are made one after another
 pub data Tells (t : Tended) : List ℕ → Tended → Type 0 where
   nothing : Tells t [] t
   one : {bytes : List ℕ} {u w : Tended} (x : Told) → Tells t bytes u → Takes u x w
       → Tells t (bytes ++ told w.ticks (told_text x)) w
 
--- all of it: no report of a link is left to be told
+-- all reports are made: no report of a link is left
 pub record TellsAll (t : Tended) (bytes : List ℕ) (u : Tended) : Type 0 where
   pub tells : Tells t bytes u
   pub none_left : u.reports ≡ []
 
 -- ---- orders
 
--- so many orders wait at most
+-- the largest number of orders that may wait
 abbrev pub MOST_WAITING : ℕ
 MOST_WAITING = 1024
 
--- an order that waits, as it is written and as what it says, with the links of which it speaks
+-- an order that waits: its text and its meaning, with the links that it addresses
 pub record Waited : Type 0 where
   pub focus : Focus
   pub text : List ℕ
@@ -137,7 +137,7 @@ abbrev pub starts_in : Option Waited → Bool
 starts_in None = false
 starts_in (Some w) = says_so starts_links w.said
 
--- orders that wait are obeyed, from the first on
+-- waiting orders are obeyed, from the first on
 pub data ObeysWaiting (p : Stood) (waiting : List Waited) :
     List ℕ → Stood → List Waited → Type 0 where
   rests : ObeysWaiting p waiting [] p waiting
@@ -147,22 +147,22 @@ pub data ObeysWaiting (p : Stood) (waiting : List Waited) :
       → Obeys first.text first.said first.focus q more r
       → ObeysWaiting p waiting (bytes ++ more) r left
 
--- the first of those that wait, if any do, sends a message
+-- no order waits, or the first waiting order sends a message
 abbrev pub Rests : List Waited → Type 0
 Rests [] = Unit {0}
 Rests (first ∷ more) = says_so is_send first.said ≡ true
 
--- one of them starts links
+-- whether a waiting order starts links
 abbrev pub any_starts : List Waited → Bool
 any_starts waiting = list_any (λ w. says_so starts_links w.said) waiting
 
--- an order that says this may overtake those that wait
+-- whether an order may overtake those that wait
 abbrev pub goes_first : List Waited → Option PlainSetOrder → Bool
 goes_first waiting said = says_so (overtakes (any_starts waiting)) said
 
--- An order comes, and speaks of the links that were said last. It is obeyed at once, where none
--- waits, or it may overtake these; else it waits behind others, or since it sends a message; or it
--- reads as no order.
+-- An order comes, and addresses the links that were named last. It is obeyed at once if no order
+-- waits or if it may overtake those that do. Otherwise it joins the queue; a `send` may also wait
+-- when the queue is empty. A line that is a report is ignored.
 pub data TakesOrder (order : List ℕ) (p : Stood) (waiting : List Waited) :
     List ℕ → Stood → List Waited → Type 0 where
   at_once : {bytes : List ℕ} {q : Stood}
@@ -175,8 +175,8 @@ pub data TakesOrder (order : List ℕ) (p : Stood) (waiting : List Waited) :
       (waiting ++ record { focus = p.focus; text = order; said = said_in order } ∷ [])
   report : said_in order ≡ None → TakesOrder order p waiting [] p waiting
 
--- Orders that wait are obeyed, up to a message that still has to wait, then those that are due come
--- in their order; where they begin anew that is told.
+-- Waiting orders are obeyed, up to a `send` that still has to wait. Then the orders that are due
+-- come in their order. If the orders start again from the beginning, that is reported.
 pub data Attends (p : Stood) (waiting : List Waited) (left : Option (List Timed)) :
     List ℕ → Stood → List Waited → Option (List Timed) → Type 0 where
   waited : {bytes : List ℕ} {q : Stood} {now : List Waited}
@@ -191,7 +191,7 @@ pub data Attends (p : Stood) (waiting : List Waited) (left : Option (List Timed)
       → Attends p waiting left bytes q now fewer → LooksAnew q.tender.ticks fewer more last
       → Attends p waiting left (bytes ++ more) q now last
 
--- The run goes on where none is due any more, or no more may wait. It ends with `quit`.
+-- The run goes on when no order is due or the queue is full. It ends with `quit`.
 pub data AttendsAll (p : Stood) (waiting : List Waited) (left : Option (List Timed)) :
     List ℕ → Bool → Stood → List Waited → Option (List Timed) → Type 0 where
   none_due : {bytes : List ℕ} {q : Stood} {now : List Waited} {fewer : Option (List Timed)}
@@ -210,20 +210,20 @@ pub data AttendsAll (p : Stood) (waiting : List Waited) (left : Option (List Tim
 
 pub record SetPlace : Type 0 where
   pub set : Tended
-  -- what goes out on each line, and for how long it has been quiet
+  -- the octets to send on each line, and how long it has been silent
   pub wires : List Wire
-  -- which links the next order speaks of
+  -- the links that the next order addresses
   pub focus : Focus
-  -- what links had measured as their counts began anew
+  -- the measurements of the links when their counts were last reset
   pub since : List Since
   -- the orders that wait
   pub waiting : List Waited
-  -- those that are to come, where that is known
+  -- the orders still to come, if they are known
   pub left : Option (List Timed)
 
--- Of each line what came is heard and what goes out goes on; a tick passes; what is to be done for
--- the links is done; all that there is to tell is told; orders are obeyed; and what there is to
--- tell behind that is told too.
+-- A round, in this order: each line's octets are received and sent; a tick passes; the link set
+-- does its tending; all reports are made; orders are obeyed; the reports that follow from the
+-- orders are made.
 pub record IsRound (ahead : ℕ) (p : SetPlace) (bytes : List ℕ) (traffic : List Traffic)
     (goes_on : Bool) (q : SetPlace) : Type 0 where
   pub carried : Tended
@@ -245,7 +245,7 @@ pub record IsRound (ahead : ℕ) (p : SetPlace) (bytes : List ℕ) (traffic : Li
   pub tells_more : TellsAll obeyed fourth q.set
   pub are : bytes ≡ ((first ++ second) ++ third) ++ fourth
 
--- rounds, one behind another, up to one that ends the run
+-- rounds, one after another, up to one that ends the run
 pub data Rounds (ahead : ℕ) (p : SetPlace) :
     List ℕ → List Traffic → Bool → SetPlace → Type 0 where
   begins : Rounds ahead p [] [] true p

@@ -1,4 +1,4 @@
--- What is told of what an order to a set asks for.
+-- The answers to orders that ask a question.
 use Rattle.std.specs.Prelude.{◌≡◌, ℕ, ◌+◌, List, [], ◌++◌, codes, map, slice_get, unwrap_or}
 use Rattle.std.specs.Prelude.{Option, None, Some}
 use Rattle.std.specs.Fmt.{decimal}
@@ -28,7 +28,7 @@ abbrev pub value_text : List ℕ → List ℕ → ℕ → List ℕ → List ℕ
 value_text process variable l line =
     decimal l ++ (codes " value " ++ (process ++ (codes " " ++ (variable ++ (codes " " ++ line)))))
 
--- a count, by its name
+-- a count, with its name
 abbrev pub count_text : List ℕ → ℕ → ℕ → List ℕ
 count_text name l count =
     decimal l ++ (codes " measure " ++ (name ++ (codes " " ++ decimal count)))
@@ -37,26 +37,26 @@ count_text name l count =
 abbrev pub ABORTED : List ℕ
 ABORTED = codes "aborted_periods"
 
--- what was counted of a link
+-- a count of a link
 abbrev pub counted : Measure → Stood → ℕ → ℕ
 counted m p l = counted_by (since_count m) (slice_get p.since l) (terminal_at p.tender l)
 
 abbrev pub aborted_at : Stood → ℕ → ℕ
 aborted_at p l = counted_by since_aborted (slice_get p.since l) (terminal_at p.tender l)
 
--- a line of it, with the millisecond
+-- the line of a count, with the millisecond
 abbrev pub count_told : Stood → ℕ → Measure → List ℕ
 count_told p l m = told p.tender.ticks (count_text (measure_word m) l (counted m p l))
 
 abbrev pub aborted_told : Stood → ℕ → List ℕ
 aborted_told p l = told p.tender.ticks (count_text ABORTED l (aborted_at p l))
 
--- a line of a link, where the link is there
+-- a line of a link, if the link exists
 abbrev pub told_if : ℕ → (List ℕ → List ℕ) → Option (List ℕ) → List ℕ
 told_if now text None = []
 told_if now text (Some line) = told now (text line)
 
--- the lines that an order asks for
+-- the lines that answer an order
 abbrev pub shown_of : PlainSetOrder → Stood → ℕ → List ℕ
 shown_of (on focus) p l = []
 shown_of (links order) p l = []
@@ -74,19 +74,19 @@ shown_of held p l = []
 shown_of unsure p l = []
 shown_of rebalance p l = []
 
--- of links one after another, from the first to before the last
+-- the answers of the links from `first` up to but not including the last, one after another
 pub data ShowsEach (said : PlainSetOrder) (p : Stood) (first : ℕ) : ℕ → List ℕ → Type 0 where
   none_yet : ShowsEach said p first first []
   one_more : {last : ℕ} {bytes : List ℕ} → ShowsEach said p first last bytes
       → ShowsEach said p first (last + 1) (bytes ++ shown_of said p last)
 
--- of those of which it speaks
+-- the answers of the addressed links
 abbrev pub ShowsLinks : PlainSetOrder → Focus → Stood → List ℕ → Type 0
 ShowsLinks said whom p bytes = ShowsEach said p (first_of whom) (last_of whom p.tender) bytes
 
--- ---- of the set
+-- ---- of the link set
 
--- how many messages a link holds, and how many of them are sent and not acknowledged
+-- the number of messages that a link holds, and of those sent but not acknowledged
 abbrev pub held_text : Tended → ℕ → List ℕ
 held_text t l =
     decimal l
@@ -94,13 +94,13 @@ held_text t l =
     ++ (decimal (unwrap_or (read_at held_count (slice_get t.set.links l)) 0)
     ++ (codes " sent " ++ decimal (unwrap_or (read_at sent_count (slice_get t.set.links l)) 0))))
 
--- of the first so many links
+-- the lines of the first links, as many as stated
 pub data ShowsHeld (t : Tended) : ℕ → List ℕ → Type 0 where
   no_link : ShowsHeld t 0 []
   one_link : {l : ℕ} {bytes : List ℕ} → ShowsHeld t l bytes
       → ShowsHeld t (l + 1) (bytes ++ told t.ticks (held_text t l))
 
--- the link of each selection
+-- the link for each SLS value
 abbrev pub table_text : Tended → List ℕ
 table_text t = told_text (Shared (map (link_of t.set.table) selections))
 
@@ -124,7 +124,7 @@ Shows held whom p bytes = ShowsHeld p.tender p.tender.plan.links bytes
 Shows unsure whom p bytes = bytes ≡ told p.tender.ticks (unsure_text p.tender)
 Shows rebalance whom p bytes = ShowsLinks rebalance whom p bytes
 
--- it is told as obeyed, and behind it what it asked for
+-- the order is reported as obeyed, followed by its answer
 pub record IsAnswer (said : PlainSetOrder) (whom : Focus) (p : Stood) (order bytes : List ℕ) :
     Type 0 where
   pub more : List ℕ

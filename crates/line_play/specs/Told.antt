@@ -1,10 +1,10 @@
--- What is told of what a terminal answers.
+-- The answers of a terminal as they are reported.
 use Rattle.std.specs.Prelude.{◌≡◌, ℕ, Bool, true, false, List, ◌∷◌, ◌++◌, codes, string_bytes}
 use Rattle.line_filter.specs.declared.terminal.Answer.{Answer}
 use Rattle.line_filter.specs.declared.terminal.Answer.TheVariants as answer
 
--- The answer that the line which a script prints for an order stands for: a refusal, or what a
--- question asked for, or that it was obeyed.
+-- The answer for the line that a script prints for an order: a refusal, the answer to a question,
+-- or that the order was obeyed.
 abbrev pub IsAnswerOf : Bool → List ℕ → List ℕ → Answer → Type 0
 IsAnswerOf question order line (answer.Refused why) = line ≡ codes "refused " ++ string_bytes why
 IsAnswerOf false order line answer.Done = line ≡ codes "ok"
@@ -14,7 +14,7 @@ IsAnswerOf true order line (answer.Said text) =
 IsAnswerOf false order line (answer.Said text) = ⊥
 IsAnswerOf question order line (answer.Listed lines) = ⊥
 
--- what reads as no order
+-- the answer to a line that is no order
 abbrev pub IsBadLine : Answer → Type 0
 IsBadLine answer.Done = ⊥
 IsBadLine (answer.Said text) = ⊥

@@ -1,4 +1,4 @@
-//! What an order on a line says.
+//! The meaning of an order on a line.
 ghost use Rattle.std.specs.Prelude.{◌≡◌, ◌∷◌, [], IfOk, option_map, option_and_then};
 ghost use Rattle.script_lines.specs.Lines.{texts};
 ghost use Rattle.script_links.specs.Orders.{order_of};
@@ -8,7 +8,7 @@ ghost use Rattle.line_play.specs.Commands.{is_on_line, is_question, where_on_lin
 use script_links::{TermCommand, order_in, term_command_in};
 use std::alloc::{AllocError, Global};
 
-/// Whether a command leaves the line and its time alone.
+/// Whether a command affects neither the line nor its time.
 fn is_on_line(command: &TermCommand<'_>) -> bool
     ensures { result ≡ is_on_line (plain_term_command command.now) }
 {
@@ -33,7 +33,7 @@ fn is_on_line(command: &TermCommand<'_>) -> bool
     }
 }
 
-/// Whether what a command is answered says more than that it was obeyed.
+/// Returns whether the answer to a command says more than that it was obeyed.
 pub fn is_question(command: &TermCommand<'_>) -> bool
     ensures { result ≡ is_question (plain_term_command command.now) }
 {
@@ -58,7 +58,7 @@ pub fn is_question(command: &TermCommand<'_>) -> bool
     }
 }
 
-/// The command that the words read as, where it may stand on a line.
+/// The script command that the words form, if it may be given on a line.
 fn command_on_line<'a>(
     alloc: Global,
     words: &[&'a str],
@@ -71,7 +71,7 @@ fn command_on_line<'a>(
     }
 }
 
-/// What a word that stands alone tells a terminal.
+/// The script command that a single word forms.
 fn word_command<'a>(alloc: Global, word: &'a str) -> Result<Option<TermCommand<'a>>, AllocError>
     ensures { IfOk result (λ r. option_map plain_term_command r
         ≡ by_order (order_of word.now) (option_and_then where_on_line (term_command_of (word.now ∷ [])))) }
@@ -82,7 +82,7 @@ fn word_command<'a>(alloc: Global, word: &'a str) -> Result<Option<TermCommand<'
     }
 }
 
-/// What the words of an order tell a terminal, if they tell it something.
+/// Returns the command that the words of an order give to a terminal, if they form one.
 #[tactic(auto, unfolding(crate::specs::Commands::line_command_of))]
 pub fn line_command<'a>(
     alloc: Global,

@@ -1,4 +1,4 @@
-//! A signalling link terminal on a line: what it does there, how it obeys and tells, and a whole run. A set of links on lines, round by round.
+//! A signalling link terminal on a line: its acts, orders, reports and runs; and a link set on lines, round by round.
 #![tactic(auto)]
 
 mod commands;

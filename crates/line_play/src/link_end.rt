@@ -26,12 +26,12 @@ use su_octets::Unit;
 pub struct LinkEnd {
     /// The terminal.
     pub terminal: Terminal,
-    /// A message that it handed out, and that is told once what its unit led to of the link is told.
+    /// A message that the terminal handed out; it is reported after the link statuses of its signal unit.
     pub held: Option<Report>,
 }
 
-/// Hears an octet of the line. Where nothing waits to be told, it takes it unless memory is wanting. Behind it the buffers are emptied where the
-/// text asked for that.
+/// Receives an octet of the line. If no report waits, this fails only when memory runs out. Then the buffers are
+/// cleared if the text required it.
 fn hear(terminal: &mut Terminal, octet: u8) -> io::Result<()>
     ensures { OnOk result (Hears terminal.old octet terminal.new) }
 {
@@ -43,7 +43,7 @@ fn hear(terminal: &mut Terminal, octet: u8) -> io::Result<()>
     }
 }
 
-/// Lets a millisecond pass. Behind it the buffers are emptied where the text asked for that.
+/// Lets a millisecond pass. Then the buffers are cleared if the text required it.
 #[tactic(auto, unfolding(crate::specs::LinkActs::after_tick))]
 fn pass(terminal: &mut Terminal) -> io::Result<()>
     ensures { OnOk result (Passes terminal.old terminal.new) }
@@ -57,7 +57,7 @@ fn pass(terminal: &mut Terminal) -> io::Result<()>
     }
 }
 
-/// What is to be handed out next: what a unit led to of the link goes before its message.
+/// Takes the next report: the link statuses of a signal unit come before its message.
 fn next_report(end: &mut LinkEnd) -> Option<Report>
     ensures { HandsOut end.old result end.new }
 {
@@ -72,7 +72,7 @@ fn next_report(end: &mut LinkEnd) -> Option<Report>
     }
 }
 
-/// What is to be told next.
+/// Returns the line of the next report.
 fn hand_out(alloc: Global, end: &mut LinkEnd) -> io::Result<Option<String>>
     ensures { IfOk result (λ text. Tells end.old (option_map string_bytes text) end.new) }
 {
@@ -85,7 +85,7 @@ fn hand_out(alloc: Global, end: &mut LinkEnd) -> io::Result<Option<String>>
     }
 }
 
-/// Does what a command says.
+/// Obeys a command.
 fn obey_command(
     alloc: Global,
     terminal: &mut Terminal,
@@ -98,7 +98,7 @@ fn obey_command(
     answer_of(alloc, is_question(command), order, &line)
 }
 
-/// Does what the words of an order say, of which nothing asks for all that was measured.
+/// Obeys the words of an order other than `measure`.
 fn obey_one(
     alloc: Global,
     terminal: &mut Terminal,
@@ -113,7 +113,7 @@ fn obey_one(
     }
 }
 
-/// Whether words ask for all that was measured.
+/// Whether the words request all measurements.
 fn asks_all(words: &[&str]) -> bool
     ensures { result ≡ asks_all (texts words.now) }
 {
@@ -123,7 +123,7 @@ fn asks_all(words: &[&str]) -> bool
     }
 }
 
-/// Does what the words of an order say.
+/// Obeys the words of an order.
 fn obey_words(
     alloc: Global,
     terminal: &mut Terminal,
@@ -139,7 +139,7 @@ fn obey_words(
     obey_one(alloc, terminal, order, words)
 }
 
-/// Does what an order says.
+/// Obeys an order.
 fn obey_order(alloc: Global, terminal: &mut Terminal, order: &str) -> io::Result<Answer>
     ensures { IfOk result (λ a. ObeysWords (asks_all (words_of order.now)) (words_of order.now) terminal.old order.now a terminal.new) }
 {

@@ -1,4 +1,4 @@
-//! What a terminal has measured, as lines.
+//! The measurements of a terminal, as lines.
 ghost use Rattle.std.specs.Prelude.{◌≡◌, IfOk, map, string_bytes};
 ghost use Rattle.line_play.specs.Measured.{measured_line, aborted_line, measured_lines};
 
@@ -14,7 +14,7 @@ fn measured_line(alloc: Global, measures: &Measures, measure: Measure) -> Result
     format!(in alloc; "{name} {count}")
 }
 
-/// The line of proving periods that were aborted.
+/// The line for the number of aborted proving periods.
 fn aborted_line(alloc: Global, terminal: &Terminal) -> Result<String, AllocError>
     ensures { IfOk result (λ line. string_bytes line ≡ aborted_line terminal.now) }
 {
@@ -34,11 +34,11 @@ fn lines_of(alloc: Global, measures: &Measures, all: &[Measure]) -> Result<Vec<S
     Ok(lines)
 }
 
-/// All that a terminal has measured (Q.752), `NAME N` a line, in the order of the names.
+/// Returns all measurements of a terminal (Q.752) as lines `NAME N`, in the order of the names.
 ///
 /// # Errors
 ///
-/// Where there is no memory.
+/// Out of memory.
 pub fn measured_lines(alloc: Global, terminal: &Terminal) -> Result<Vec<String>, AllocError>
     ensures { IfOk result (λ lines. map string_bytes lines.items ≡ measured_lines terminal.now) }
 {

@@ -1,4 +1,4 @@
-//! A terminal over the set that a command line names.
+//! A terminal that runs the processes named on the command line.
 ghost use Rattle.std.specs.Prelude.{◌≡◌, ◌⊎◌, IfOk, IfErr};
 ghost use Rattle.script_check.specs.Checked.{given, IsGiven};
 ghost use Rattle.script_terminal.specs.TermRuns.{PrintsLacking};
@@ -10,7 +10,7 @@ use script_terminal::{Mode, OpenError, RoundLimits, Terminal};
 use std::alloc::Global;
 use std::io::{Read, Write};
 
-/// Writes why there is no terminal over a set. Gives the exit status.
+/// Writes why no terminal can be made from a process set. Returns the exit status.
 pub(crate) fn refuse_name<E: Write>(alloc: Global, errors: &mut E, error: OpenError) -> u8
     ensures printed { result ≡ 2 → PrintsLacking error (E.contents errors.old) (E.contents errors.new) }
     ensures status { (result ≡ 2) ⊎ (result ≡ 4) }
@@ -21,13 +21,13 @@ pub(crate) fn refuse_name<E: Write>(alloc: Global, errors: &mut E, error: OpenEr
     }
 }
 
-/// A terminal over a set of processes, out of service and before its power is switched on. The limits of forced retransmission count in cyclic
-/// retransmission alone.
+/// Returns a terminal that runs a process set, out of service and before power-on. The limits of forced retransmission
+/// apply only with preventive cyclic retransmission.
 ///
 /// # Errors
 ///
-/// The exit status: 2 where the set's text is refused, or lacks a name that a terminal wants, and a line of that is written on `errors`
-/// (`refused CODE Name ..`, `refused X2 NoName NAME`); 4 where memory, a read or that write fails.
+/// The exit status. 2: the text is refused, or it lacks a name that a terminal needs; `errors` then has a line about it
+/// (`refused CODE Name ..`, `refused X2 NoName NAME`). 4: out of memory, or a read or that write failed.
 pub fn new_terminal<S: Read + Drop, E: Write>(
     alloc: Global,
     limits: RoundLimits,

@@ -11,7 +11,7 @@ use script_terminal::Terminal;
 use std::alloc::Global;
 use std::io::{Read, Write};
 
-/// A terminal on a line, before any octet came or went, with what gives it orders and where it tells what becomes of it.
+/// Returns a terminal on a line, before any octet was received or sent, with its source of orders and sink of reports.
 pub fn link_desk<O, P>(terminal: Terminal, orders: O, reports: P) -> Desk<LinkEnd, O, P>
     ensures { IsNewDesk terminal orders reports result }
 {
@@ -27,9 +27,9 @@ pub fn link_desk<O, P>(terminal: Terminal, orders: O, reports: P) -> Desk<LinkEn
     }
 }
 
-/// Runs a terminal on its line, to the end of what there is to read or to an order that ends the run: so many octets of 1s go out first,
-/// at most [`line_filter::MOST_AHEAD`]. Gives the exit status: 0, or 4 where memory, a read or a write fails. What is written then is a
-/// beginning of what goes out for octets that were read.
+/// Runs a terminal on its line until the input ends or an order ends the run. First it sends `ahead` octets of 1s, at
+/// most [`line_filter::MOST_AHEAD`]. Returns the exit status: 0, or 4 if memory runs out or a read or write fails. The
+/// octets written are then a beginning of those to be sent for the octets that were read.
 pub fn run_link<O: Orders, P: Reports, R: Read, W: Write>(
     alloc: Global,
     desk: &mut Desk<LinkEnd, O, P>,

@@ -1,4 +1,4 @@
-//! What orders to a set lead to.
+//! Obeys orders to a link set, and reports the outcome.
 ghost use Rattle.std.specs.Prelude.{◌≡◌, ◌≤◌, ◌++◌, ◌∷◌, List, ℕ, [], true, false, IfOk, IfSome, IsSome, IsNone, OnOk, None, Some, option_map, codes, string_bytes};
 ghost use Rattle.line_filter.specs.Desks.{Told as TellsSuch};
 ghost use Rattle.line_filter.specs.Orders.{told};
@@ -21,7 +21,7 @@ use set_tending::{CommandError, Msu, Tender, label_of};
 use std::alloc::{AllocError, Global};
 use std::io;
 
-/// Why an order isn't obeyed, as it is told.
+/// The reported reason why an order isn't obeyed.
 type Refused = String;
 
 /// A refusal as a text.
@@ -32,7 +32,7 @@ fn refusal<D: std::fmt::Display>(alloc: Global, why: &D) -> Result<Option<Refuse
     Ok(Some(format!(in alloc; "{why}")?))
 }
 
-/// Why a question was refused, where the line that a script prints for it says that.
+/// Why a question was refused, if the line that a script prints for it says so.
 fn why_refused(alloc: Global, line: &[u8]) -> io::Result<Option<Refused>>
     ensures some { IfOk result (λ r. IfSome r (λ why. line.now ≡ codes "refused " ++ string_bytes why)) }
     ensures none { IfOk result (λ r. IsNone r → (why : List ℕ) → line.now ≡ codes "refused " ++ why → ⊥) }
@@ -43,7 +43,7 @@ fn why_refused(alloc: Global, line: &[u8]) -> io::Result<Option<Refused>>
     }
 }
 
-/// What a command was refused for; none, where it was obeyed.
+/// Why a command was refused; none if it was obeyed.
 fn refused_for(alloc: Global, error: Option<CommandError>) -> Result<Option<Refused>, AllocError>
     ensures none { IfOk result (λ r. IsNone r → IsNone error) }
     ensures some { IfOk result (λ r. IfSome r (λ why. IsFault (string_bytes why))) }
@@ -54,7 +54,7 @@ fn refused_for(alloc: Global, error: Option<CommandError>) -> Result<Option<Refu
     }
 }
 
-/// An order to a link. The first refusal, if there is one: that of a link before it, or its own.
+/// Gives an order to a link. Returns the first refusal, if any: `first`, or that of this link.
 fn obey_one(
     tender: &mut Tender,
     link: usize,
@@ -72,7 +72,7 @@ fn obey_one(
     }
 }
 
-/// An order to links, from one to before another. The first refusal, if there is one.
+/// Gives an order to links `from` to `to` - 1. Returns the first refusal, if there is one.
 fn obey_links(
     tender: &mut Tender,
     from: usize,
@@ -90,7 +90,7 @@ fn obey_links(
     Ok(first)
 }
 
-/// Sends a message. Why not, if it isn't taken.
+/// Sends a message. Returns why not, if the link set doesn't take it.
 fn send_message(alloc: Global, tender: &mut Tender, msu: Msu) -> Result<Option<Refused>, AllocError>
     ensures room { IfOk result (λ r. IsNone r → tended_send_fault tender.old.set msu ≡ None) }
     ensures sent { IfOk result (λ r. IsNone r → Acts (msu ∷ []) [] tender.old tender.new) }
@@ -105,7 +105,7 @@ fn send_message(alloc: Global, tender: &mut Tender, msu: Msu) -> Result<Option<R
     }
 }
 
-/// `send HEX`. Why not, if its message isn't taken.
+/// `send HEX`. Returns why not, if the link set doesn't take the message.
 fn obey_send(
     alloc: Global,
     tender: &mut Tender,
@@ -121,7 +121,7 @@ fn obey_send(
 }
 
 impl SetState {
-    /// Why the state of an actor isn't told. All links have the same actors.
+    /// Returns why the state of an actor can't be reported. All links have the same actors.
     fn why_no_state(
         &self,
         alloc: Global,
@@ -138,7 +138,7 @@ impl SetState {
         }
     }
 
-    /// Why the value of a variable isn't told.
+    /// Returns why the value of a variable can't be reported.
     fn why_no_value(
         &self,
         alloc: Global,
@@ -156,7 +156,7 @@ impl SetState {
         }
     }
 
-    /// Why a question about an actor isn't answered, by the line that a script prints for it.
+    /// Returns why a question about an actor isn't answered, by the line that a script prints for it.
     fn why_unanswered(
         &self,
         alloc: Global,
@@ -175,7 +175,7 @@ impl SetState {
         }
     }
 
-    /// An order to links. Why not, if one of them refuses it.
+    /// Gives an order to links. Returns why not, if one of them refuses it.
     fn order_links(
         &mut self,
         alloc: Global,
@@ -193,7 +193,7 @@ impl SetState {
         refused_for(alloc, first)
     }
 
-    /// Whether these links are there.
+    /// Whether these links exist.
     fn is_there(&self, focus: Focus) -> bool
         ensures there { result ≡ true → IsNoLink focus self.now.tender → ⊥ }
         ensures none { result ≡ false → IsNoLink focus self.now.tender }
@@ -204,7 +204,7 @@ impl SetState {
         }
     }
 
-    /// `on L` and `on all`: orders speak of these links from now on.
+    /// `on L` and `on all`: orders address these links from now on.
     fn look_at(&mut self, alloc: Global, focus: Focus) -> Result<Option<Refused>, AllocError>
         ensures same { self.new.tender ≡ self.old.tender }
         ensures looks { IfOk result (λ r. IsNone r → Looks focus (stood self.old) (stood self.new)) }
@@ -229,7 +229,7 @@ impl SetState {
         }
     }
 
-    /// Does what an order says that sends no message and is answered by `ok` alone. Why not, if it doesn't.
+    /// Obeys an order that sends no message and whose only answer is `ok`. Returns why not, if it isn't obeyed.
     fn obey_plain(
         &mut self,
         alloc: Global,
@@ -253,21 +253,21 @@ impl SetState {
         }
     }
 
-    /// Tells why an order isn't obeyed.
+    /// Reports why an order isn't obeyed.
     fn refuse<P: Reports>(&self, alloc: Global, why: &str, reports: &mut P) -> io::Result<()>
         ensures { OnOk result (TellsLines (P.stand reports.old) (P.stand reports.new) (told self.now.tender.ticks (codes "refused " ++ why.now))) }
     {
         self.say_text(alloc, format!(in alloc; "refused {why}")?, reports)
     }
 
-    /// Tells that an order was obeyed.
+    /// Reports that an order was obeyed.
     fn agree<P: Reports>(&self, alloc: Global, text: &str, reports: &mut P) -> io::Result<()>
         ensures { OnOk result (TellsLines (P.stand reports.old) (P.stand reports.new) (told self.now.tender.ticks (codes "ok " ++ text.now))) }
     {
         self.say_text(alloc, format!(in alloc; "ok {text}")?, reports)
     }
 
-    /// Has a message sent, as an order says, and tells that.
+    /// Obeys `send` and reports the outcome.
     fn obey_sending<P: Reports>(
         &mut self,
         alloc: Global,
@@ -284,7 +284,7 @@ impl SetState {
         }
     }
 
-    /// Tells that an order was obeyed, and what it asked for.
+    /// Reports that an order was obeyed, followed by its answer.
     fn answer<P: Reports>(
         &self,
         alloc: Global,
@@ -299,7 +299,7 @@ impl SetState {
         self.tell_asked(alloc, focus, order, reports)
     }
 
-    /// Does what an order says that sends no message, and tells it.
+    /// Obeys an order that sends no message, and reports the outcome.
     fn obey_other<P: Reports>(
         &mut self,
         alloc: Global,
@@ -320,7 +320,7 @@ impl SetState {
         }
     }
 
-    /// Does what an order says, and tells it.
+    /// Obeys an order, and reports the outcome.
     fn obey_order<P: Reports>(
         &mut self,
         alloc: Global,
@@ -339,7 +339,7 @@ impl SetState {
         }
     }
 
-    /// Does what an order says as it was given, and tells it.
+    /// Obeys an order as it was given, and reports the outcome.
     pub(crate) fn obey<P: Reports>(
         &mut self,
         alloc: Global,

@@ -1,4 +1,4 @@
-//! What is told of a set's links where an order asks.
+//! Answers to questions about the links of a set.
 ghost use Rattle.std.specs.Prelude.{◌≡◌, ◌≤◌, IfOk, OnOk, option_copied, option_map, slice_get};
 ghost use Rattle.std.specs.List.{flat_map};
 ghost use Rattle.line_filter.specs.Desks.{Told as TellsSuch};
@@ -18,7 +18,7 @@ use std::alloc::{AllocError, Global};
 use std::io;
 
 impl SetState {
-    /// The links that an order speaks of, from one to before another.
+    /// The links that an order addresses: the first, and one more than the last.
     pub(crate) fn links(&self, focus: Focus) -> (usize, usize)
         ensures first { result.0 ≡ first_of focus }
         ensures last { result.1 ≡ last_of focus self.now.tender }
@@ -30,7 +30,7 @@ impl SetState {
         }
     }
 
-    /// What a link's counts are counted from.
+    /// The values that a link's counts start from.
     fn since(&self, link: usize) -> Option<&Since>
         ensures { option_copied result ≡ slice_get self.now.since.items link }
     {
@@ -50,7 +50,7 @@ impl SetState {
         }
     }
 
-    /// What was counted of a link; 0 where it isn't there.
+    /// Returns a count of a link; 0 if there is no such link.
     fn counted(&self, link: usize, measure: Measure) -> u64
         ensures { result ≡ counted measure (stood self.now) link }
     {
@@ -63,7 +63,7 @@ impl SetState {
         since.count(terminal, measure)
     }
 
-    /// How many of its proving periods were aborted.
+    /// The number of aborted proving periods of a link.
     fn aborted(&self, link: usize) -> u64
         ensures { result ≡ aborted_at (stood self.now) link }
     {
@@ -76,7 +76,7 @@ impl SetState {
         since.aborted(terminal)
     }
 
-    /// `measure reset`, for a link.
+    /// `measure reset` for a link.
     fn reset(&mut self, link: usize)
         ensures { stood self.new ≡ reset_at link (stood self.old) }
     {
@@ -89,7 +89,7 @@ impl SetState {
         }
     }
 
-    /// The same, for links from one to before another.
+    /// `measure reset` for links `from` to `to` - 1.
     fn reset_links(&mut self, from: usize, to: usize)
         requires { from ≤ to }
         ensures { ResetEach from (stood self.old) to (stood self.new) }
@@ -107,7 +107,7 @@ impl SetState {
         self.reset_links(from, to);
     }
 
-    /// What a script prints for `state P` of a link.
+    /// The line that a script prints for `state P` of a link.
     pub(crate) fn state_line(
         &self,
         alloc: Global,
@@ -122,7 +122,7 @@ impl SetState {
         }
     }
 
-    /// What it prints for `value P x`.
+    /// The line that a script prints for `value P x` of a link.
     pub(crate) fn value_line(
         &self,
         alloc: Global,
@@ -138,7 +138,7 @@ impl SetState {
         }
     }
 
-    /// Tells the state of an actor of a link.
+    /// Reports the state of an actor of a link.
     fn say_state<P: Reports>(
         &self,
         alloc: Global,
@@ -157,7 +157,7 @@ impl SetState {
         )
     }
 
-    /// `state P`, for a link.
+    /// `state P` for a link.
     fn tell_state<P: Reports>(
         &self,
         alloc: Global,
@@ -173,7 +173,7 @@ impl SetState {
         }
     }
 
-    /// Tells the value of a variable of an actor of a link.
+    /// Reports the value of a variable of an actor of a link.
     fn say_value<P: Reports>(
         &self,
         alloc: Global,
@@ -193,7 +193,7 @@ impl SetState {
         )
     }
 
-    /// `value P x`, for a link.
+    /// `value P x` for a link.
     fn tell_value<P: Reports>(
         &self,
         alloc: Global,
@@ -210,7 +210,7 @@ impl SetState {
         }
     }
 
-    /// `measure NAME`, for a link.
+    /// `measure NAME` for a link.
     fn tell_measure<P: Reports>(
         &self,
         alloc: Global,
@@ -229,7 +229,7 @@ impl SetState {
         )
     }
 
-    /// `measure aborted_periods`, for a link.
+    /// `measure aborted_periods` for a link.
     fn tell_aborted<P: Reports>(
         &self,
         alloc: Global,
@@ -246,7 +246,7 @@ impl SetState {
         )
     }
 
-    /// What was counted of a link, of these measurements.
+    /// Reports these counts of a link.
     fn tell_counts<P: Reports>(
         &self,
         alloc: Global,
@@ -262,7 +262,7 @@ impl SetState {
         Ok(())
     }
 
-    /// `measure`, for a link: what was counted, in the order of the names.
+    /// `measure` for a link: all counts, in the order of the names.
     fn tell_measures<P: Reports>(
         &self,
         alloc: Global,
@@ -276,7 +276,7 @@ impl SetState {
         self.tell_aborted(alloc, link, reports)
     }
 
-    /// `held`, for a link.
+    /// `held` for a link.
     fn tell_held<P: Reports>(&self, alloc: Global, link: usize, reports: &mut P) -> io::Result<()>
         ensures { OnOk result (TellsLines (P.stand reports.old) (P.stand reports.new) (told self.now.tender.ticks (held_text self.now.tender link))) }
     {
@@ -307,7 +307,7 @@ impl SetState {
         self.say_text(alloc, format!(in alloc; "{shared}")?, reports)
     }
 
-    /// Tells what an order asked of a link, where it asked for something.
+    /// Reports the answer of a link to an order, if it is a question.
     fn tell_one_asked<P: Reports>(
         &self,
         alloc: Global,
@@ -329,7 +329,7 @@ impl SetState {
         }
     }
 
-    /// Tells what an order asked of links, from one to before another.
+    /// Reports the answers of links `from` to `to` - 1 to an order.
     fn tell_of_links<P: Reports>(
         &self,
         alloc: Global,
@@ -355,7 +355,7 @@ impl SetState {
         self.say_text(alloc, format!(in alloc; "unsure {unsure}")?, reports)
     }
 
-    /// Tells what an order that was obeyed asked for: of links, of each of which it speaks, or of the set.
+    /// Reports the answer to an order that was obeyed: that of each addressed link, or that of the link set.
     pub(crate) fn tell_asked<P: Reports>(
         &self,
         alloc: Global,

@@ -1,4 +1,4 @@
-//! Orders to a set as they come: obeyed at once, or once those before them were.
+//! Orders to a link set as they come: obeyed at once, or after the orders before them.
 ghost use Rattle.std.specs.Prelude.{◌≡◌, ◌↔◌, ◌⊎◌, [], true, false, IfOk, OnOk, IsTrue, None, option_map, string_bytes};
 ghost use Rattle.line_filter.specs.Desks.{Told as TellsSuch};
 ghost use Rattle.line_filter.specs.Orders.{QUIT};
@@ -13,7 +13,7 @@ use line_filter::{Orders, Reports, look_anew};
 use std::alloc::{AllocError, Global};
 use std::io::{self, ErrorKind};
 
-/// Whether what is said sends a message.
+/// Whether an order sends a message.
 fn sends(said: &Option<SetOrder>) -> bool
     ensures { result ≡ says_so is_send (option_map plain_set_order said.now) }
 {
@@ -23,7 +23,7 @@ fn sends(said: &Option<SetOrder>) -> bool
     }
 }
 
-/// Whether what is said may overtake the orders that wait.
+/// Whether an order may overtake the orders that wait.
 fn may_overtake(queue: &Queue, said: &Option<SetOrder>) -> bool
     ensures { result ≡ goes_first (waiting_in queue.now) (option_map plain_set_order said.now) }
 {
@@ -33,7 +33,7 @@ fn may_overtake(queue: &Queue, said: &Option<SetOrder>) -> bool
     }
 }
 
-/// Whether an order is none to a set, but a report.
+/// Whether a line is a report and no order to a link set.
 fn is_report(alloc: Global, order: &Given) -> Result<bool, AllocError>
     ensures { IfOk result (λ is. is ≡ true → option_map plain_set_order order.now.said ≡ None) }
 {
@@ -50,7 +50,7 @@ fn is_quit(order: &str) -> bool
     order == "quit"
 }
 
-/// Whether none of the orders that wait is to be obeyed now.
+/// Whether no waiting order can be obeyed now.
 fn rests(state: &SetState, queue: &Queue) -> bool
     ensures { result ≡ true → Rests (waiting_in queue.now) }
 {
@@ -63,7 +63,7 @@ fn rests(state: &SetState, queue: &Queue) -> bool
     }
 }
 
-/// Obeys the orders that wait, as far as they don't have to wait any more.
+/// Obeys the waiting orders, as far as they no longer have to wait.
 fn obey_waiting<P: Reports>(
     alloc: Global,
     state: &mut SetState,
@@ -86,7 +86,7 @@ fn obey_waiting<P: Reports>(
     Err(io::Error::from(ErrorKind::Other))
 }
 
-/// Whether an order has to wait: behind others that it can't overtake, or since messages to send wait.
+/// Whether an order has to wait: it can't overtake the waiting orders, or it is a `send` and messages wait to be sent.
 fn has_to_wait(state: &SetState, queue: &Queue, said: &Option<SetOrder>) -> bool
     ensures none { result ≡ false → (waiting_in queue.now ≡ []) ⊎ (goes_first (waiting_in queue.now) (option_map plain_set_order said.now) ≡ true) }
     ensures sends { result ≡ true → waiting_in queue.now ≡ [] → says_so is_send (option_map plain_set_order said.now) ≡ true }
@@ -104,7 +104,7 @@ fn has_to_wait(state: &SetState, queue: &Queue, said: &Option<SetOrder>) -> bool
     sends(said)
 }
 
-/// Takes an order: it is obeyed, or waits behind others, but for one that overtakes them. A report says none.
+/// Takes an order: it is obeyed at once, or it joins the queue. A line that is a report is ignored.
 fn take_order<P: Reports>(
     alloc: Global,
     state: &mut SetState,
@@ -130,7 +130,7 @@ fn take_order<P: Reports>(
     }
 }
 
-/// Obeys the orders that are due. Whether the run goes on.
+/// Obeys the orders that are due. Returns whether the run goes on.
 pub(crate) fn attend<O: Orders, P: Reports>(
     alloc: Global,
     state: &mut SetState,

@@ -1,4 +1,4 @@
-//! A set on its lines, with its orders and reports.
+//! A link set on its lines, with its orders and reports.
 ghost use Rattle.std.specs.Prelude.{◌≡◌, length, IfOk};
 ghost use Rattle.line_play.specs.SetRounds.{Made, IsRound};
 ghost use Rattle.line_play.specs.SetDesks.{AreNewCounts, AreNewWires, IsNewSetDesk, place_of};
@@ -15,24 +15,24 @@ use set_tending::{Tender, Wire};
 use std::alloc::{AllocError, Global};
 use std::io;
 
-/// A set on its lines.
+/// A link set on its lines.
 #[derive(Drop)]
 pub struct SetDesk<O, P> {
-    /// The set, and what is counted of its links.
+    /// The link set, and the counts of its links.
     pub state: SetState,
-    /// What goes out on its lines.
+    /// The octets to send on its lines.
     pub(crate) wires: Vec<Wire>,
-    /// How many octets of 1s go out on a line at its beginning, and each 1,000 rounds of silence.
+    /// How many octets of 1s are sent when a line opens, and after each 1,000 rounds of silence.
     pub(crate) ahead: usize,
-    /// What gives orders.
+    /// The source of orders.
     pub orders: O,
     /// Orders that wait.
     pub(crate) queue: Queue,
-    /// Where reports go.
+    /// The sink of reports.
     pub reports: P,
 }
 
-/// A wire for each line, on which nothing came or went.
+/// A wire for each line, on which nothing was received or sent.
 fn wires(alloc: Global, links: usize) -> Result<Vec<Wire>, AllocError>
     ensures { IfOk result (λ wires. AreNewWires links wires.items) }
 {
@@ -43,7 +43,7 @@ fn wires(alloc: Global, links: usize) -> Result<Vec<Wire>, AllocError>
     Ok(wires)
 }
 
-/// Counts of each link since it was made.
+/// The counts of each link since it was made.
 fn counts(alloc: Global, links: usize) -> Result<Vec<Since>, AllocError>
     ensures { IfOk result (λ counts. AreNewCounts links counts.items) }
 {
@@ -54,7 +54,7 @@ fn counts(alloc: Global, links: usize) -> Result<Vec<Since>, AllocError>
     Ok(counts)
 }
 
-/// What is kept of each line, and of each link's counts.
+/// The wires of the lines, and the counts of the links.
 fn parts(alloc: Global, links: usize) -> Result<(Vec<Wire>, Vec<Since>), AllocError>
     ensures wires { IfOk result (λ parts. AreNewWires links parts.0.items) }
     ensures counts { IfOk result (λ parts. AreNewCounts links parts.1.items) }
@@ -65,11 +65,11 @@ fn parts(alloc: Global, links: usize) -> Result<(Vec<Wire>, Vec<Since>), AllocEr
 }
 
 impl<O, P> SetDesk<O, P> {
-    /// A set on lines on which nothing came or went.
+    /// Returns a link set on lines on which nothing was received or sent.
     ///
     /// # Errors
     ///
-    /// Where there is no memory.
+    /// Out of memory.
     pub fn new(
         alloc: Global,
         tender: Tender,
@@ -97,14 +97,14 @@ impl<O, P> SetDesk<O, P> {
         })
     }
 
-    /// The millisecond: how many rounds there were.
+    /// Returns the millisecond: the number of rounds so far.
     pub fn millisecond(&self) -> u64
         ensures { result ≡ self.now.state.tender.ticks }
     {
         self.state.tender.now()
     }
 
-    /// Ends the set. What orders came from, and where reports went.
+    /// Ends the run. Returns the source of orders and the sink of reports.
     pub fn end(self) -> (O, P)
         ensures orders { result.0 ≡ self.orders }
         ensures reports { result.1 ≡ self.reports }
@@ -122,12 +122,9 @@ impl<O, P> SetDesk<O, P> {
 }
 
 impl<O: Orders, P: Reports> SetDesk<O, P> {
-    /// A round: of each line what came is heard, and an octet goes out for each of its octets; a tick passes; what is to be done for the links is done; what
-    /// there is to tell is told; and orders that are due are obeyed. Whether the run goes on: it doesn't after `quit`.
-    ///
-    /// # Errors
-    ///
-    /// Where memory, orders or reports fail, or no tick passes.
+    /// Makes a round. Each line's octets are received, and an octet is sent for each of them; a tick passes; the link
+    /// set does its tending; all reports are made; and orders that are due are obeyed. Returns whether the run goes on:
+    /// not after `quit`.  # Errors  Memory runs out, orders or reports fail, or no tick passes.
     pub fn round<L: Lines>(
         &mut self,
         alloc: Global,

@@ -1,4 +1,4 @@
-//! Which orders to a set need not wait behind others, and which others wait for.
+//! Which orders to a link set need not wait for others, and which hold up others.
 ghost use Rattle.std.specs.Prelude.{◌≡◌};
 ghost use Rattle.line_play.specs.SetOrders.{is_stop, is_start, is_send, overtakes, starts_links, plain_set_order};
 
@@ -46,7 +46,7 @@ fn is_start(order: Order) -> bool
 }
 
 impl SetOrder {
-    /// Whether it sends a message.
+    /// Whether the order sends a message.
     pub(crate) fn sends(&self) -> bool
         ensures { result ≡ is_send (plain_set_order self.now) }
     {
@@ -56,7 +56,7 @@ impl SetOrder {
         }
     }
 
-    /// Whether it starts links.
+    /// Whether the order starts links.
     pub(crate) fn starts(&self) -> bool
         ensures { result ≡ starts_links (plain_set_order self.now) }
     {
@@ -66,8 +66,8 @@ impl SetOrder {
         }
     }
 
-    /// Whether it may overtake others that wait, of which one starts links or none does: it stops links, and none starts some, or it says which links orders
-    /// speak of.
+    /// Whether the order may overtake waiting orders; `starts` says whether one of these starts links. `on` always may,
+    /// and an order that stops links may if none starts links.
     pub(crate) fn overtakes(&self, starts: bool) -> bool
         ensures { result ≡ overtakes starts (plain_set_order self.now) }
     {

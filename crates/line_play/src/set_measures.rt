@@ -1,31 +1,31 @@
-//! What was measured of a link of a set since its counts began anew.
+//! The counts of a link since they were last reset.
 ghost use Rattle.std.specs.Prelude.{◌≡◌, None};
 ghost use Rattle.line_play.specs.SetCounting.{since_count, since_aborted, begun_at};
 
 use script_terminal::{Measure, Measures, Terminal};
 
-/// What a terminal had measured as its counts began anew last.
+/// The measurements of a terminal when its counts were last reset.
 #[derive(Clone, Copy)]
 pub(crate) struct Begun {
     pub(crate) measures: Measures,
     pub(crate) aborted: u64,
 }
 
-/// Counts of a terminal since they began anew, or since it was made.
+/// The counts of a terminal since they were last reset, or since it was made.
 #[derive(Drop)]
 pub struct Since {
     pub(crate) begun: Option<Begun>,
 }
 
 impl Since {
-    /// Since it was made.
+    /// Counts since the terminal was made.
     pub fn new() -> Since
         ensures { result.begun ≡ None }
     {
         Since { begun: None }
     }
 
-    /// Since now: they begin anew.
+    /// Counts since now.
     pub fn now(terminal: &Terminal) -> Since
         ensures { result ≡ begun_at terminal.now }
     {
@@ -37,7 +37,7 @@ impl Since {
         }
     }
 
-    /// What was counted.
+    /// Returns a count.
     pub fn count(&self, terminal: &Terminal, measure: Measure) -> u64
         ensures { result ≡ since_count measure self.now.begun terminal.now }
     {
@@ -48,7 +48,7 @@ impl Since {
         }
     }
 
-    /// How many proving periods were aborted.
+    /// Returns the number of aborted proving periods.
     pub fn aborted(&self, terminal: &Terminal) -> u64
         ensures { result ≡ since_aborted self.now.begun terminal.now }
     {

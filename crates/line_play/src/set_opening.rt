@@ -1,4 +1,4 @@
-//! A set over the processes that a command line names.
+//! A link set whose terminals run the processes named on the command line.
 ghost use Rattle.std.specs.Prelude.{◌≡◌, ◌⊎◌, ◌++◌, ◌∷◌, [], All, IfOk, IfErr, OnOk};
 ghost use Rattle.script_check.specs.Checked.{given, IsGiven};
 ghost use Rattle.script_terminal.specs.Opening.{IsOverWithin};
@@ -18,22 +18,22 @@ use std::alloc::Global;
 use std::io::{Read, Write};
 use turn_check::Verified;
 
-/// What a set is opened with.
+/// The parameters with which a link set is opened.
 #[derive(Clone, Copy, Debug)]
 pub struct SetPlan {
-    /// The kind of error correction.
+    /// The error correction method.
     pub mode: Mode,
-    /// When cyclic retransmission is forced.
+    /// The limits at which cyclic retransmission is forced.
     pub limits: RoundLimits,
-    /// The points, and the network indicator of the set's own messages.
+    /// The signalling points, and the network indicator of the set's own messages.
     pub ends: Ends,
-    /// How many links, 1 to 16.
+    /// The number of links, 1 to 16.
     pub links: usize,
     /// Whether links are tested.
     pub tests: bool,
 }
 
-/// One terminal more over a set of processes.
+/// Adds one more terminal that runs a process set.
 fn push_terminal(
     alloc: Global,
     plan: SetPlan,
@@ -55,7 +55,7 @@ fn push_terminal(
     }
 }
 
-/// New terminals, as many as a plan says.
+/// Opens as many new terminals as planned.
 fn open_terminals(alloc: Global, plan: SetPlan, set: &Verified) -> Result<Vec<Terminal>, OpenError>
     ensures ok { IfOk result (λ v. AreNewTerminals set.now plan.limits plan.mode plan.links v.items) }
     ensures err { IfErr result (LacksOne set.now) }
@@ -70,7 +70,7 @@ fn open_terminals(alloc: Global, plan: SetPlan, set: &Verified) -> Result<Vec<Te
     Ok(terminals)
 }
 
-/// The set of these terminals, tended from now on.
+/// Makes a link set of these terminals, tended from now on.
 fn tend(alloc: Global, plan: SetPlan, terminals: Vec<Terminal>) -> Result<Tender, u8>
     requires { All IsEmpty terminals.items }
     ensures ok { IfOk result (IsNewTended plan.ends plan.tests (new_set plan.ends.own plan.ends.peer terminals.items)) }
@@ -89,7 +89,7 @@ fn tend(alloc: Global, plan: SetPlan, terminals: Vec<Terminal>) -> Result<Tender
     }
 }
 
-/// The same over a set of processes. If that lacks a name that a terminal wants, a line says which.
+/// Opens a link set whose terminals run a process set. If that lacks a name that a terminal needs, a line says which.
 fn open_over<E: Write>(
     alloc: Global,
     plan: SetPlan,
@@ -106,12 +106,9 @@ fn open_over<E: Write>(
     }
 }
 
-/// A new set of links, whose terminals run these processes.
-///
-/// # Errors
-///
-/// The exit status: 2 where the text is refused, or lacks a name that a terminal wants, and a line of that is written on `errors`; 4 where
-/// memory, a read or that write fails.
+/// Opens a new link set whose terminals run these processes.  # Errors  The exit status. 2: the text is refused, or it
+/// lacks a name that a terminal needs; `errors` then has a line about it. 4: out of memory, or a read or that write
+/// failed.
 pub fn open_tender<S: Read + Drop, E: Write>(
     alloc: Global,
     plan: SetPlan,

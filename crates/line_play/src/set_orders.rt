@@ -1,4 +1,4 @@
-//! Orders to a set, as they are written.
+//! Orders to a link set, as they are written.
 ghost use Rattle.std.specs.Prelude.{◌≡◌, IfOk, option_map, option_and_then, string_bytes};
 ghost use Rattle.script_lines.specs.Lines.{texts};
 ghost use Rattle.script_links.specs.Octets.{octets_of};
@@ -11,49 +11,49 @@ use script_links::{Order, TermCommand, count, octets_in, order_in, term_command_
 use script_terminal::Measure;
 use std::alloc::{AllocError, Global};
 
-/// A message has so many octets at least: its service information octet and a label.
+/// The smallest number of octets of a message: service information octet and routing label.
 const LEAST: usize = 5;
 
-/// So many it has at most.
+/// The largest number of octets of a message.
 const MOST: usize = 273;
 
-/// Which links orders speak of.
+/// The links that orders address.
 #[derive(Clone, Copy, Debug, PartialEq, Eq)]
 pub enum Focus {
-    /// One.
+    /// One link.
     Link(usize),
-    /// All.
+    /// All links.
     All,
 }
 
-/// An order.
+/// An order to a link set.
 #[derive(Drop)]
 pub enum SetOrder {
-    /// `on L` and `on all`: what follows speaks of these links.
+    /// `on L` and `on all`: the following orders address these links.
     On(Focus),
-    /// One to a link.
+    /// An order to links.
     Link(Order),
     /// `state P`.
     State(String),
     /// `value P x`.
     Value(String, String),
-    /// `measure NAME`: what was counted.
+    /// `measure NAME`: a count.
     Measure(Measure),
-    /// `measure aborted_periods`: how many proving periods were aborted.
+    /// `measure aborted_periods`: the number of aborted proving periods.
     Aborted,
-    /// `measure`: all that was counted.
+    /// `measure`: all counts.
     Measures,
-    /// `measure reset`: all counts begin anew.
+    /// `measure reset`: all counts are reset.
     Reset,
     /// `send HEX`: a message, its service information octet first, 5 to 273 octets.
     Send(Vec<u8>),
-    /// `table`: the link of each selection.
+    /// `table`: the link for each SLS value.
     Table,
-    /// `held`: how many messages each link holds.
+    /// `held`: the number of messages that each link holds.
     Held,
-    /// `unsure`: how many messages it was never known of whether they arrived.
+    /// `unsure`: the number of messages that may or may not have arrived.
     Unsure,
-    /// `rebalance`: selections are shared out anew, unless that is refused.
+    /// `rebalance`: the SLS values are shared out again, unless the link set refuses.
     Rebalance,
 }
 
@@ -80,7 +80,7 @@ fn link_order(word: &str) -> Option<SetOrder>
     }
 }
 
-/// An order of one word.
+/// An order that is a single word.
 fn word_in(word: &str) -> Option<SetOrder>
     ensures { option_map plain_set_order result ≡ alone_of word.now }
 {
@@ -94,7 +94,7 @@ fn word_in(word: &str) -> Option<SetOrder>
     }
 }
 
-/// An order to send these octets, where they are a message.
+/// An order to send these octets, if they are a message.
 fn sent(octets: Vec<u8>) -> Option<SetOrder>
     ensures { option_map plain_set_order result ≡ send_of octets.items }
 {
@@ -117,7 +117,7 @@ fn send_in(alloc: Global, word: &str) -> Result<Option<SetOrder>, AllocError>
     }
 }
 
-/// A name of its own.
+/// A copy of a name.
 fn owned(alloc: Global, name: &str) -> Result<String, AllocError>
     ensures { IfOk result (λ s. string_bytes s ≡ name.now) }
 {
@@ -143,7 +143,7 @@ fn value_of(alloc: Global, process: &str, variable: &str) -> Result<SetOrder, Al
     Ok(SetOrder::Value(process, variable))
 }
 
-/// What a command of a terminal's script asks of links, if it asks for something.
+/// The question that a script command for a terminal asks of links, if it is one.
 fn question(alloc: Global, command: &TermCommand<'_>) -> Result<Option<SetOrder>, AllocError>
     ensures { IfOk result (λ o. option_map plain_set_order o ≡ question_of (plain_term_command command.now)) }
 {
@@ -174,7 +174,7 @@ fn question(alloc: Global, command: &TermCommand<'_>) -> Result<Option<SetOrder>
     }
 }
 
-/// What is asked of links, by the words for it: what their actors are, and what was measured.
+/// The question that these words ask of links: about their actors, or about measurements.
 fn asked_in(alloc: Global, words: &[&str]) -> Result<Option<SetOrder>, AllocError>
     ensures { IfOk result (λ o. option_map plain_set_order o ≡ asked_of (texts words.now)) }
 {
@@ -184,8 +184,8 @@ fn asked_in(alloc: Global, words: &[&str]) -> Result<Option<SetOrder>, AllocErro
     }
 }
 
-/// Whether a line, after its millisecond, is a report of a link, of the links of selections, or of how many messages are unsure. As an order it says
-/// nothing; a report of an order that was obeyed does.
+/// Returns whether a line, after its millisecond, is a report of a link, of the links for SLS values, or of the number
+/// of unsure messages. Read as an order it is ignored; the report of an obeyed order is not.
 pub(crate) fn is_set_report(alloc: Global, line: &str) -> Result<bool, AllocError> {
     let words = words_in(alloc, line)?;
     match words.as_slice() {
@@ -197,7 +197,7 @@ pub(crate) fn is_set_report(alloc: Global, line: &str) -> Result<bool, AllocErro
     }
 }
 
-/// The word after `send`, where that is all.
+/// The word after `send`, if no other word follows.
 fn sent_word<'a>(words: &[&'a str]) -> Option<&'a str>
     ensures { word_sent (texts words.now) ≡ option_map (λ w. w.now) result }
 {
@@ -207,7 +207,7 @@ fn sent_word<'a>(words: &[&'a str]) -> Option<&'a str>
     }
 }
 
-/// What the word after `on` says.
+/// The order for the word after `on`.
 fn on_in(word: &str) -> Option<SetOrder>
     ensures { option_map plain_set_order result ≡ option_map on (focus_of word.now) }
 {
@@ -217,7 +217,7 @@ fn on_in(word: &str) -> Option<SetOrder>
     }
 }
 
-/// What two words say, where the first isn't `send`: `on L`, `on all`, or what is asked of links.
+/// The order of two words, the first of which isn't `send`: `on L`, `on all`, or a question to links.
 fn pair_in(alloc: Global, first: &str, word: &str) -> Result<Option<SetOrder>, AllocError>
     ensures { IfOk result (λ o. option_map plain_set_order o ≡ pair_of first.now word.now) }
 {
@@ -227,7 +227,7 @@ fn pair_in(alloc: Global, first: &str, word: &str) -> Result<Option<SetOrder>, A
     asked_in(alloc, &[first, word])
 }
 
-/// An order that sends nothing.
+/// An order other than `send`.
 fn other_in(alloc: Global, words: &[&str]) -> Result<Option<SetOrder>, AllocError>
     ensures { IfOk result (λ o. option_map plain_set_order o ≡ other_order_of (texts words.now)) }
 {
@@ -239,7 +239,7 @@ fn other_in(alloc: Global, words: &[&str]) -> Result<Option<SetOrder>, AllocErro
     }
 }
 
-/// The order that a line says; none where it says none.
+/// Returns the order that a line states; none if it states none.
 pub fn set_order_in(alloc: Global, line: &str) -> Result<Option<SetOrder>, AllocError>
     ensures { IfOk result (λ o. option_map plain_set_order o ≡ said_in line.now) }
 {
@@ -251,12 +251,12 @@ pub fn set_order_in(alloc: Global, line: &str) -> Result<Option<SetOrder>, Alloc
     }
 }
 
-/// An order as it was given, with what it says; nothing, where it reads as none.
+/// An order as it was given, with its meaning; the meaning is none if the line is no order.
 #[derive(Drop)]
 pub struct Given {
-    /// Its words, as they were given.
+    /// The words as they were given.
     pub text: String,
-    /// What they say.
+    /// The meaning of the words.
     pub said: Option<SetOrder>,
 }
 
@@ -265,7 +265,7 @@ impl Given {
     ///
     /// # Errors
     ///
-    /// Where there is no memory.
+    /// Out of memory.
     pub fn read(alloc: Global, text: String) -> Result<Given, AllocError>
         ensures text { IfOk result (λ g. string_bytes g.text ≡ string_bytes text) }
         ensures said { IfOk result (λ g. option_map plain_set_order g.said ≡ said_in (string_bytes text)) }

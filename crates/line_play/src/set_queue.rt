@@ -7,10 +7,10 @@ use crate::set_orders::{Focus, Given};
 use std::alloc::Global;
 use std::collections::VecDeque;
 
-/// How many orders may wait behind a message that does.
+/// The largest number of orders that may wait after a message that waits.
 const MOST_WAITING: usize = 1_024;
 
-/// An order that waits, with the links that it speaks of.
+/// An order that waits, with the links that it addresses.
 #[derive(Drop)]
 pub struct Waiting {
     pub focus: Focus,
@@ -18,7 +18,7 @@ pub struct Waiting {
 }
 
 impl Waiting {
-    /// Whether it starts links.
+    /// Whether the order starts links.
     fn starts(&self) -> bool
         ensures { result ≡ says_so starts_links (option_map plain_set_order self.now.order.said) }
     {
@@ -29,14 +29,14 @@ impl Waiting {
     }
 }
 
-/// Orders that wait, in their order.
+/// The orders that wait, in the order in which they came.
 #[derive(Drop)]
 pub struct Queue {
     waiting: VecDeque<Waiting>,
 }
 
 impl Queue {
-    /// None waits.
+    /// Returns an empty queue.
     pub fn new(alloc: Global) -> Queue
         ensures { waiting_in result ≡ [] }
     {
@@ -45,14 +45,14 @@ impl Queue {
         }
     }
 
-    /// Whether none waits.
+    /// Whether no order waits.
     pub fn is_empty(&self) -> bool
         ensures { IsTrue result ↔ (waiting_in self.now ≡ []) }
     {
         self.waiting.is_empty()
     }
 
-    /// Whether no more may wait.
+    /// Whether no further order may wait.
     pub fn is_full(&self) -> bool
         ensures { IsTrue result → MOST ≤ length (waiting_in self.now) }
     {
@@ -69,7 +69,7 @@ impl Queue {
         }
     }
 
-    /// Whether one that starts links waits: a `stop` behind it may not go before it.
+    /// Whether an order that starts links waits: a `stop` after it may not overtake it.
     pub fn has_start(&self) -> bool
         ensures { result ≡ any_starts (waiting_in self.now) }
     {
@@ -81,14 +81,14 @@ impl Queue {
         false
     }
 
-    /// The first.
+    /// Returns the first waiting order.
     pub fn first(&self) -> Option<&Waiting>
         ensures { option_map (λ w. waited_of w.now) result ≡ slice_get (waiting_in self.now) 0 }
     {
         self.waiting.front()
     }
 
-    /// Takes the first.
+    /// Takes the first waiting order.
     pub fn take(&mut self) -> Option<Waiting>
         ensures some { IfSome result (λ first. waiting_in self.old ≡ waited_of first ∷ waiting_in self.new) }
         ensures none { IsNone result → waiting_in self.new ≡ waiting_in self.old }
@@ -97,7 +97,7 @@ impl Queue {
         self.waiting.pop_front()
     }
 
-    /// One more waits. Whether there was memory.
+    /// Adds an order to the queue. Returns whether there was memory.
     pub fn put(&mut self, focus: Focus, order: Given) -> bool
         ensures { IsTrue result → waiting_in self.new ≡ waiting_in self.old ++ record { focus = focus; text = string_bytes order.text; said = option_map plain_set_order order.said } ∷ [] }
     {

@@ -1,4 +1,4 @@
-//! A round of a set on its lines.
+//! A round of a link set on its lines.
 ghost use Rattle.std.specs.Prelude.{◌≡◌, ◌<◌, [], length, replicate, IfOk, OnOk};
 ghost use Rattle.set_tending.specs.Rounds.{Tends, Ticks};
 ghost use Rattle.set_tending.specs.Wires.{Hears, Passes, SILENT};
@@ -12,14 +12,14 @@ use set_tending::{Passed, Tender, Wire, miss_line};
 use std::alloc::Global;
 use std::io;
 
-/// A line of a set: its link, and how many octets of 1s go out at its beginning, and each 1,000 rounds of silence.
+/// A line of a set: its link, and how many octets of 1s are sent when it opens and after each 1,000 rounds of silence.
 #[derive(Clone, Copy)]
 pub(crate) struct SetLine {
     pub link: usize,
     pub ahead: usize,
 }
 
-/// Octets that came on a line go through it. What goes out is put in place of what stood there.
+/// Passes the octets received on a line to its link. `out` is replaced by the octets to send.
 fn hear(
     tender: &mut Tender,
     wire: &mut Wire,
@@ -36,7 +36,7 @@ fn hear(
     }
 }
 
-/// What goes out on a line goes on, if something does.
+/// Sends octets on a line, if there are any.
 fn give_out<L: Lines>(lines: &mut L, link: usize, out: &[u8])
     ensures { Grows (L.traffic lines.old) (L.traffic lines.new) (given link out.now) }
 {
@@ -46,7 +46,7 @@ fn give_out<L: Lines>(lines: &mut L, link: usize, out: &[u8])
     lines.give(link, out);
 }
 
-/// Octets that came on a line go through it, and what goes out goes on.
+/// Passes the octets received on a line to its link, and sends the octets due.
 fn pass<L: Lines, P: Reports>(
     alloc: Global,
     tender: &mut Tender,
@@ -82,7 +82,7 @@ fn pass<L: Lines, P: Reports>(
     }
 }
 
-/// A round of a line that isn't open.
+/// Makes a round of a line that isn't open: its link receives 1s.
 fn miss(tender: &mut Tender, link: usize) -> io::Result<()>
     ensures { OnOk result (Hears link tender.old SILENT tender.new) }
 {
@@ -92,7 +92,7 @@ fn miss(tender: &mut Tender, link: usize) -> io::Result<()>
     }
 }
 
-/// As many octets of 1s go out as at a line's beginning.
+/// Sends the octets of 1s with which a line opens.
 fn go_ahead<L: Lines>(lines: &mut L, line: SetLine)
     ensures { Grows (L.traffic lines.old) (L.traffic lines.new) (replicate line.ahead (silence_for line.link)) }
 {
@@ -101,7 +101,7 @@ fn go_ahead<L: Lines>(lines: &mut L, line: SetLine)
     }
 }
 
-/// So many octets at the front of some; none where there are fewer.
+/// The first `count` octets of a slice; none if there are fewer.
 fn front(octets: &[u8], count: usize) -> &[u8]
     ensures { result.now ≡ front_of count octets.now }
 {
@@ -112,7 +112,7 @@ fn front(octets: &[u8], count: usize) -> &[u8]
     first
 }
 
-/// A round of a line.
+/// Makes a round of a line.
 fn carry<L: Lines, P: Reports>(
     alloc: Global,
     tender: &mut Tender,
@@ -157,7 +157,7 @@ fn carry<L: Lines, P: Reports>(
     }
 }
 
-/// A round of the line at a place.
+/// Makes a round of the line at a place.
 fn carry_at<L: Lines, P: Reports>(
     alloc: Global,
     tender: &mut Tender,
@@ -185,7 +185,7 @@ fn carry_at<L: Lines, P: Reports>(
     )
 }
 
-/// A round of all lines.
+/// Makes a round of all lines.
 fn carry_all<L: Lines, P: Reports>(
     alloc: Global,
     tender: &mut Tender,
@@ -206,7 +206,7 @@ fn carry_all<L: Lines, P: Reports>(
     Ok(())
 }
 
-/// The same of all lines of a set.
+/// Makes a round of all lines of a link set.
 pub(crate) fn carry_lines<L: Lines, P: Reports>(
     alloc: Global,
     tender: &mut Tender,
@@ -232,7 +232,7 @@ pub(crate) fn carry_lines<L: Lines, P: Reports>(
     )
 }
 
-/// A tick passes.
+/// Lets a tick pass.
 pub(crate) fn tick(tender: &mut Tender) -> io::Result<()>
     ensures { OnOk result (Ticks tender.old tender.new) }
 {
@@ -242,7 +242,7 @@ pub(crate) fn tick(tender: &mut Tender) -> io::Result<()>
     }
 }
 
-/// What is to be done for the links is done.
+/// Does the tending of the links.
 pub(crate) fn tend(tender: &mut Tender) -> io::Result<()>
     ensures { OnOk result (Tends tender.old tender.new) }
 {

@@ -1,4 +1,4 @@
-//! A set, with what is counted of its links.
+//! A link set, with the counts of its links.
 ghost use Rattle.std.specs.Prelude.{OnOk, string_bytes};
 ghost use Rattle.line_filter.specs.Desks.{Told as TellsSuch};
 ghost use Rattle.line_filter.specs.Orders.{told};
@@ -13,18 +13,18 @@ use set_tending::{TendError, Tender, Told};
 use std::alloc::Global;
 use std::io::{self, ErrorKind};
 
-/// A set, with what is counted of its links.
+/// A link set, with the counts of its links.
 #[derive(Drop)]
 pub struct SetState {
-    /// The set.
+    /// The link set.
     pub tender: Tender,
-    /// What its links had measured as their counts began anew.
+    /// The measurements of its links when their counts were last reset.
     pub(crate) since: Vec<Since>,
-    /// Which links the next order speaks of.
+    /// The links that the next order addresses.
     pub(crate) focus: Focus,
 }
 
-/// A failure to tend, as one of the run.
+/// The I/O error for a failure to tend the link set.
 pub(crate) fn failed(error: TendError) -> io::Error {
     match error {
         TendError::NoMemory => io::Error::from(ErrorKind::OutOfMemory),
@@ -33,7 +33,7 @@ pub(crate) fn failed(error: TendError) -> io::Error {
 }
 
 impl SetState {
-    /// Tells a line, the millisecond first.
+    /// Reports a line, with the millisecond first.
     pub(crate) fn say<P: Reports>(
         &self,
         alloc: Global,
@@ -45,7 +45,7 @@ impl SetState {
         tell(alloc, self.tender.now(), text, reports)
     }
 
-    /// The same.
+    /// Reports a line given as a `String`, with the millisecond first.
     pub(crate) fn say_text<P: Reports>(
         &self,
         alloc: Global,
@@ -58,7 +58,7 @@ impl SetState {
     }
 }
 
-/// Tells a line of a set, the millisecond first.
+/// Reports a line at millisecond `now`, with the millisecond first.
 pub(crate) fn say_of<P: Reports>(
     alloc: Global,
     tender: &Tender,
@@ -70,7 +70,7 @@ pub(crate) fn say_of<P: Reports>(
     tell(alloc, tender.now(), text.as_str(), reports)
 }
 
-/// Reports what the set has to tell.
+/// Reports an item that the link set hands out.
 fn tell_told<P: Reports>(alloc: Global, now: u64, item: &Told, reports: &mut P) -> io::Result<()>
     ensures { OnOk result (TellsLines (P.stand reports.old) (P.stand reports.new) (told now (told_text item.now))) }
 {
@@ -78,7 +78,7 @@ fn tell_told<P: Reports>(alloc: Global, now: u64, item: &Told, reports: &mut P) 
     tell(alloc, now, text.as_str(), reports)
 }
 
-/// Tells all that a set has to tell.
+/// Makes all reports of a link set.
 pub(crate) fn tell_all<P: Reports>(
     alloc: Global,
     tender: &mut Tender,

@@ -1,4 +1,4 @@
-//! What is told of an answer.
+//! The text of answers.
 ghost use Rattle.std.specs.Prelude.{◌≡◌, ◌++◌, ◌∷◌, List, ℕ, IfOk, IfSome, IsNone, codes, string_bytes};
 ghost use Rattle.line_play.specs.Told.{IsAnswerOf, IsBadLine};
 
@@ -7,7 +7,7 @@ use std::alloc::{AllocError, Global};
 use std::io::{self, ErrorKind};
 use std::str;
 
-/// Why something was refused, where a line says that.
+/// Why something was refused, if the line says so.
 pub(crate) fn refusal_in(line: &[u8]) -> Option<&[u8]>
     ensures some { IfSome result (λ why. line.now ≡ codes "refused " ++ why.now) }
     ensures none { IsNone result → (why : List ℕ) → line.now ≡ codes "refused " ++ why → ⊥ }
@@ -25,7 +25,7 @@ pub(crate) fn text_of(alloc: Global, octets: &[u8]) -> io::Result<String>
     }
 }
 
-/// What a question is answered.
+/// The answer to a question.
 fn said(alloc: Global, order: &str, line: &[u8]) -> io::Result<String>
     ensures { IfOk result (λ text. string_bytes text ≡ order.now ++ 32 ∷ line.now) }
 {
@@ -33,11 +33,11 @@ fn said(alloc: Global, order: &str, line: &[u8]) -> io::Result<String>
     Ok(format!(in alloc; "{order} {line}")?)
 }
 
-/// What an order was answered, by the line that a script prints for it.
+/// Returns the answer to an order, from the line that a script prints for it.
 ///
 /// # Errors
 ///
-/// Where there is no memory, or the line is none that a script prints for such an order.
+/// Out of memory, or the line is not one that a script prints for such an order.
 pub fn answer_of(alloc: Global, question: bool, order: &str, line: &[u8]) -> io::Result<Answer>
     ensures { IfOk result (λ answer. IsAnswerOf question order.now line.now answer) }
 {
@@ -55,7 +55,7 @@ pub fn answer_of(alloc: Global, question: bool, order: &str, line: &[u8]) -> io:
     }
 }
 
-/// The answer to what reads as no order.
+/// Returns the answer to a line that is no order.
 pub fn bad_line(alloc: Global) -> Result<Answer, AllocError>
     ensures { IfOk result IsBadLine }
 {

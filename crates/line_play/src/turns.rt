@@ -1,18 +1,18 @@
-//! Which report a line's end tells next: what a unit led to of the link goes before its message.
+//! The next report of a line's end: the link statuses of a signal unit come before its message.
 ghost use Rattle.std.specs.Prelude.{◌≡◌, ◌∷◌, None, Some};
 ghost use Rattle.line_play.specs.InTurn.{IsTurn, behind, in_turn, turn_of, without_reports};
 
 use link_transceiver::Report;
 use script_terminal::Terminal;
 
-/// What is told now, and the message that is held then.
+/// The report that is made now, and the message that is held after it.
 #[derive(Drop)]
 pub(crate) struct Turn {
     pub(crate) told: Report,
     pub(crate) held: Option<Report>,
 }
 
-/// What is told where a message is held and this was handed out behind it. What was told of the link goes first.
+/// The turn if a message is held and the terminal handed out `next` after it. A link status goes before the message.
 fn turn_of(held: Report, next: Report) -> Turn
     ensures { result ≡ turn_of held next }
 {
@@ -28,7 +28,7 @@ fn turn_of(held: Report, next: Report) -> Turn
     }
 }
 
-/// What is told next where a message is held.
+/// The next turn if a message is held.
 fn with_held(terminal: &mut Terminal, held: Report) -> Turn
     ensures turn { in_turn (Some held) terminal.old.processes.transceiver ≡ result.told ∷ in_turn result.held terminal.new.processes.transceiver }
     ensures same { without_reports terminal.new ≡ without_reports terminal.old }
@@ -42,7 +42,7 @@ fn with_held(terminal: &mut Terminal, held: Report) -> Turn
     }
 }
 
-/// What is told next where nothing is held and this was handed out.
+/// The next turn if nothing is held and the terminal handed out this report.
 fn with_first(terminal: &mut Terminal, first: Report) -> Turn
     ensures turn { behind first terminal.old.processes.transceiver ≡ result.told ∷ in_turn result.held terminal.new.processes.transceiver }
     ensures same { without_reports terminal.new ≡ without_reports terminal.old }
@@ -56,7 +56,7 @@ fn with_first(terminal: &mut Terminal, first: Report) -> Turn
     }
 }
 
-/// What is told next where nothing is held, if anything is.
+/// The next turn if nothing is held; none if there is no report.
 fn without_held(terminal: &mut Terminal) -> Option<Turn>
     ensures turn { IsTurn result (in_turn None terminal.old.processes.transceiver) terminal.new.processes.transceiver }
     ensures same { without_reports terminal.new ≡ without_reports terminal.old }
@@ -67,7 +67,7 @@ fn without_held(terminal: &mut Terminal) -> Option<Turn>
     }
 }
 
-/// What is told next, if anything is: of what is held and of what the terminal hands out.
+/// The next turn, from the held message and the reports of the terminal; none if there is no report.
 pub(crate) fn next_turn(terminal: &mut Terminal, held: Option<Report>) -> Option<Turn>
     ensures turn { IsTurn result (in_turn held terminal.old.processes.transceiver) terminal.new.processes.transceiver }
     ensures same { without_reports terminal.new ≡ without_reports terminal.old }

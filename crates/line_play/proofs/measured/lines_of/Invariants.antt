@@ -1,4 +1,4 @@
--- The lines are those of the measurements so far.
+-- The lines are those of the measurements read so far.
 use Rattle.std.specs.Prelude.{◌≡◌, map, take, string_bytes}
 use Rattle.line_play.specs.Measured.{measured_line}
 use Rattle.line_play.proofs.measured.lines_of.Given as goal
