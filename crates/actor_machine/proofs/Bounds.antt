@@ -24,20 +24,20 @@ use Rattle.actor_machine.proofs.Ends.{ActorEnds, turn_ends}
 use Rattle.actor_machine.proofs.Counts.{OneLess, outs_change, outs_more, receives_keeps, skipped_keeps, begun_out, less_finished, outs_passed}
 use Rattle.plain_laws.proofs.Options.{row_passes}
 
--- the bounds that have nothing to do with the journal
+-- the bounds that don't depend on the journal
 pub record IsCounted (w : Core) : Type 0 where
   pub turns : w.turns ≤ 2 ^ 40
   pub finishes : w.finishes + outs w.actors ≡ w.turns
   pub instructions : w.instructions ≤ 512 * w.finishes
   pub clock : w.timers.clock ≤ 2 ^ 62
 
--- what an event makes of the numbers of w: those of v
+-- the numbers of state w and of state v after event e
 pub record Moves (e : Event) (v w : Core) : Type 0 where
   pub outs : outs v.actors + 1 ≡ outs w.actors + needs e
   pub finishes : v.finishes ≡ w.finishes + cond (is_finish e) 1 0
   pub counted : IsCounted v
 
--- one that begins and ends no turn
+-- an event that neither begins nor ends a turn
 moves_on : (e : Event) (v w : Core) → needs e ≡ 1 → is_finish e ≡ false → outs v.actors ≡ outs w.actors → v.turns ≡ w.turns
     → v.finishes ≡ w.finishes → v.instructions ≡ w.instructions → v.timers.clock ≤ 2 ^ 62 → IsCounted w → Moves e v w
 moves_on e v w single other out turns finishes instructions clock h =
@@ -51,7 +51,7 @@ moves_on e v w single other out turns finishes instructions clock h =
       counted = record { turns = omega arith; finishes = omega arith; instructions = omega arith; clock = clock };
     }
 
--- ---- what isn't refused
+-- ---- an event that isn't refused
 
 -- an actor that may begin a turn
 record MayBegin (turns : ℕ) (o : Option Actor) : Type 0 where
@@ -128,7 +128,7 @@ moves safe law d w TakeEnv valid fits h c = moves_on TakeEnv (step d (runs d) w 
 
 -- ---- the journal's room
 
--- so many places are free as the event needs
+-- at least as many places are free as the event needs
 pub room_passes : (k : ℕ) (e : Event) (o : Option Refusal) → with_room k e o ≡ None → needs e ≤ k
 room_passes k e None h = ltb-false k (needs e) (row_passes (nat_lt k (needs e)) JournalFull None h).0
 room_passes k e (Some r) h = cc

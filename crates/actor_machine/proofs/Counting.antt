@@ -30,7 +30,7 @@ process_more ps n few = ap (λ (k : ℕ). instances_in (take k ps)) (let e : n +
 some_instance : (d : Draft) → IsValid d → (p : ℕ) (x : DraftProcess) → slice_get d.processes p ≡ Some x → 1 ≤ x.instances
 some_instance d valid p x e = (process_small d p x valid e).some
 
--- instance k + 1 of a process is behind the processes before and the k instances before
+-- instance k + 1 of a process follows the instances of all earlier processes and k instances of its own
 numbered_at : (d : Draft) (p k n : ℕ) (x : DraftProcess) → slice_get d.processes p ≡ Some x → k < x.instances → n ≡ instances_in (take p d.processes) + k
     → place_of (named p (k + 1)) (actors_of d.processes) ≡ Some n
 numbered_at d p k n x e less at =
@@ -71,7 +71,7 @@ actor_number d valid name first least most e =
     ap (λ (k : ℕ). place_of (named name.process.0 k) (actors_of d.processes)) (let f : name.instance.0 ≡ name.instance.0 - 1 + 1 = omega (arith, least) in f)
     ∙ numbered_at d name.process.0 (name.instance.0 - 1) (first + name.instance.0 - 1) x.0 x.1 (omega (arith, few, least, most)) (omega (arith, before, least))
 
--- no such instance
+-- there is no such instance
 has_none : (d : Draft) (name : ActorName) → (IsInstance d.processes name → ⊥) → place_of name (actors_of d.processes) ≡ None
 has_none d name never = by_place (place_of name (actors_of d.processes)) refl
   where

@@ -1,4 +1,4 @@
--- The numbers of a link's state, and what each event makes of them.
+-- The numbers of a link's state, and how each event changes them.
 use Rattle.std.proofs.Common.{◌≡◌, ℕ, zero, suc, ◌+◌, Bool, true, false, cond, List, [], ◌∷◌, Option, Some, None, refl, ap, ◌∙◌, subst, arith}
 use Rattle.std.specs.Prelude.{slice_get, slice_set}
 use Rattle.std.proofs.lemmas.List.Sums.{sum_by-set}
@@ -26,7 +26,7 @@ use Rattle.actor_machine.specs.declared.actor.Actor.{Actor}
 use Rattle.actor_machine.specs.declared.actor.Standing.{Standing}
 use Rattle.actor_machine.specs.declared.actor.Standing.TheVariants.{At, Stopped}
 
--- ---- how many actors have a turn out
+-- ---- the number of actors that have a turn out
 
 abbrev pub weight : Actor → ℕ
 weight a = cond (is_out a) 1 0
@@ -34,7 +34,7 @@ weight a = cond (is_out a) 1 0
 weight_at : (a b : Actor) (t : Bool) → a ≡ b → is_out b ≡ t → weight a ≡ cond t 1 0
 weight_at a b t e h = ap weight e ∙ ap (λ (u : Bool). cond u 1 0) h
 
--- one actor more or less
+-- one actor changes, which adds or removes a turn that is out
 pub outs_set : (xs : List Actor) (n : ℕ) (a b : Actor) → slice_get xs n ≡ Some a
     → outs (slice_set xs n b) + weight a ≡ outs xs + weight b
 outs_set xs n a b h =
@@ -89,7 +89,7 @@ pub outs_less : (f : Actor → Actor) (xs : List Actor) (n : ℕ) (a : Actor) �
     → is_out a ≡ true → is_out (f a) ≡ false → outs (change xs n f) + 1 ≡ outs xs
 outs_less f xs n a h before after = less_at f xs n (slice_get xs n) a refl h before after
 
--- ---- what keeps an actor's turn
+-- ---- changes that keep an actor's turn
 
 reached_keeps : (arrival : Arrival) (a : Actor) (s : Standing) → is_out (reached a arrival s) ≡ is_out a
 reached_keeps arrival a (At s) = refl
@@ -181,7 +181,7 @@ same_ended n e w = record {
   clock = timers_clock e w.timers n;
 }
 
--- a turn of actor n that ends: one turn less is out, and it is counted with its instructions
+-- a turn of actor n ends: one turn less is out, and the turn and its instructions are counted
 pub record OneLess (count : ℕ) (v w : Core) : Type 0 where
   pub outs : outs v.actors + 1 ≡ outs w.actors
   pub turns : v.turns ≡ w.turns
@@ -223,7 +223,7 @@ outs_notified actors (x ∷ xs) =
     outs_notified (change actors x.timer.actor (hears x.timer.number)) xs
     ∙ outs_change (hears x.timer.number) actors x.timer.actor (hears_keeps x.timer.number)
 
--- how many actors have a turn out after some ticks
+-- the number of actors that have a turn out stays as ticks pass
 pub outs_passed : (k : ℕ) (w : Core) → outs (passed k w).actors ≡ outs w.actors
 unfolding passed
 outs_passed k w = outs_notified w.actors (due_in w k)

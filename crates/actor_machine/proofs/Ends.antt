@@ -40,7 +40,7 @@ pub record IsEndOf (o : Outcome) (t : Turn) : Type 0 where
   pub ran : outcome_of t ≡ Some o
   pub within : o.progress.count ≤ t.certificate.budget
 
--- a turn that is out, of an actor of process p at a standing, ends
+-- a turn that is out ends; its actor belongs to process p and has this standing
 pub record Ends (d : Draft) (p : ℕ) (s : Standing) (g : Option Given) : Type 0 where
   pub outcome : Outcome
   pub ended : result_given (runs d) p s g ≡ Some (Ok outcome)
@@ -74,7 +74,7 @@ module _ (safe : SafeLaw) (law : RunLaw) (d : Draft) (valid : IsValid d) (p : �
   ends Stopped None f h = cc
   ends Stopped (Some g) f h = absurd f
 
--- an actor that a finish isn't refused for
+-- the actor has a turn out that ends, if its finish isn't refused
 pub record ActorEnds (d : Draft) (n : ℕ) (w : Core) (o : Option Actor) : Type 0 where
   pub actor : Actor
   pub there : o ≡ Some actor
@@ -100,13 +100,13 @@ actor_ends safe law d valid n w (Some a) fits h =
     let e : Ends d a.name.process.0 a.standing a.given = ends safe law d valid a.name.process.0 a.standing a.given (fits a refl).given out in
     record { actor = a; there = refl; out = out; outcome = e.outcome; ended = ap (finish_by n a.name w) e.ended; count = e.count; turn = e.turn n }
 
--- a turn that a finish isn't refused for ends
+-- if a finish isn't refused, the actor's turn ends
 pub turn_ends : SafeLaw → RunLaw → (d : Draft) (w : Core) (n : ℕ) → IsValid d → CoreFits d w → refuses d w (Finish n) ≡ None
     → ActorEnds d n w (slice_get w.actors n)
 unfolding refuses
 turn_ends safe law d w n valid fits h = actor_ends safe law d valid n w (slice_get w.actors n) (fits.each n) h
 
--- ---- who has a turn out isn't refused
+-- ---- a finish isn't refused if the actor has a turn out
 
 given_out : (d : Draft) (n : ℕ) (p : ProcessNumber) (s : Standing) (g : Option Given) (t : Turn) → turn_given d n p s g ≡ Some t → is_some g ≡ true
 given_out d n p (At s) None t h = cc
@@ -128,9 +128,9 @@ with_no_room : (k n : ℕ) (o : Option Refusal) → o ≡ None → with_room k (
 with_no_room k n None h = no_room_asked k
 with_no_room k n (Some r) h = cc
 
--- who hasn't is
+-- ---- a finish is refused if the actor has no turn out
 
--- what a finish of an actor comes to: its turn, and why it is refused
+-- how the turn of an actor and the refusal of its finish depend on each other
 pub record OutOrNot (t : Option Turn) (o : Option Refusal) : Type 0 where
   pub stranger : (t ≡ None) ↔ (o ≡ Some Stranger)
   pub own : (x : Turn) → t ≡ Some x → o ≡ None
@@ -220,7 +220,7 @@ said_step safe law d w (Finish n) valid fits h =
 said_step safe law d w (Advance k) valid fits h = tt
 said_step safe law d w TakeEnv valid fits h = tt
 
--- what isn't refused for want of room isn't refused otherwise
+-- an event that passes the test of the journal's room isn't refused for any other reason
 pub passes_otherwise : (k : ℕ) (e : Event) (o : Option Refusal) → with_room k e o ≡ None → o ≡ None
 passes_otherwise k e None h = refl
 passes_otherwise k e (Some r) h = cc

@@ -1,4 +1,4 @@
--- Actors of which some things hold: what is sent to them and what timers bring keeps it.
+-- Actors keep their properties when a signal is sent to them and when a timer expires.
 use Rattle.std.proofs.Common.{◌≡◌, ℕ, ◌<◌, Bool, true, false, not, if◌then◌else◌, List, [], ◌∷◌, ◌++◌, length, Option, Some, None, refl, ◌∙◌}
 use Rattle.std.specs.Prelude.{slice_get}
 use Rattle.std.specs.List.{AllByRecursion}
@@ -21,11 +21,11 @@ use Rattle.actor_machine.specs.declared.actor.Standing.TheVariants.{At, Stopped}
 use Rattle.actor_machine.proofs.FitsLists.{EachAt, NamesStay, change_each, names_change, all_filter}
 use Rattle.plain_laws.proofs.Lists.{each_push as all_push}
 
--- what is asked of an actor's standing, variables and turn, by its number, and by its process and that one's number
+-- a property of an actor: of its number, its process by number and by text, its standing, its variables and its turn
 abbrev pub Asked : Type 1
 Asked = ℕ → ℕ → DraftProcess → Standing → List (Option Value) → Option Given → Type 0
 
--- actor n, of which so much is asked
+-- actor n has property R, and its variables and items fit
 pub record Sits (d : Draft) (R : Asked) (n : ℕ) (a : Actor) : Type 0 where
   pub process : DraftProcess
   pub there : slice_get d.processes a.name.process.0 ≡ Some process
@@ -33,7 +33,7 @@ pub record Sits (d : Draft) (R : Asked) (n : ℕ) (a : Actor) : Type 0 where
   pub rest : R n a.name.process.0 process a.standing a.variables.items a.given
   pub items : AllByRecursion (ItemFits d a.name.process.0 process) a.port.items
 
--- all of a link, with so much asked of each actor
+-- each actor of the link has property R, and all else fits
 pub record LinkSits (d : Draft) (R : Asked) (w : Core) : Type 0 where
   pub each : EachAt (Sits d R) w.actors
   pub names : names_in w.actors ≡ actors_of d.processes
@@ -60,7 +60,7 @@ core_of d w h = record { each = λ n a e. fits_of d n a (h.each n a e); names = 
 -- ---- one actor
 
 module _ (d : Draft) (R : Asked) (n : ℕ) (a : Actor) (sits : Sits d R n a) where
-  -- other items that fit too
+  -- the items are replaced by others that fit
   pub with_items : (xs : List Item) → AllByRecursion (ItemFits d a.name.process.0 sits.process) xs → Sits d R n (record a { port = record a.port { items = xs } })
   with_items xs all = record { process = sits.process; there = sits.there; variables = sits.variables; rest = sits.rest; items = all }
 
@@ -87,7 +87,7 @@ module _ (d : Draft) (R : Asked) (n : ℕ) (a : Actor) (sits : Sits d R n a) whe
 
 -- ---- all actors
 
--- one actor changes, and has the property before and then
+-- one actor changes and keeps the property
 pub change_sits : (d : Draft) (R : Asked) (xs : List Actor) (n : ℕ) (f : Actor → Actor) → EachAt (Sits d R) xs
     → ((a : Actor) → slice_get xs n ≡ Some a → Sits d R n a → Sits d R n (f a)) → EachAt (Sits d R) (change xs n f)
 change_sits d R xs n f each one = change_each (Sits d R) (Sits d R) xs n f each (λ k a other h. h) one
@@ -101,14 +101,14 @@ with_actors d R w n f keeps sits one = record {
   ring = sits.ring;
 }
 
--- the actor with a number that is found, if it is
+-- as `with_actors`, for an actor that may not be found
 pub with_found : (d : Draft) (R : Asked) (w : Core) (o : Option ℕ) (f : Actor → Actor) → NamesStay f → LinkSits d R w
     → ((n : ℕ) (a : Actor) → o ≡ Some n → slice_get w.actors n ≡ Some a → Sits d R n a → Sits d R n (f a))
     → LinkSits d R (record w { actors = change_found w.actors o f })
 with_found d R w None f keeps sits one = record { each = sits.each; names = sits.names; timers = sits.timers; ring = sits.ring }
 with_found d R w (Some n) f keeps sits one = with_actors d R w n f keeps sits (λ a there h. one n a refl there h)
 
--- ---- who keeps its name
+-- ---- changes that keep an actor's name
 
 pub receives_stay : (arrival : Arrival) → NamesStay (receives arrival)
 unfolding NamesStay

@@ -1,4 +1,4 @@
--- A turn that begins is given an input that fits it, and a signal that is thrown away leaves all fitting.
+-- A turn that begins has an input that fits it, and a skip leaves all fitting.
 use Rattle.std.proofs.Common.{◌≡◌, ℕ, Bool, true, false, cond, List, [], ◌∷◌, Option, Some, None, refl, sym, ap, ◌∙◌, subst, eqb-true}
 use Rattle.std.specs.Prelude.{slice_get, option_map, IfSome}
 use Rattle.std.specs.List.{AllByRecursion}
@@ -61,10 +61,10 @@ one_trigger (trigger.Signal m) (trigger.Timer n) e = absurd (false≢true e)
 one_trigger (trigger.Timer m) (trigger.Signal n) e = absurd (false≢true e)
 one_trigger (trigger.Timer m) (trigger.Timer n) e = ap (λ (k : ℕ). trigger.Timer (record { 0 = k })) (eqb-true m.0 n.0 e)
 
--- ---- the input that is given
+-- ---- the input of the turn
 
 module _ (d : Draft) (n : ℕ) (a : Actor) (p : DraftProcess) (there : slice_get d.processes n ≡ Some p) (sorts : HaveSorts p.variables a.variables.items) where
-  -- a transition of state q that waits for so much
+  -- the transition of state q for an input with this trigger
   abbrev waiting : DraftState → DraftInput → Trigger → Transition
   waiting q y x = record { number = n; process = p; trigger = Some x; parameters = trigger_parameters d.signals x; entry = q.set; piece = y.piece }
 
@@ -86,7 +86,7 @@ module _ (d : Draft) (n : ℕ) (a : Actor) (p : DraftProcess) (there : slice_get
         fits = subst (λ z. FitsTransition d (waiting ready.state y z) (input_with a (Some x))) (sym (one_trigger y.trigger (trigger_of x) found.2)) (item_given q.0 ready y x fits);
       }
 
-  -- an input of the state that waits for the item
+  -- an input of the state that waits for the item fits it
   pub waiting_given : (q : StateNumber) (ready : IsReadyAt p q.0 a.variables.items) (x : Item) (i : ℕ) (t : Transition) → ItemFits d n p x
       → transition_at d n (State q) i ≡ Some t → t.trigger ≡ Some (trigger_of x) → FitsTransition d t (input_with a (Some x))
   waiting_given q ready x i t fits e same =
@@ -137,7 +137,7 @@ module _ (start_fits : StartLaw) (d : Draft) (valid : IsValid d) (n : ℕ) (a : 
   turn_given turn xs (At (State q)) all stands something heard =
       state_given q stands (first_unsaved (is_saved d n q.0) xs) (λ x e. first_fits (ItemFits d n p) (is_saved d n q.0) xs x all e) something heard
 
--- ---- who sent the item
+-- ---- the sender of the item
 
 item_by : (d : Draft) (n : ℕ) (p : DraftProcess) (a : Actor) (o : Option Item) → ((x : Item) → o ≡ Some x → ItemFits d n p x) → IfSome (input_with a o).sender (IsSender d)
 item_by d n p a None fits = tt
@@ -151,7 +151,7 @@ taken_by d n p a (At (State q)) xs all =
 taken_by d n p a (At Start) xs all = tt
 taken_by d n p a Stopped xs all = tt
 
--- ---- the actor then
+-- ---- the actor after it
 
 pub sits_begun : StartLaw → (d : Draft) → IsValid d → (n turn : ℕ) (a : Actor) → Sits d (Rests d) n a → is_nothing (looks d a) ≡ false → is_ignored (looks d a) ≡ false
     → Sits d (Rests d) n (begun d turn a)

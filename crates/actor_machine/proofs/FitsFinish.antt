@@ -47,7 +47,7 @@ use Rattle.plain_laws.proofs.Lists.{each_push as all_push}
 
 -- ---- a transition's process
 
--- it is a transition of process n, which is p
+-- the transition belongs to process n, which is p
 pub record IsOf (n : ℕ) (p : DraftProcess) (t : Transition) : Type 0 where
   pub number : t.number ≡ n
   pub process : t.process ≡ p
@@ -64,7 +64,7 @@ waited_of ss n p i t (Some q) e = by (slice_get q.inputs i) e
     by None e = cc
     by (Some x) e = subst (IsOf n p) (same_Some (input_of ss n p q x) t e) (record { number = refl; process = refl })
 
--- the process of a transition that is there
+-- the process of a transition of the draft
 pub transition_of : (d : Draft) (n : ℕ) (s : Place) (i : ℕ) (t : Transition) → transition_at d n s i ≡ Some t
     → (t.number ≡ n) × (slice_get d.processes n ≡ Some t.process)
 transition_of d n s i t e = by (slice_get d.processes n) s e
@@ -99,7 +99,7 @@ sending_leaves d n me t s number called to right = record {
   reaches = subst (λ (k : ℕ). Reaches d.routes k Environment s.signal) number (subst (λ (p : Party). Reaches d.routes t.number p s.signal) to right.reaches);
 }
 
--- the environment's ring with one more, where there is room
+-- the environment's ring with one more signal, if there is room
 emitted_fits : (d : Draft) (r : Ring) (x : Emitted) (b : Bool) → AllByRecursion (EmittedFits d) r.items → EmittedFits d x
     → AllByRecursion (EmittedFits d) (if b then record r { items = r.items ++ x ∷ [] } else r).items
 emitted_fits d r x true all one = all_push (EmittedFits d) r.items x all one
@@ -107,7 +107,7 @@ emitted_fits d r x false all one = all
 
 module _ (d : Draft) (R : Asked) (n : ℕ) (me : ActorName) (t : Transition) (number : t.number ≡ me.process.0) (called : IsCalled d n me)
     (there : slice_get d.processes me.process.0 ≡ Some t.process) where
-  -- whoever gets a signal to a process is of that process
+  -- the receiver of a signal to a process belongs to that process
   arrives_at : (w : Core) (s : Sending) (m : ProcessNumber) (j : ℕ) (a : Actor) → IsRightSending d t s → s.receiver.party ≡ Process m
       → number_for (names_in w.actors) me m s.receiver.instance ≡ Some j → slice_get w.actors j ≡ Some a → Arrived d a.name.process.0 (arrival_of me s)
   arrives_at w s m j a right to found at =
@@ -148,7 +148,8 @@ module _ (d : Draft) (R : Asked) (n : ℕ) (me : ActorName) (t : Transition) (nu
 
 -- ---- the beginning and the end of a turn's effects
 
--- what is asked while actor m's turn takes effect: it has the variables that the turn leaves, and no turn out. Of the others all is asked
+-- the properties while the turn of actor m takes effect: m has the new variables and no turn out; all others are at
+-- rest
 abbrev pub Acts : Draft → ℕ → List (Option Value) → Asked
 Acts d m now n k p s vs g = (n ≢ m → Rests d n k p s vs g) × (n ≡ m → (vs ≡ now) × (g ≡ None))
 
@@ -162,7 +163,7 @@ moved_stays (Next q) a = refl
 moved_stays Stop a = refl
 
 module _ (d : Draft) (n : ℕ) (me : ActorName) (t : Transition) (called : IsCalled d n me) (there : slice_get d.processes me.process.0 ≡ Some t.process) where
-  -- the actor is of the transition's process
+  -- the actor belongs to the transition's process
   own_process : (w : Core) (R : Asked) (a : Actor) → LinkSits d R w → slice_get w.actors n ≡ Some a → slice_get d.processes a.name.process.0 ≡ Some t.process
   own_process w R a sits e =
       let own : a.name ≡ me = name_is w.actors n a me e (ap (λ (xs : List ActorName). slice_get xs n) sits.names ∙ called) in

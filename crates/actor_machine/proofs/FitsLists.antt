@@ -1,4 +1,4 @@
--- Lists of which one element changes, and lists each of whose elements has a property.
+-- Lists in which one element changes, and lists whose elements all have a property.
 use Rattle.std.proofs.Common.{◌≡◌, ◌≢◌, ℕ, zero, suc, Bool, true, false, cond, List, [], ◌∷◌, map, ap, Option, Some, None, refl, sym, ◌∙◌, subst, inl, inr, arith}
 use Rattle.std.specs.Prelude.{slice_get, slice_set, option_map, position, filter, Contains}
 use Rattle.std.specs.List.{AllByRecursion}
@@ -10,11 +10,11 @@ use Rattle.actor_machine.specs.Core.{change, change_found, set_at, names_in}
 use Rattle.actor_machine.specs.declared.actor.Actor.{Actor}
 use Rattle.plain_laws.proofs.Places.{written_same, get_set_other as written_other}
 
--- what holds of each element with its place
+-- P holds of each element with its place
 abbrev pub EachAt : {A : Type 0} → (ℕ → A → Type 0) → List A → Type 0
 EachAt {A} P xs = (k : ℕ) (a : A) → slice_get xs k ≡ Some a → P k a
 
--- ---- one element is written
+-- ---- a write to one element
 
 change_other : {A : Type 0} (xs : List A) (n k : ℕ) (f : A → A) → k ≢ n → slice_get (change xs n f) k ≡ slice_get xs k
 change_other {A} xs n k f other = by (slice_get xs n)
@@ -30,7 +30,7 @@ change_same {A} xs n f a h = by (slice_get xs n) refl h
     by None e g = absurd (none-some a (sym e ∙ g))
     by (Some x) e g = (x, e, same_Some (f x) a (sym (written_same xs n x (f x) e) ∙ g))
 
--- what is read of each element stays, where the change keeps it
+-- what is read of each element stays, if the change of one element keeps it
 map_set : {A B : Type 0} (g : A → B) (xs : List A) (n : ℕ) (x y : A) → slice_get xs n ≡ Some x → g y ≡ g x → map g (slice_set xs n y) ≡ map g xs
 map_set g [] n x y e h = absurd (none-some x e)
 map_set g (z ∷ xs) zero x y e h = ap (λ u. u ∷ map g xs) (h ∙ ap g (sym (same_Some z x e)))
@@ -43,7 +43,7 @@ change_map {A} g xs n f keeps = by (slice_get xs n) refl
     by None e = refl
     by (Some x) e = map_set g xs n x (f x) e (keeps x)
 
--- an actor keeps its name
+-- each actor keeps its name
 unfoldable pub NamesStay : (Actor → Actor) → Type 0
 NamesStay f = (a : Actor) → (f a).name ≡ a.name
 
@@ -62,7 +62,7 @@ name_there xs n a e = slice_get-map (λ (a : Actor). a.name) xs n ∙ ap (option
 pub name_is : (xs : List Actor) (n : ℕ) (a : Actor) (x : ActorName) → slice_get xs n ≡ Some a → slice_get (names_in xs) n ≡ Some x → a.name ≡ x
 name_is xs n a x e at = same_Some a.name x (sym (name_there xs n a e) ∙ at)
 
--- the others have a property as before, and the one that changes has it then
+-- the other elements keep their property, and the changed element gets it
 pub change_each : {A : Type 0} (P Q : ℕ → A → Type 0) (xs : List A) (n : ℕ) (f : A → A) → EachAt P xs
     → ((k : ℕ) (a : A) → k ≢ n → P k a → Q k a) → ((a : A) → slice_get xs n ≡ Some a → P n a → Q n (f a)) → EachAt Q (change xs n f)
 change_each {A} P Q xs n f each others one = λ k a h.
@@ -88,7 +88,7 @@ pub all_from_each : {A : Type 0} (P : A → Type 0) (xs : List A) → ((x : A) �
 all_from_each P [] each = tt
 all_from_each P (x ∷ xs) each = (each x (zero, omega arith, refl), all_from_each P xs (λ y has. each y (suc has.0, omega (arith, has.1), has.2)))
 
--- ---- what a test that is passed says
+-- ---- the element found by a test
 
 -- the first element that passes a test
 pub found_first : {A : Type 0} (p : A → Bool) (xs : List A) (i : ℕ) → position p xs ≡ Some i → (x : A) × (slice_get xs i ≡ Some x) × (p x ≡ true)

@@ -1,4 +1,4 @@
--- A signal that is offered and not refused came as it should.
+-- An offer that isn't refused has arrived along a route with the right sorts.
 use Rattle.std.proofs.Common.{◌≡◌, inl, ℕ, true, ◌&&◌, List, [], ◌∷◌, length, map, refl, ap, subst, eqb-true}
 use Rattle.std.specs.Prelude.{slice_get, slice_index_or, nat_lt, ◌==◌, Any, Contains}
 use Rattle.std.specs.List.{list_any}

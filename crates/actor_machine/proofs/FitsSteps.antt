@@ -1,4 +1,4 @@
--- All fits in a link as it is opened, and in the next state of one where all fits.
+-- All fits in an opened link, and after each step from a state where all fits.
 use Rattle.std.proofs.Common.{◌≡◌, ℕ, ◌+◌, ◌<◌, Bool, true, false, not, List, [], ◌∷◌, length, Some, None, refl, sym, ap, ◌∙◌, subst, arith}
 use Rattle.std.specs.Prelude.{slice_get}
 use Rattle.std.specs.List.{AllByRecursion}
@@ -43,7 +43,7 @@ use Rattle.actor_machine.proofs.Opened.{opened_all, opened_names, each_of}
 
 -- ---- rows that don't refuse
 
--- the first row doesn't hold, and none of the others
+-- if nothing is refused, neither the first row nor any other holds
 passes : (b : Bool) (r : Refusal) (rows : List (Bool × Refusal)) → first_of ((b, r) ∷ rows) ≡ None → (b ≡ false) × (first_of rows ≡ None)
 passes true r rows e = cc
 passes false r rows e = (refl, e)
@@ -66,7 +66,7 @@ accepted_begin d turns a e =
 
 -- ---- the clock
 
--- a due timer is one of its actor's process
+-- a due timer belongs to its actor's process
 due_own : (d : Draft) (R : Asked) (x : Due) (actors : List Actor) (a : Actor) → TimerFits d x.timer → names_in actors ≡ actors_of d.processes → slice_get actors x.timer.actor ≡ Some a
     → (h : Sits d R x.timer.actor a) → x.timer.number < length h.process.timers
 due_own d R x actors a due names e h =
@@ -74,7 +74,7 @@ due_own d R x actors a due names e h =
     let of : slice_get d.processes a.name.process.0 ≡ Some due.process = ap (λ (y : ActorName). slice_get d.processes y.process.0) own ∙ due.there in
     subst (λ (p : DraftProcess). x.timer.number < length p.timers) (same_Some due.process h.process (sym of ∙ h.there)) due.number
 
--- each of some timers is one of its actor's process
+-- due timers that belong to their actors' processes keep all fitting
 notified_sits : (d : Draft) (R : Asked) (xs : List Due) (actors : List Actor) → AllByRecursion (λ (x : Due). TimerFits d x.timer) xs → names_in actors ≡ actors_of d.processes
     → EachAt (Sits d R) actors → EachAt (Sits d R) (notified actors xs)
 notified_sits d R [] actors due names each = each
@@ -127,7 +127,7 @@ step_fits runs_well gives_right start_fits is_due d w (Advance k) valid fits acc
 step_fits runs_well gives_right start_fits is_due d w TakeEnv valid fits accepted =
     record { each = fits.each; names = fits.names; timers = fits.timers; ring = tail_fits d w.ring.items fits.ring }
 
--- ---- the beginning
+-- ---- the opened link
 
 initial_sorts : StartLaw → (d : Draft) → IsValid d → (n : ℕ) (p : DraftProcess) → slice_get d.processes n ≡ Some p → HaveSorts p.variables (initial_values p.variables)
 initial_sorts start_fits d valid n p there =

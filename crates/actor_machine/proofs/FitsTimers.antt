@@ -1,4 +1,4 @@
--- Deadlines as they are set and go, and those of which each timer is one of its process.
+-- Deadlines that are set and removed, if each timer belongs to its actor's process.
 use Rattle.std.proofs.Common.{◌≡◌, ℕ, zero, suc, ◌+◌, ◌<◌, ◌⊎◌, inl, inr, Bool, true, false, not, cond, length, Option, Some, None, refl, sym, ap, ◌∙◌, subst}
 use Rattle.std.specs.Prelude.{slice_get}
 use Rattle.std.specs.Ordering.{eq_by_cmp}
@@ -17,7 +17,7 @@ use Rattle.actor_machine.specs.Fits.{IsCalled, TimerFits, TimersFit}
 use Rattle.tick_wheel.proofs.Orders.{timers_total as total, exact_timers as exact}
 use Rattle.plain_laws.proofs.Options.{is_Equal as tied}
 
--- each deadline of some timers is one of others
+-- each deadline of `some` is one of `all`
 abbrev pub ArePart : Deadlines → Deadlines → Type 0
 ArePart some all = (t : TimerId) (u : ℕ) → finite.get some t ≡ Some u → finite.get all t ≡ Some u
 
@@ -27,7 +27,7 @@ part_fits d some all part fits = λ t u h. fits t u (part t u h)
 pub no_timers : (d : Draft) → TimersFit d finite.empty
 no_timers d t u h = absurd (none-some u (sym (get-empty timer_cmp t) ∙ h))
 
--- a deadline that is set is that timer's
+-- a deadline after an insertion is the new one or was there before
 pub get_inserted : (m : Deadlines) (k : TimerId) (v : ℕ) (t : TimerId) (u : ℕ) → finite.get (finite.insert m k v) t ≡ Some u → (t ≡ k) ⊎ (finite.get m t ≡ Some u)
 get_inserted m k v t u h = by (eq_by_cmp timer_cmp t k) refl (sym (get-insert total m k v t) ∙ h)
   where
@@ -48,7 +48,7 @@ lost_by false o u h = h
 pub removed : (m : Deadlines) (k : TimerId) → ArePart (finite.remove m k) m
 removed m k = λ t u h. lost_by (eq_by_cmp timer_cmp t k) (finite.get m t) u (sym (get-remove total m k t) ∙ h)
 
--- a deadline that isn't dropped, and that nothing asked to drop
+-- a deadline that stays, and that isn't due
 kept_by : (b : Bool) (o : Option ℕ) (u : ℕ) → cond (not b) o None ≡ Some u → (o ≡ Some u) × (b ≡ false)
 kept_by true o u h = absurd (none-some u h)
 kept_by false o u h = (h, refl)
@@ -62,7 +62,7 @@ get_retained m clock t u h =
 pub retained : (m : Deadlines) (clock : ℕ) → ArePart (not_due m clock) m
 retained m clock = λ t u h. (get_retained m clock t u h).0
 
--- ---- what a turn does to them
+-- ---- how a turn changes them
 
 pub until_fits : (d : Draft) (ts : Timers) (n timer k : ℕ) (me : ActorName) (p : DraftProcess) → IsCalled d n me → slice_get d.processes me.process.0 ≡ Some p → timer < length p.timers → TimersFit d ts.deadlines
     → TimersFit d (until ts n timer k).deadlines

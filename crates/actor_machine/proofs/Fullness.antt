@@ -1,4 +1,4 @@
--- What is full, or has stopped, is told by name, at its place and once, and nothing else is told so.
+-- Refusals and losses as Full, EnvFull and Stopped: they are exact, at the right places and without duplicates.
 use Rattle.std.proofs.Common.{◌≡◌, ℕ, zero, suc, ◌+◌, ◌<◌, ◌≤◌, Bool, true, false, not, if◌then◌else◌, arith, List, [], ◌∷◌, ◌++◌, take, Option, Some, None, refl, sym, ap, ◌∙◌, subst, append_assoc}
 use Rattle.std.specs.Prelude.{option_to_list, option_map, nat_lt, slice_get}
 use Rattle.std.specs.List.{AllByRecursion}
@@ -39,14 +39,14 @@ use Rattle.actor_machine.proofs.FitsFinish.{settled_stays}
 use Rattle.actor_machine.proofs.FitsLists.{names_change, names_found}
 use Rattle.actor_machine.proofs.Opened.{both_parts}
 
--- whoever is somewhere hasn't stopped
+-- an actor at a place hasn't stopped
 stands_somewhere : (s : Standing) → has_stopped s ≡ false → (q : Place) × (s ≡ At q)
 stands_somewhere (At q) h = (q, refl)
 stands_somewhere HasStopped h = cc
 
 -- ---- an offer
 
--- that the third of the rows holds, and neither of the two before it
+-- the third row holds, and neither of the first two
 third_row : (x y z : Bool) → x ≡ false → y ≡ true → z ≡ true → first_of ((x, Stopped) ∷ (not y, NoRoute) ∷ (z, Full) ∷ []) ≡ Some Full
 third_row x y z stands offered full =
     ap (λ (b : Bool). first_of ((b, Stopped) ∷ (not y, NoRoute) ∷ (z, Full) ∷ [])) stands
@@ -77,7 +77,7 @@ refused_meets d w o h = by (slice_get w.actors o.actor) refl h
         let stands = stands_somewhere a.standing rows.0 in
         record { actor = a; port = record { there = there; place = stands.0; standing = stands.1; full = rows.2 }; offered = rows.1 }
 
--- a journal without room has another name
+-- a lack of room in the journal is refused by another name
 no_room : (k : ℕ) (e : Event) (o : Option Refusal) → with_room k e o ≡ Some Full → o ≡ Some Full
 no_room k e None h = absurd (by (nat_lt k (needs e)) h)
   where
@@ -106,7 +106,7 @@ full_offer m b o h =
     (no_room (room b (state_by m b)) (Offer o) (refuses b.set (state_by m b) (Offer o))
     (refused_asked b (Offer o) (step b.set m (state_by m b) (Offer o)) (refusal_by m b (Offer o)) refl h))
 
--- ---- who doesn't take an output
+-- ---- the actor that doesn't take an output
 
 port_full : (me : ActorName) (w : Core) (s : Sending) → FindsFull me w s → undelivered me w s.receiver.party s.receiver.instance ≡ Some cause.Full
 port_full me w s h =
@@ -153,7 +153,7 @@ ring_full me w s h =
     ap (λ (p : Party). undelivered me w p s.receiver.instance) h.0
     ∙ ap (λ (b : Bool). let o : Option Cause = if b then None else Some cause.EnvFull in o) h.1
 
--- no port gives the environment's name
+-- a port never refuses with the name for the environment
 other_name : (o : Option Actor) → refusal_in o ≡ Some cause.EnvFull → ⊥
 other_name None h = cc
 other_name (Some a) h = by a.standing h
@@ -178,7 +178,7 @@ full_ring me w s h = to s.receiver.party refl h
     to Environment is h = (is, environment (has_room w.ring) refl h)
     to (Process p) is h = absurd (other_name (found_in w.actors (number_for (names_in w.actors) me p s.receiver.instance)) h)
 
--- ---- who has stopped
+-- ---- outputs to an actor that has stopped
 
 -- the actors keep their names
 delivered_names : (me : ActorName) (w : Core) (s : Sending) (p : Party) (k : Option InstanceNumber) → names_in (delivered me w s p k).actors ≡ names_in w.actors
@@ -199,7 +199,7 @@ behind_names : (n : ℕ) (me : ActorName) (o : Outcome) (w : Core) (place : ℕ)
 behind_names n me o w place =
     all_laid_names n me (take place o.progress.effects) (started n o w) ∙ names_change w.actors n (settled o) (settled_stays o)
 
--- a name that stands somewhere is an actor's
+-- a name at a number is the name of an actor
 actor_called : (xs : List Actor) (n : ℕ) (x : ActorName) → slice_get (names_in xs) n ≡ Some x → (a : Actor) × (slice_get xs n ≡ Some a)
 actor_called xs n x e = by (slice_get xs n) refl (sym (slice_get-map (λ (a : Actor). a.name) xs n) ∙ e)
   where
@@ -247,9 +247,9 @@ actor_stopped me w s h =
     ∙ ap refusal_in h.there
     ∙ ap (refusal_at h.actor.port) h.standing
 
--- ---- what is told of the outputs
+-- ---- losses among the outputs
 
--- an effect that is lost stands among the losses
+-- an effect that is lost is among the losses
 losses_have : (n : ℕ) (me : ActorName) (es : List Effect) (i : ℕ) (e : Effect) (c : Cause) (k : ℕ) (w : Core) → slice_get es i ≡ Some e
     → lost_by me (laid_all n me w (take i es)) (k + i) e ≡ Some (lost_at (k + i) c) → IsLost (losses n me w k es) (k + i) c
 losses_have n me [] i e c k w there h = absurd (none-some e there)
@@ -272,7 +272,7 @@ losses_have n me (x ∷ es) (suc i) e c k w there h =
           ∙ ap (λ (j : ℕ). (first ++ r.before) ++ lost_at j c ∷ r.after) (sym more);
     }
 
--- whatever stands among the losses is lost, at its place
+-- each loss is of an effect that is lost, at its place
 abbrev IsRight : ℕ → ActorName → Core → ℕ → List Effect → Lost → Type 0
 IsRight n me w k es x = (i : ℕ) (e : Effect) → slice_get es i ≡ Some e → x.place ≡ k + i → lost_by me (laid_all n me w (take i es)) x.place e ≡ Some x
 
@@ -335,7 +335,7 @@ all_right n me (e ∷ es) k w =
     both_parts (IsRight n me w k (e ∷ es)) (option_to_list (lost_by me w k e)) others (first_right n me w k e es)
     (later_right n me w k e es others (all_from n me es (k + 1) (laid n me w e)) (all_right n me es (k + 1) (laid n me w e)))
 
--- one that stands among others
+-- P holds of one element among others
 one_of : (P : Lost → Type 0) (before after : List Lost) (x : Lost) → AllByRecursion P (before ++ x ∷ after) → P x
 one_of P [] after x all = all.0
 one_of P (y ∷ before) after x all = one_of P before after x all.1
@@ -364,7 +364,7 @@ module _ (w : Core) (n : ℕ) (me : ActorName) (o : Outcome) (place : ℕ) (s : 
 
 -- ---- the places of the losses
 
--- a loss is one of an output
+-- each loss is the loss of an output
 of_output : (P : ℕ → Type 0) (k : ℕ) (me : ActorName) (w : Core) (e : Effect) → ((s : Sending) → e ≡ Output s → P k)
     → AllByRecursion (λ (x : Lost). P x.place) (option_to_list (lost_by me w k e))
 of_output P k me w (Output s) is = by (undelivered me w s.receiver.party s.receiver.instance)

@@ -1,4 +1,4 @@
--- Where a name stands.
+-- The place of a name in a list.
 use Rattle.std.proofs.Common.{◌≡◌, ℕ, suc, Bool, true, false, if◌then◌else◌, List, [], ◌∷◌, Option, Some, None, refl, sym, ap, subst, eqb-true}
 use Rattle.std.specs.Prelude.{slice_get, option_map, ◌==◌}
 use Rattle.std.proofs.lemmas.Bool.{false≢true}
@@ -18,7 +18,7 @@ one_actor x y e = by_process (x.process.0 == y.process.0) refl e
         λ i. record { process = record { 0 = p i }; instance = record { 0 = k i } }
     by_process false f e = absurd (false≢true e)
 
--- a name stands where its place is
+-- the name is at the place that the look-up returns
 pub stands_there : (x : ActorName) (names : List ActorName) (n : ℕ) → place_of x names ≡ Some n → slice_get names n ≡ Some x
 stands_there x [] n e = absurd (none-some n e)
 stands_there x (y ∷ ys) n e = by_first (λ m f. stands_there x ys m f) (same_actor x y) refl e
@@ -31,7 +31,7 @@ stands_there x (y ∷ ys) n e = by_first (λ m f. stands_there x ys m f) (same_a
     by_first rest true f e = subst (λ (n : ℕ). slice_get (y ∷ ys) n ≡ Some x) (same_Some 0 n e) (ap (λ (z : ActorName). Some z) (sym (one_actor x y f)))
     by_first rest false f e = by_rest rest (place_of x ys) n refl e
 
--- whoever gets a signal to a process is an actor of that process
+-- the receiver of a signal to a process is an actor of that process
 pub record IsOfProcess (names : List ActorName) (p : ProcessNumber) (n : ℕ) : Type 0 where
   pub name : ActorName
   pub there : slice_get names n ≡ Some name

@@ -42,7 +42,7 @@ instance_at p k zero j e = absurd (omega (arith, e))
 instance_at p k (suc n) zero e = ap (λ (m : ℕ). Some (named p m)) (let f : k ≡ k + 0 = omega arith in f)
 instance_at p k (suc n) (suc j) e = instance_at p (suc k) n j (omega (arith, e)) ∙ ap (λ (m : ℕ). Some (named p m)) (let f : suc k + j ≡ k + suc j = omega arith in f)
 
--- whose name stands there
+-- the name at place j
 is_instance : (p k n j : ℕ) (x : ActorName) → slice_get (instances_from p k n) j ≡ Some x → x ≡ named p (k + j)
 is_instance p k zero j x e = absurd (none-some x e)
 is_instance p k (suc n) zero x e = sym (same_Some (named p k) x e) ∙ ap (named p) (let f : k ≡ k + 0 = omega arith in f)
@@ -53,7 +53,7 @@ instance_inside p k zero j x e = absurd (none-some x e)
 instance_inside p k (suc n) zero x e = omega arith
 instance_inside p k (suc n) (suc j) x e = let h = instance_inside p (suc k) n j x e in omega (arith, h)
 
--- ---- all of them
+-- ---- the instances of all processes
 
 all_count : (q : ℕ) (ps : List DraftProcess) → length (names_from q (counts_of ps)) ≡ instances_in ps
 all_count q [] = refl
@@ -80,7 +80,7 @@ placed_from q (y ∷ ys) (suc p) k x e few =
     ∙ placed_from (suc q) ys p k x e few
     ∙ ap (λ (n : ℕ). Some (named n (k + 1))) (let f : suc q + p ≡ q + suc p = omega arith in f)
 
--- where a name stands, by its process and its instance
+-- the place of a name, by its process and its instance
 record Located (q n : ℕ) (ps : List DraftProcess) (x : ActorName) : Type 0 where
   before : ℕ
   own : DraftProcess
@@ -142,7 +142,7 @@ own_name x =
     let k : nat_eq x.instance.0 x.instance.0 ≡ true = grind (arith, nat_tests) in
     ap (λ (b : Bool). if b then nat_eq x.instance.0 x.instance.0 else false) p ∙ k
 
--- a name that stands somewhere has a first place
+-- a name at some place has a first place
 first_place : (x : ActorName) (names : List ActorName) (n : ℕ) → slice_get names n ≡ Some x → (m : ℕ) × (place_of x names ≡ Some m)
 first_place x [] n e = absurd (none-some x e)
 first_place x (y ∷ ys) zero e =

@@ -46,11 +46,11 @@ use Rattle.actor_machine.proofs.Opened.{opened_all, each_of}
 
 -- ---- one actor changes
 
--- each turn that is out among the first is out among the others
+-- each turn that is out among the actors xs is out among ys
 abbrev pub Fewer : List Actor → List Actor → Type 0
 Fewer xs ys = (k : ℕ) (g : Given) → HasOut xs k g → HasOut ys k g
 
--- who had a turn out before one actor changed
+-- a turn that is out after one actor changed was out before
 changed_out : (W : ℕ → Given → Type 0) (xs : List Actor) (n : ℕ) (f : Actor → Actor)
     → ((k : ℕ) (g : Given) → k ≢ n → HasOut xs k g → W k g)
     → ((a : Actor) (g : Given) → slice_get xs n ≡ Some a → (f a).given ≡ Some g → W n g)
@@ -101,7 +101,7 @@ fewer_laid_all : (n : ℕ) (me : ActorName) (es : List Effect) (w : Core) → Fe
 fewer_laid_all n me [] w = λ k g h. h
 fewer_laid_all n me (e ∷ es) w = λ k g h. fewer_laid n me w e k g (fewer_laid_all n me es (laid n me w e) k g h)
 
--- the others have the same turns out, and the actor has none
+-- the other actors have the same turns out, and actor n has none
 out_finished : (n : ℕ) (me : ActorName) (o : Outcome) (w : Core) (k : ℕ) (g : Given) → HasOut (finished n me o w).actors k g → (k ≢ n) × HasOut w.actors k g
 unfolding finished
 out_finished n me o w k g h =
@@ -116,13 +116,13 @@ turns_finished n me o w =
 
 -- ---- one event
 
--- a turn that has begun with this event
+-- the event begins this turn
 record IsNew (actor : ℕ) (v w : Core) (k : ℕ) (g : Given) : Type 0 where
   at : k ≡ actor
   number : g.turn ≡ w.turns
   next : v.turns ≡ w.turns + 1
 
--- what an event makes of the turns that are out: from w to v
+-- how an event changes the turns that are out, from state w to v
 record Turns (v w : Core) : Type 0 where
   actor : ℕ
   grows : w.turns ≤ v.turns
@@ -162,7 +162,7 @@ turns_step d w (Finish n) = turns_finish_at d n w (slice_get w.actors n)
 turns_step d w (Advance k) = no_more (passed k w) w refl (fewer_notified (due_in w k) w.actors)
 turns_step d w TakeEnv = no_more (step d (runs d) w TakeEnv).to w refl (λ k g h. h)
 
--- ---- numbers of their own
+-- ---- turns have different numbers
 
 numbered_next : (v w : Core) → Turns v w → AreNumbered w → AreNumbered v
 numbered_next v w t h = record {
@@ -205,7 +205,7 @@ numbered_opened d port env = record {
 
 -- ---- turns that are over
 
--- the turn that an actor has out, as it was given
+-- the turn that actor n has out, with the number of t
 record IsGiven (actors : List Actor) (n : ℕ) (t : Turn) : Type 0 where
   given : Given
   out : HasOut actors n given
@@ -216,7 +216,7 @@ turn_number n p s g None t e = absurd (none-some t e)
 turn_number n p s g (Some x) t e =
     ap (λ (u : Turn). u.turn) (same_Some (turn_of n g.turn p s g.number x.piece.code x.piece.certificate g.input) t e)
 
--- a turn that is given has that number
+-- the given turn has the number of t
 record HasNumber (o : Option Given) (t : Turn) : Type 0 where
   given : Given
   there : o ≡ Some given

@@ -1,4 +1,4 @@
--- The actors of a set as it is opened.
+-- The actors of a set in an opened link.
 use Rattle.std.proofs.Common.{◌≡◌, ℕ, zero, suc, ◌+◌, List, [], ◌∷◌, ◌++◌, map, Some, refl, ap, ◌∙◌, subst, arith}
 use Rattle.std.specs.Prelude.{slice_get}
 use Rattle.std.specs.List.{AllByRecursion}
@@ -11,7 +11,7 @@ use Rattle.actor_machine.specs.Core.{names_in}
 use Rattle.actor_machine.specs.Kept.{opened_actor, opened_from}
 use Rattle.actor_machine.specs.declared.actor.Actor.{Actor}
 
--- what holds of each, by its number
+-- P holds of each element, by its number
 pub each_of : {A : Type 0} (P : A → Type 0) (xs : List A) → AllByRecursion P xs → (n : ℕ) (a : A) → slice_get xs n ≡ Some a → P a
 each_of P [] all n a e = absurd (none-some a e)
 each_of P (x ∷ xs) all zero a e = subst P (same_Some x a e) all.0
@@ -21,7 +21,7 @@ pub both_parts : {A : Type 0} (P : A → Type 0) (xs ys : List A) → AllByRecur
 both_parts P [] ys all more = more
 both_parts P (x ∷ xs) ys all more = (all.0, both_parts P xs ys all.1 more)
 
--- each actor is one of some process before its START
+-- each actor is an instance of some process before its START
 module _ (P : Actor → Type 0) (port : ℕ) where
   some_all : (n k count : ℕ) (p : DraftProcess) → ((x : ActorName) → x.process.0 ≡ n → P (opened_actor port p x))
       → AllByRecursion P (map (opened_actor port p) (instances_from n k count))
@@ -36,7 +36,7 @@ module _ (P : Actor → Type 0) (port : ℕ) where
       (some_all n 1 p.instances p (λ x e. one 0 p x refl (omega (arith, e))))
       (opened_all (suc n) ps (λ k q x there e. one (suc k) q x there (omega (arith, e))))
 
--- and they are called as those of the set
+-- the names of the actors are those of the set
 names_some : (port n k count : ℕ) (p : DraftProcess) → names_in (map (opened_actor port p) (instances_from n k count)) ≡ instances_from n k count
 names_some port n k zero p = refl
 names_some port n k (suc count) p = ap (λ (xs : List ActorName). named n k ∷ xs) (names_some port n (suc k) count p)

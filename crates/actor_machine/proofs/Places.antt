@@ -23,7 +23,7 @@ still_at (y ∷ xs) x e (suc k) h = still_at xs x e k h
 
 -- ---- one event
 
--- a place that isn't before the first
+-- a place that isn't before the first place
 from_first : (first place : ℕ) (o : Option Event) → nat_lt place first ≡ false → (if nat_lt place first then None else o) ≡ o
 from_first first place o h = ap (λ (b : Bool). if b then None else o) h
 

@@ -43,7 +43,7 @@ use Rattle.actor_machine.specs.declared.name.ActorName.{ActorName}
 use Rattle.actor_machine.proofs.NameStanding.{IsOfProcess, right_process}
 use Rattle.actor_machine.proofs.Numbering.{there, actors_law}
 
--- ---- whom an output names: a party without an instance, or whoever sent what the turn was given
+-- ---- the address of an output: a party without an instance, or the sender of the turn's signal
 
 abbrev IsAddressed : Option Address → Effect → Type 0
 IsAddressed sender (effect.Output s) = (s.receiver.instance ≡ None) ⊎ (sender ≡ Some s.receiver)
@@ -53,7 +53,7 @@ IsAddressed sender (effect.Reset t) = Unit {0}
 abbrev AreAddressed : Option Address → List Effect → Type 0
 AreAddressed sender es = AllByRecursion (IsAddressed sender) es
 
--- what an instruction adds is so
+-- an effect that an instruction adds is addressed in this way
 adds : (i : Instruction) (x : Input) (os : List Value) (es : List Effect) → AreAddressed x.sender es → Adds (AreAddressed x.sender) i x os es
 adds (Output n r c) x os es h = by r
   where
@@ -71,7 +71,7 @@ GaveAddressed sender (ended e s) = AreAddressed sender s.effects
 GaveAddressed sender (got_stuck z) = Unit {0}
 GaveAddressed sender unfinished = Unit {0}
 
--- so a run of n instructions gives, from wherever it goes on
+-- the effects of a run of n instructions are addressed in this way, from any place on
 abbrev Goes : List Instruction → Input → ℕ → Type 0
 Goes code x n = (k : ℕ) (os : List Value) (s : Progress) → AreAddressed x.sender s.effects → GaveAddressed x.sender (exec code x n k os s)
 
@@ -93,14 +93,14 @@ all_addressed : (code : List Instruction) (x : Input) (e : End) (s : Progress) �
 unfolding run
 all_addressed code x e s is = subst (GaveAddressed x.sender) is (runs_addressed code x 512 0 [] (begun x) tt)
 
--- ---- an actor gets it
+-- ---- an actor receives it
 
 got : (names : List ActorName) (me : ActorName) (p : ProcessNumber) (k : Option InstanceNumber) (n : ℕ) → number_for names me p k ≡ Some n → IsGot names me p k
 got names me p k n found =
     let of : IsOfProcess names p n = right_process names me p k n found in
     record { number = n; found = found; name = of.name; there = of.there; process = of.process }
 
--- a process that is there has a first instance
+-- a declared process has a first instance
 first_instance : (d : Draft) → IsValid d → (p : ProcessNumber) → p.0 < length d.processes
     → (n : ℕ) × (place_of (record { process = p; instance = record { 0 = 1 } }) (actors_of d.processes) ≡ Some n)
 first_instance d valid p few =
@@ -111,7 +111,7 @@ first_instance d valid p few =
     let at = actors_law.placed d.processes p.0 0 x.0 x.1 (omega (arith, some)) in
     (_, (actors_law.numbers d.processes _ (record { process = p; instance = record { 0 = 1 } })).0 at)
 
--- where no instance is named one with the sender's number gets it, or the first one
+-- if no instance is named, the instance with the sender's number receives it, or the first one
 some_instance : (d : Draft) → IsValid d → (me : ActorName) (p : ProcessNumber) → p.0 < length d.processes → IsGot (actors_of d.processes) me p None
 some_instance d valid me p few =
     by (place_of (record { process = p; instance = me.instance }) (actors_of d.processes)) refl
@@ -125,7 +125,7 @@ some_instance d valid me p few =
         got (actors_of d.processes) me p None m
         (ap (λ (o : Option ℕ). first_some o (place_of (record { process = p; instance = record { 0 = 1 } }) (actors_of d.processes))) e)
 
--- an actor of the set whose address is named gets it
+-- an actor of the set receives what is sent to its address
 actor_gets : (d : Draft) (me : ActorName) (x : Address) → IsActor d x → HasReceiver (actors_of d.processes) me x.party x.instance
 actor_gets d me x h =
     subst (λ (y : Address). HasReceiver (actors_of d.processes) me y.party y.instance) (sym h.is)

@@ -1,4 +1,4 @@
--- The state of a book as its journal grows, and what fits in the states on the way.
+-- The state of a book as its journal grows, and the fit of all states on the way.
 use Rattle.std.proofs.Common.{◌≡◌, List, [], ◌∷◌, ◌++◌, Option, Some, None, refl, ap, ◌∙◌}
 use Rattle.turn_code.specs.Outcome.{Meaning}
 use Rattle.turn_code.specs.declared.draft.Draft.{Draft}
@@ -46,7 +46,7 @@ fits_more d w (x ∷ es) e h k = (h.0, fits_more d (step d (runs d) w x).to es e
 pub fits_law : (b : Ledger) → IsKept b → CoreFits b.set (state_of b)
 fits_law b h = fits_last b.set b.base b.journal h.stands.along
 
--- ---- the set, and how much the journal may hold
+-- ---- the set and the limit of the journal
 
 abbrev SameSet : Ledger → Ledger → Type 0
 SameSet a b = (a.set ≡ b.set) × (a.limit ≡ b.limit)

@@ -1,4 +1,4 @@
--- A timer that has a deadline has no signal waiting.
+-- A timer that has a deadline has no signal in the port.
 use Rattle.std.proofs.Common.{◌≡◌, ℕ, ◌+◌, ◌≤◌, inl, inr, Bool, true, false, not, ◌||◌, cond, if◌then◌else◌, List, [], ◌∷◌, ◌++◌, Option, Some, None, refl, sym, ap, ◌∙◌, subst, arith}
 use Rattle.std.specs.Prelude.{slice_get, nat_le, Result, Ok, Err}
 use Rattle.std.specs.List.{AllByRecursion}
@@ -47,7 +47,7 @@ use Rattle.plain_laws.proofs.Lists.{each_push as all_push}
 
 -- ---- items
 
--- none of them is a timer's
+-- none of the items is of this timer
 abbrev Lacks : ℕ → List Item → Type 0
 Lacks timer xs = AllByRecursion (λ (x : Item). is_of_timer timer x ≡ false) xs
 
@@ -74,7 +74,7 @@ gone timer (x ∷ xs) =
       | false ↦ λ e. (e, rest)
     ] refl
 
--- ---- an actor as it changes
+-- ---- a change of one actor
 
 received : (arrival : Arrival) (timer : ℕ) (a : Actor) → Lacks timer a.port.items → Lacks timer (receives arrival a).port.items
 received arrival timer a h = by a.standing
@@ -104,14 +104,14 @@ has_skipped d timer a h = all_left (λ (x : Item). is_of_timer timer x ≡ false
 
 -- ---- all actors
 
--- of actor n no timer with a deadline has an item
+-- no timer of actor n that has a deadline has an item
 abbrev Quiet : Deadlines → ℕ → Actor → Type 0
 Quiet m n a = (timer until : ℕ) → finite.get m (timer_of n timer) ≡ Some until → Lacks timer a.port.items
 
 abbrev IsQuiet : Core → Type 0
 IsQuiet w = EachAt (Quiet w.timers.deadlines) w.actors
 
--- one actor changes, and gets no timer's item
+-- one actor changes and gets no timer item
 quiet_change : (m : Deadlines) (xs : List Actor) (n : ℕ) (f : Actor → Actor) → ((timer : ℕ) (a : Actor) → Lacks timer a.port.items → Lacks timer (f a).port.items)
     → EachAt (Quiet m) xs → EachAt (Quiet m) (change xs n f)
 quiet_change m xs n f spares each =
@@ -122,7 +122,7 @@ quiet_found : (m : Deadlines) (xs : List Actor) (o : Option ℕ) (f : Actor → 
 quiet_found m xs None f spares each = each
 quiet_found m xs (Some n) f spares each = quiet_change m xs n f spares each
 
--- some deadlines go
+-- some deadlines are removed
 quiet_part : (some all : Deadlines) (xs : List Actor) → ArePart some all → EachAt (Quiet all) xs → EachAt (Quiet some) xs
 quiet_part some all xs part each = λ n a there timer until active. each n a there timer until (part (timer_of n timer) until active)
 
@@ -201,7 +201,7 @@ quiet_notified m (x ∷ xs) actors off each =
 at_most : (a b : ℕ) → a ≤ b → nat_le a b ≡ true
 at_most a b h = grind (arith, nat_tests)
 
--- what is due has no deadline any more
+-- a timer that is due has no deadline afterwards
 due_is_off : (m : Deadlines) (clock : ℕ) (x : Due) → (finite.get m x.timer ≡ Some x.deadline) × (x.deadline ≤ clock) → IsOff (not_due m clock) x
 due_is_off m clock x h = λ until active.
     false≢true (sym (get_retained m clock x.timer until active).1

@@ -1,4 +1,4 @@
--- A book by the code of its set and by what the set means.
+-- A book runs alike by the code of its set and by the meaning of that code.
 use Rattle.std.proofs.Common.{◌≡◌, ℕ, List, [], ◌∷◌, ◌++◌, Option, Some, None, refl, sym, ap, ◌∙◌, subst}
 use Rattle.std.specs.Prelude.{slice_get, Result}
 use Rattle.turn_code.specs.declared.trouble.Trouble.{Trouble}
@@ -59,9 +59,9 @@ same_replay act d w (e ∷ es) means fits =
     ap (λ (s : Stepped). replay d act s.to es) (same_step act d w e means fits.0)
     ∙ same_replay act d (step d (runs d) w e).to es means fits.1
 
--- ---- one ask, where the set is written apart from the book
+-- ---- one ask, if the set isn't taken from the book
 
--- what a book's journal keeps to
+-- the set of a book, and the fit of all states of its journal
 pub record Along (d : Draft) (b : Ledger) : Type 0 where
   pub set : b.set ≡ d
   pub fits : FitsAlong b.set b.base b.journal
@@ -89,7 +89,7 @@ along_asked : (d : Draft) (b : Ledger) (e : Event) (s : Stepped) (o : Option Ref
 along_asked d b e s None h next = record { set = h.set; fits = next refl }
 along_asked d b e s (Some r) h next = h
 
--- an event goes into a journal that all fits along, if it fits the state there
+-- an event that fits the last state goes into a journal whose states all fit
 pub fits_next : StepFits → (b : Ledger) (e : Event) → IsValid b.set → FitsAlong b.set b.base b.journal → refusal_by (runs b.set) b e ≡ None
     → FitsAlong b.set b.base (b.journal ++ e ∷ [])
 fits_next steps b e valid fits h =

@@ -6,13 +6,13 @@ use Rattle.tick_wheel.specs.Timers.{Timers}
 use Rattle.actor_machine.specs.declared.actor.Actor.{Actor}
 use Rattle.actor_machine.specs.declared.reply.Emitted.{Emitted}
 
--- what waits for the environment, in the order in which it was sent, and how much may wait
+-- the signals that wait for the environment, in the order in which they were sent, and their limit
 pub record Ring : Type 0 where
   pub capacity : ℕ
   pub items : List Emitted
 
--- the actors by number, the active timers with the clock, what waits for the environment, how many
--- turns have begun, how many of these have ended, and how many instructions they took
+-- the actors by number, the active timers with the clock, the signals for the environment, and the
+-- numbers of turns begun, of turns ended and of the instructions that these took
 pub record Core : Type 0 where
   pub actors : List Actor
   pub timers : Timers
@@ -29,7 +29,7 @@ set_at xs n f (Some x) = slice_set xs n (f x)
 abbrev pub change : {A : Type 0} → List A → ℕ → (A → A) → List A
 change xs n f = set_at xs n f (slice_get xs n)
 
--- where a number is found
+-- as `change`, for a number that may not be found
 abbrev pub change_found : {A : Type 0} → List A → Option ℕ → (A → A) → List A
 change_found xs None f = xs
 change_found xs (Some n) f = change xs n f
@@ -46,6 +46,6 @@ names_in actors = map (λ (a : Actor). a.name) actors
 abbrev pub is_out : Actor → Truth
 is_out a = is_some a.given
 
--- how many actors have a turn out
+-- the number of actors that have a turn out
 abbrev pub outs : List Actor → ℕ
 outs actors = count_by is_out actors

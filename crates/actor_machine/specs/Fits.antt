@@ -1,6 +1,6 @@
--- What holds of every state of a link: each signal that waits came along a route with parameters of
--- its sorts, from the environment or an actor of the set, each timer is its receiver's own, both
--- fit wherever the receiver is, and each turn that is out has an input that fits it.
+-- An invariant of every state of a link. Each signal that waits came along a route from the
+-- environment or an actor of the set, with parameters of its sorts. Each timer belongs to its
+-- receiver. Both fit in any state of the receiver. Each turn that is out has an input that fits it.
 use Rattle.std.specs.Prelude.{◌≡◌, ◌⊎◌, ℕ, ◌<◌, List, length, map, Any, Option, None, Some, IfSome}
 use Rattle.std.specs.Prelude.{slice_get}
 use Rattle.std.specs.List.{AllByRecursion}
@@ -32,7 +32,7 @@ use Rattle.actor_machine.specs.declared.actor.Standing.{Standing}
 use Rattle.actor_machine.specs.declared.actor.Standing.TheVariants.{At, Stopped}
 use Rattle.actor_machine.specs.declared.reply.Emitted.{Emitted}
 
--- actor n of the set is called so
+-- actor n of the set has this name
 abbrev pub IsCalled : Draft → ℕ → ActorName → Type 0
 IsCalled d n me = slice_get (actors_of d.processes) n ≡ Some me
 
@@ -47,20 +47,20 @@ pub record IsActor (d : Draft) (x : Address) : Type 0 where
 abbrev pub IsSender : Draft → Address → Type 0
 IsSender d x = (x ≡ of_party Environment) ⊎ IsActor d x
 
--- the signal is one of the set's, its parameters have that signal's sorts, the environment or an
--- actor of the set sent it, and a route brought it from there to process n
+-- the signal is one of the set, its parameters have its sorts, the environment or an actor of the
+-- set sent it, and a route brought it from there to process n
 pub record Arrived (d : Draft) (n : ℕ) (a : Arrival) : Type 0 where
   pub there : a.signal.0 < length d.signals
   pub sorts : map sort_of a.parameters.items ≡ parameters_of (slice_get d.signals a.signal.0)
   pub sender : IsSender d a.sender
   pub brought : Any (Brings a.sender.party n a.signal) d.routes
 
--- a signal that came so, or the signal of a timer of the process
+-- a signal that arrived along a route, or the signal of a timer of the process
 abbrev pub ItemFits : Draft → ℕ → DraftProcess → Item → Type 0
 ItemFits d n p (Signal a) = Arrived d n a
 ItemFits d n p (Timer t) = t.0 < length p.timers
 
--- the state is there, and the variables that are said to be set there have values
+-- the state is declared, and the variables that it calls set have values
 pub record IsReadyAt (p : DraftProcess) (q : ℕ) (vs : List (Option Value)) : Type 0 where
   pub state : DraftState
   pub there : slice_get p.states q ≡ Some state
@@ -78,7 +78,7 @@ GivenFits d n (At s) (Some g) = Fits d n s g.number g.input
 GivenFits d n Stopped None = Unit {0}
 GivenFits d n Stopped (Some g) = ⊥
 
--- whoever sent what the turn was given is the environment or an actor of the set
+-- the sender of the signal that the turn was given is the environment or an actor of the set
 abbrev pub GivenBy : Draft → Option Given → Type 0
 GivenBy d None = Unit {0}
 GivenBy d (Some g) = IfSome g.input.sender (IsSender d)
@@ -93,7 +93,7 @@ pub record ActorFits (d : Draft) (a : Actor) : Type 0 where
   pub given : GivenFits d a.name.process.0 a.standing a.given
   pub sender : GivenBy d a.given
 
--- the timer is one of its actor's process
+-- the timer belongs to its actor's process
 pub record TimerFits (d : Draft) (t : TimerId) : Type 0 where
   pub name : ActorName
   pub actor : IsCalled d t.actor name
@@ -105,8 +105,8 @@ abbrev pub TimersFit : Draft → Deadlines → Type 0
 TimersFit d deadlines =
     (t : TimerId) (until : ℕ) → finite.get deadlines t ≡ Some until → TimerFits d t
 
--- an actor of the set sent it, its signal is one of the set's, its parameters have that signal's
--- sorts, and a route carries it to the environment
+-- an actor of the set sent it, the signal is one of the set, its parameters have its sorts, and a
+-- route carries it to the environment
 pub record EmittedFits (d : Draft) (x : Emitted) : Type 0 where
   pub number : ℕ
   pub sender : IsCalled d number x.sender
@@ -114,7 +114,7 @@ pub record EmittedFits (d : Draft) (x : Emitted) : Type 0 where
   pub sorts : map sort_of x.parameters.items ≡ parameters_of (slice_get d.signals x.signal.0)
   pub reaches : Reaches d.routes x.sender.process.0 Environment x.signal
 
--- all of a link: its actors are those of the set
+-- the whole link fits: its actors are those of the set
 pub record CoreFits (d : Draft) (w : Core) : Type 0 where
   pub each : (n : ℕ) (a : Actor) → slice_get w.actors n ≡ Some a → ActorFits d a
   pub names : names_in w.actors ≡ actors_of d.processes

@@ -1,5 +1,5 @@
--- What is full, or has stopped, is told by name, at its place and once, and nothing else is told
--- so.
+-- Refusals and losses as Full, EnvFull and Stopped are exact; losses are in the order of their
+-- places, without duplicates.
 use Rattle.std.specs.Prelude.{◌≡◌, ℕ, ◌<◌, ◌↔◌, true, false, List, [], ◌∷◌, ◌++◌, take, Some}
 use Rattle.std.specs.Prelude.{slice_get}
 use Rattle.std.specs.List.{AllByRecursion}
@@ -29,7 +29,7 @@ use Rattle.actor_machine.specs.declared.reply.Lost.{Lost}
 use Rattle.actor_machine.specs.declared.reply.Refusal.TheVariants.{Full}
 use Rattle.actor_machine.specs.declared.reply.Reply.TheVariants as reply
 
--- actor n is there, hasn't stopped, and its port is full
+-- actor n exists, hasn't stopped, and its port is full
 pub record HasFullPort (actors : List Actor) (n : ℕ) (a : Actor) : Type 0 where
   pub there : slice_get actors n ≡ Some a
   pub place : Place
@@ -42,7 +42,7 @@ pub record MeetsFull (d : Draft) (actors : List Actor) (o : Offered) : Type 0 wh
   pub port : HasFullPort actors o.actor actor
   pub offered : is_offered d actor.name.process.0 o.signal o.values.items ≡ true
 
--- an output of an actor that is called `me` goes to an actor whose port is full
+-- an output of the actor `me` goes to an actor whose port is full
 pub record FindsFull (me : ActorName) (w : Core) (s : Sending) : Type 0 where
   pub process : ProcessNumber
   pub to : s.receiver.party ≡ Process process
@@ -51,7 +51,7 @@ pub record FindsFull (me : ActorName) (w : Core) (s : Sending) : Type 0 where
   pub actor : Actor
   pub port : HasFullPort w.actors number actor
 
--- an output of an actor that is called `me` goes to an actor that has stopped
+-- an output of the actor `me` goes to an actor that has stopped
 pub record FindsStopped (me : ActorName) (w : Core) (s : Sending) : Type 0 where
   pub process : ProcessNumber
   pub to : s.receiver.party ≡ Process process
@@ -64,33 +64,33 @@ pub record FindsStopped (me : ActorName) (w : Core) (s : Sending) : Type 0 where
 abbrev pub lost_at : ℕ → Cause → Lost
 lost_at place c = record { place = place; cause = c }
 
--- the effect at this place stands among the losses, with this cause
+-- the effect at this place is among the losses, with this cause
 pub record IsLost (lost : List Lost) (place : ℕ) (c : Cause) : Type 0 where
   pub before : List Lost
   pub after : List Lost
   pub is : lost ≡ before ++ lost_at place c ∷ after
 
--- an output stands at this place of the effects
+-- the effect at this place is an output
 pub record IsOutput (es : List Effect) (place : ℕ) : Type 0 where
   pub sending : Sending
   pub there : slice_get es place ≡ Some (Output sending)
 
--- each loss stands at the place of an output, and those behind it at later places
+-- each loss has the place of an output, and all later losses have greater places
 abbrev pub AreInOrder : List Effect → List Lost → Type 0
 AreInOrder es [] = Unit {0}
 AreInOrder es (x ∷ xs) =
     IsOutput es x.place × AllByRecursion (λ (y : Lost). x.place < y.place) xs × AreInOrder es xs
 
--- the link as the effect at this place comes, of a turn that actor n, called `me`, ends so
+-- the link just before the effect at `place` of a turn of actor n, named `me`, that ends with o
 abbrev pub behind : ℕ → ActorName → Outcome → Core → ℕ → Core
 behind n me o w place = laid_all n me (started n o w) (take place o.progress.effects)
 
--- A signal from the environment is refused as B1 Full exactly where a route brings it to a full
--- port, of an actor that hasn't stopped, whatever the turns mean. Of the outputs of a turn that
--- ends, the report tells with their places, as Full exactly those to a full port of an actor that
--- hasn't stopped, as EnvFull exactly those to a full environment, and as Stopped, of those that
--- have a receiver, exactly those to an actor that has stopped. It tells of places of outputs alone,
--- in order, so of none twice.
+-- A signal from the environment is refused as B1 Full exactly if a route brings it to an actor that
+-- hasn't stopped and whose port is full, for any meaning of the turns. The report of a turn lists
+-- outputs that are lost, with their places. Full: exactly those to a full port of an actor that
+-- hasn't stopped. EnvFull: exactly those to a full environment. Stopped: of those that have a
+-- receiver, exactly those to an actor that has stopped. It lists only outputs, in increasing order
+-- of their places.
 pub record FullLaw : Type 0 where
   pub offer :
       (m : Meaning) (b : Ledger) (o : Offered)

@@ -1,6 +1,6 @@
--- What holds of every book: all fits in each state from its base to the present one, its numbers
--- stay within their bounds, each turn that is out has a number of its own, and no timer that has a
--- deadline has a signal waiting.
+-- The invariant of every book. All fits in each state from its base to the present one, and its
+-- numbers stay within their bounds. Different turns that are out have different numbers. No timer
+-- that has a deadline has a signal in the port.
 use Rattle.std.specs.Prelude.{◌≡◌, ℕ, ◌+◌, ◌*◌, ◌<◌, ◌≤◌, Bool, true, false, suc, List, [], ◌∷◌}
 use Rattle.std.specs.Prelude.{◌++◌, length, map, count_by, None, Some, slice_get}
 use Rattle.std.specs.FinMap as finite
@@ -40,14 +40,14 @@ is_finish (Finish n) = true
 is_finish (Advance k) = false
 is_finish TakeEnv = false
 
--- the set is valid, all fits along the journal, and each turn's end in the journal is counted
+-- the set is valid, all fits along the journal, and the end of each turn in it is counted
 pub record Stands (b : Ledger) : Type 0 where
   pub valid : IsValid b.set
   pub along : FitsAlong b.set b.base b.journal
   pub finishes : (state_of b).finishes ≡ b.base.finishes + count_by is_finish b.journal
 
--- the journal keeps a place for each turn that is out, each turn that began is out or has ended,
--- and all numbers stay within their bounds
+-- the journal keeps a place for each turn that is out; each turn begun is out or has ended; all
+-- numbers stay within their bounds
 pub record IsBounded (b : Ledger) (w : Core) : Type 0 where
   pub room : length b.journal + outs w.actors ≤ b.limit
   pub places : b.first + length b.journal + outs w.actors ≤ LAST_PLACE + b.limit
@@ -63,19 +63,19 @@ pub record HasOut (actors : List Actor) (n : ℕ) (g : Given) : Type 0 where
   pub there : slice_get actors n ≡ Some actor
   pub out : actor.given ≡ Some g
 
--- each turn that is out has a number of its own, below that of the next turn
+-- different turns that are out have different numbers, all below that of the next turn
 pub record AreNumbered (w : Core) : Type 0 where
   pub below : (n : ℕ) (g : Given) → HasOut w.actors n g → g.turn < w.turns
   pub apart :
       (m n : ℕ) (f g : Given) → HasOut w.actors m f → HasOut w.actors n g → f.turn ≡ g.turn → m ≡ n
 
--- of actor n: a timer that has a deadline has no signal waiting in the port
+-- no timer of actor n that has a deadline has a signal in the port
 abbrev pub IsSilent : Deadlines → ℕ → Actor → Type 0
 IsSilent deadlines n a =
     (timer until : ℕ) → finite.get deadlines (timer_of n timer) ≡ Some until
     → has_timer a.port.items timer ≡ false
 
--- so of each actor
+-- this holds of each actor
 pub record AreSilent (w : Core) : Type 0 where
   pub each : (n : ℕ) (a : Actor) → slice_get w.actors n ≡ Some a → IsSilent w.timers.deadlines n a
 
@@ -87,7 +87,7 @@ pub record IsKept (b : Ledger) : Type 0 where
 
 -- ---- how a book begins
 
--- an actor of a process before its START, with room for so many signals
+-- an actor of a process before its START, with room for `port` signals
 abbrev pub opened_actor : ℕ → DraftProcess → ActorName → Actor
 opened_actor port p name = record {
   name = name;
@@ -97,7 +97,7 @@ opened_actor port p name = record {
   given = None;
 }
 
--- the actors of processes, of which the first is process n
+-- the actors of some processes, the first of which is process n
 abbrev pub opened_from : ℕ → ℕ → List DraftProcess → List Actor
 opened_from port n [] = []
 opened_from port n (p ∷ ps) =

@@ -1,4 +1,4 @@
--- What follows from the machine alone, for every book and every list of events.
+-- Laws that follow from the machine for every book and every list of events.
 use Rattle.std.specs.Prelude.{◌≡◌, ◌≢◌, ℕ, ◌+◌, ◌<◌, ◌≤◌, ◌↔◌, List, [], ◌∷◌, None, Some, slice_get}
 use Rattle.plain_laws.specs.Limits.{MOST_JOURNAL, PAST_PLACES}
 use Rattle.turn_code.specs.Outcome.{Outcome, Meaning, Means}
@@ -28,7 +28,7 @@ use Rattle.actor_machine.specs.declared.event.Event.TheVariants.{Advance, TakeEn
 use Rattle.actor_machine.specs.declared.reply.Refusal.TheVariants.{Stranger}
 use Rattle.actor_machine.specs.declared.reply.Reply.TheVariants as reply
 
--- an event, a list of events and a rebase keep what holds of every book, and a book begins with it
+-- an opened book has the invariant, and an event, a list of events and a rebase keep it
 pub record KeepsLaw : Type 0 where
   pub asks : (b : Ledger) (e : Event) → IsKept b → IsKept (ask b e).book
   pub lists : (b : Ledger) (es : List Event) → IsKept b → IsKept (after_by (runs b.set) b es)
@@ -37,7 +37,7 @@ pub record KeepsLaw : Type 0 where
       (d : Draft) (port env journal : ℕ) → IsValid d → journal ≤ MOST_JOURNAL
       → IsKept (opened_book d port env journal)
 
--- no event and no rebase changes the set of processes, or how many events the journal may hold
+-- no event and no rebase changes the set of processes or the limit of the journal
 pub record SetLaw : Type 0 where
   pub asks : (b : Ledger) (e : Event) → (ask b e).book.set ≡ b.set
   pub lists : (b : Ledger) (es : List Event) → (after_by (runs b.set) b es).set ≡ b.set
@@ -52,12 +52,12 @@ StateLaw = (b : Ledger) (e : Event) → refusal_by (runs b.set) b e ≡ None
 abbrev pub FitsLaw : Type 0
 FitsLaw = (b : Ledger) → IsKept b → CoreFits b.set (state_of b)
 
--- in no state of a book has a timer that has a deadline a signal waiting
+-- no timer that has a deadline has a signal in the port, in any state of a book
 abbrev pub TimerLaw : Type 0
 TimerLaw = (b : Ledger) → IsKept b → AreSilent (state_of b)
 
--- a list of events has the same answers, and leaves the same book in the same state, by the code of
--- the set and by anything that the set means
+-- a list of events has the same answers and leaves the same book in the same state, by the code of
+-- the set and by any meaning of the set
 pub record SameByText (act : Meaning) (b : Ledger) (es : List Event) : Type 0 where
   pub answers : answers_by act b es ≡ answers_by (runs b.set) b es
   pub book : after_by act b es ≡ after_by (runs b.set) b es
@@ -68,7 +68,7 @@ TextLaw = (act : Meaning) (b : Ledger) (es : List Event) → IsKept b → Means 
     → SameByText act b es
 
 -- a turn that is out ends by the run of its own code on its own input, within its certificate's
--- budget, each of its outputs has a receiver, and the answer tells it
+-- budget; the answer reports the end, and each of its outputs has a receiver
 pub record FinishesWithin (b : Ledger) (n : ℕ) (t : Turn) : Type 0 where
   pub outcome : Outcome
   pub ran : outcome_of t ≡ Some outcome
@@ -83,7 +83,7 @@ abbrev pub FinishLaw : Type 0
 FinishLaw =
     (b : Ledger) (n : ℕ) (t : Turn) → IsKept b → turn_out b n ≡ Some t → FinishesWithin b n t
 
--- so where the event is the end of a turn
+-- this holds if the event is the end of a turn
 abbrev pub WithinAt : Ledger → Event → Type 0
 WithinAt b (Offer o) = Unit {0}
 WithinAt b (Begin n) = Unit {0}
@@ -92,7 +92,7 @@ WithinAt b (Finish n) = (t : Turn) → turn_out b n ≡ Some t → FinishesWithi
 WithinAt b (Advance k) = Unit {0}
 WithinAt b TakeEnv = Unit {0}
 
--- so along a list of events
+-- this holds along a list of events
 abbrev pub AllWithin : Ledger → List Event → Type 0
 AllWithin b [] = Unit {0}
 AllWithin b (e ∷ es) = WithinAt b e × AllWithin (ask b e).book es
@@ -100,7 +100,7 @@ AllWithin b (e ∷ es) = WithinAt b e × AllWithin (ask b e).book es
 abbrev pub WithinLaw : Type 0
 WithinLaw = (b : Ledger) (es : List Event) → IsKept b → AllWithin b es
 
--- a finish is refused where the actor has no turn out, there alone, and by one name
+-- a finish is refused exactly if the actor has no turn out, and always by the same name
 pub record OutLaw : Type 0 where
   pub stranger :
       (b : Ledger) (n : ℕ) → IsKept b
@@ -113,7 +113,7 @@ pub record IsOver (w : Core) (turn : ℕ) : Type 0 where
   pub began : turn < w.turns
   pub nowhere : (n : ℕ) (g : Given) → HasOut w.actors n g → g.turn ≢ turn
 
--- a turn that has ended is over, and stays so: nobody has a turn with its number out again
+-- a turn that has ended is over, and stays so: no actor ever has a turn with its number out again
 pub record OverLaw : Type 0 where
   pub ends : (b : Ledger) (n : ℕ) (t : Turn) → IsKept b → turn_out b n ≡ Some t
       → IsOver (state_of (ask b (Finish n)).book) t.turn
@@ -126,8 +126,8 @@ pub record OverLaw : Type 0 where
       (b : Ledger) (turn : ℕ) → IsOver (state_of b) turn → IsOver (state_of (rebased b)) turn
   pub none : (b : Ledger) (n : ℕ) (t : Turn) → IsOver (state_of b) t.turn → turn_out b n ≢ Some t
 
--- what may wait for a process fits each input of each of its states that waits for it, the first
--- one too, with any variables that fit the state
+-- an item that may wait for a process fits each input that waits for it, in each of its states,
+-- with any variables that fit the state; the first such input too
 pub record ItemLaw : Type 0 where
   pub each : (d : Draft) (n : ℕ) (p : DraftProcess) (a : Actor) (x : Item) (q : StateNumber) (i : ℕ)
       (t : Transition)
@@ -141,8 +141,8 @@ pub record ItemLaw : Type 0 where
       → ItemFits d n p x → IsReadyAt p q.0 a.variables.items
       → input_for d n q.0 x ≡ Some i → Fits d n (State q) i (input_with a (Some x))
 
--- an accepted event gets the next place and stays there as others come; a rebase takes all away and
--- leaves the next place
+-- an accepted event gets the next place and stays there as others follow; a rebase removes all
+-- events and leaves the next place unchanged
 pub record PlaceLaw : Type 0 where
   pub accepted :
       (b : Ledger) (e : Event) → refusal_by (runs b.set) b e ≡ None

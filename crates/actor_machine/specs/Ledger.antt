@@ -1,5 +1,5 @@
--- The history of a link: a base state, and the events since then. The state at any time is the
--- replay of these.
+-- The history of a link: a base state, and the events since then. Replaying the events from the
+-- base yields the present state.
 use Rattle.std.specs.Prelude.{ℕ, ◌+◌, ◌-◌, List, [], ◌∷◌, ◌++◌, length, Option, None, Some, Result}
 use Rattle.std.specs.Prelude.{Err, slice_get, nat_lt, nat_le, if◌then◌else◌}
 use Rattle.plain_laws.specs.Limits.{LAST_PLACE}
@@ -25,7 +25,7 @@ use Rattle.actor_machine.specs.declared.reply.Refusal.{Refusal}
 use Rattle.actor_machine.specs.declared.reply.Reply.TheVariants as reply
 
 -- the set of processes, the state where the journal begins, the place of its first event, its
--- events in order, and how many it may hold
+-- events in order, and its limit
 pub record Ledger : Type 0 where
   pub set : Draft
   pub base : Core
@@ -33,14 +33,14 @@ pub record Ledger : Type 0 where
   pub journal : List Event
   pub limit : ℕ
 
--- ---- the meaning of turns that the code of a set has
+-- ---- the meaning of turns by the code of a set
 
--- where there is no such transition, that is outside of the code
+-- without such a transition the trouble is `Outside`
 abbrev pub run_of : Option Transition → Input → Result Outcome Trouble
 run_of None x = Err Outside
 run_of (Some t) x = result_in (run t.piece.code x)
 
--- what the set's own code does
+-- the run of the set's own code
 unfoldable pub runs : Draft → Meaning
 runs d p s i x = run_of (transition_at d p s i) x
 
@@ -64,18 +64,18 @@ state_of b = state_by (runs b.set) b
 abbrev pub next : Ledger → ℕ
 next b = b.first + length b.journal
 
--- the event at a place, none at a place before the first and at one that is still to come
+-- the event at a place; none before the first place and from the next place on
 abbrev pub event_at : Ledger → ℕ → Option Event
 event_at b place = if nat_lt place b.first then None else slice_get b.journal (place - b.first)
 
--- how many places are free: each turn that is out keeps one, and from a last place on none is
+-- the number of free places: each turn that is out keeps one, and none is free after the last place
 unfoldable pub room : Ledger → Core → ℕ
 room b w = if nat_le LAST_PLACE (next b) then 0 else b.limit - (length b.journal + outs w.actors)
 
 abbrev pub refusal_by : Meaning → Ledger → Event → Option Refusal
 refusal_by m b e = refuses_in b.set (state_by m b) (room b (state_by m b)) e
 
--- the book after an event, and what is answered
+-- the book after an event, and the answer
 pub record Asked : Type 0 where
   pub book : Ledger
   pub answer : Answer
@@ -88,7 +88,7 @@ asked b e s (Some r) = record { book = b; answer = Says (reply.Refused r) }
 unfoldable pub ask_by : Meaning → Ledger → Event → Asked
 ask_by m b e = asked b e (step b.set m (state_by m b) e) (refusal_by m b e)
 
--- the same by the set's own code
+-- as `ask_by`, with the set's own code
 abbrev pub ask : Ledger → Event → Asked
 ask b e = ask_by (runs b.set) b e
 
@@ -108,7 +108,7 @@ after_by m b (e ∷ es) = after_by m (ask_by m b e).book es
 
 -- ---- the turn that an actor has out
 
--- of actor n, which is of process p
+-- the turn of actor n, which is an instance of process p
 abbrev pub turn_with : ℕ → ProcessNumber → Place → Given → Option Transition → Option Turn
 turn_with n p s g None = None
 turn_with n p s g (Some t) =

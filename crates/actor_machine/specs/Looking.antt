@@ -18,7 +18,7 @@ use Rattle.actor_machine.specs.declared.actor.Standing.TheVariants.{At, Stopped}
 use Rattle.actor_machine.specs.declared.found.Found.{Found}
 use Rattle.actor_machine.specs.declared.found.Found.TheVariants as found
 
--- what an input or a SAVE would name an item by
+-- the signal or timer by which an input or a SAVE names an item
 abbrev pub trigger_of : Item → Trigger
 trigger_of (item.Signal arrival) = Signal arrival.signal
 trigger_of (item.Timer timer) = Timer timer
@@ -27,18 +27,18 @@ trigger_of (item.Timer timer) = Timer timer
 abbrev pub is_saved : Draft → ℕ → ℕ → Item → Bool
 is_saved d n q x = list_any (same_trigger (trigger_of x)) (saves_at d n q)
 
--- which input of state q the item is, the first in text order
+-- the first input of state q, in text order, that waits for the item
 abbrev pub input_for : Draft → ℕ → ℕ → Item → Option ℕ
 input_for d n q x = input_waiting d n q (trigger_of x)
 
--- the first item that isn't saved where the actor is; there is none at START and behind a STOP,
--- where nothing is taken
+-- the first item that isn't saved in the actor's state; none at START and after a STOP, where no
+-- item is taken
 abbrev pub item_at : Draft → ℕ → Standing → List Item → Option Item
 item_at d n (At (State q)) xs = first_unsaved (is_saved d n q.0) xs
 item_at d n (At Start) xs = None
 item_at d n Stopped xs = None
 
--- the items without that one
+-- the items without the one that is taken
 abbrev pub left_at : Draft → ℕ → Standing → List Item → List Item
 left_at d n (At (State q)) xs = without_first (is_saved d n q.0) xs
 left_at d n (At Start) xs = xs
@@ -57,13 +57,12 @@ found_at d n (At (State q)) xs = found_item d n q.0 (first_unsaved (is_saved d n
 found_at d n (At Start) xs = found.Start
 found_at d n Stopped xs = found.Nothing
 
--- what an actor of the set finds
+-- the result of an actor's look into its port
 unfoldable pub looks : Draft → Actor → Found
 looks d a = found_at d a.name.process.0 a.standing a.port.items
 
--- ---- what a turn is given: the variables, the parameters and the sender of the item that is
--- taken; START is given the variables alone, and a timer's signal has neither parameters nor a
--- sender
+-- ---- the input of a turn: the variables, and the parameters and sender of the item that is taken;
+-- START and the signal of a timer have neither parameters nor a sender
 
 abbrev pub first_input : Actor → Input
 first_input a =
@@ -79,14 +78,14 @@ input_with a (Some (item.Signal arrival)) =
     }
 input_with a (Some (item.Timer timer)) = first_input a
 
--- the number of the input that is found, 0 at START
+-- the number of the input that is found; 0 at START
 abbrev pub number_in : Found → ℕ
 number_in found.Nothing = 0
 number_in found.Start = 0
 number_in (found.Input i) = i
 number_in found.Ignored = 0
 
--- ---- what begins and skips leave of an actor
+-- ---- the actor after a begin or a skip
 
 abbrev pub taken : Draft → Actor → List Item
 taken d a = left_at d a.name.process.0 a.standing a.port.items

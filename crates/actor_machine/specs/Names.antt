@@ -17,8 +17,8 @@ abbrev pub instances_from : ℕ → ℕ → ℕ → List ActorName
 instances_from p k zero = []
 instances_from p k (suc n) = named p k ∷ instances_from p (suc k) n
 
--- the actors of processes with so many instances each, the first of which is process p: by process,
--- then by instance
+-- the actors of processes with these numbers of instances, the first of which is process p: by
+-- process, then by instance
 abbrev pub names_from : ℕ → List ℕ → List ActorName
 names_from p [] = []
 names_from p (n ∷ ns) = instances_from p 1 n ++ names_from (suc p) ns
@@ -33,7 +33,7 @@ actors_of ps = names_from 0 (counts_of ps)
 abbrev pub same_actor : ActorName → ActorName → Bool
 same_actor x y = if x.process.0 == y.process.0 then x.instance.0 == y.instance.0 else false
 
--- the first place where a name stands
+-- the first place of a name in a list
 abbrev pub place_of : ActorName → List ActorName → Option ℕ
 place_of x [] = None
 place_of x (y ∷ ys) = if same_actor x y then Some 0 else option_map (λ n. suc n) (place_of x ys)
@@ -42,15 +42,15 @@ place_of x (y ∷ ys) = if same_actor x y then Some 0 else option_map (λ n. suc
 abbrev pub address_of : ActorName → Address
 address_of x = record { party = Process x.process; instance = Some x.instance }
 
--- ---- who gets a signal
+-- ---- the receiver of a signal
 
 abbrev pub first_some : Option ℕ → Option ℕ → Option ℕ
 first_some None o = o
 first_some (Some n) o = Some n
 
--- The number of the actor that gets a signal of an actor to a process: where an instance is named,
--- which is so where it goes to a sender, that instance; else the instance with the sender's own
--- number where the process has one, and its first one where it has none.
+-- The number of the actor that receives a signal from `me` to process p. If an instance is named,
+-- as in a signal TO SENDER, it is that one. Otherwise it is the instance with the number of `me`,
+-- or the first instance if the process has no such one.
 abbrev pub number_for :
     List ActorName → ActorName → ProcessNumber → Option InstanceNumber → Option ℕ
 number_for names me p (Some k) = place_of (record { process = p; instance = k }) names

@@ -1,4 +1,4 @@
--- Who gets the outputs of a turn.
+-- The receivers of the outputs of a turn.
 use Rattle.std.specs.Prelude.{◌≡◌, ℕ, List, Option, Some, slice_get}
 use Rattle.std.specs.List.{AllByRecursion}
 use Rattle.turn_code.specs.declared.numbers.ProcessNumber.{ProcessNumber}
@@ -10,7 +10,7 @@ use Rattle.turn_code.specs.declared.effect.Effect.TheVariants.{Output, Set, Rese
 use Rattle.actor_machine.specs.Names.{number_for}
 use Rattle.actor_machine.specs.declared.name.ActorName.{ActorName}
 
--- of actors with these names one of process p gets what an actor that is called `me` sends there
+-- one of the actors with these names, of process p, receives a signal from `me` to that process
 pub record IsGot (names : List ActorName) (me : ActorName) (p : ProcessNumber)
     (k : Option InstanceNumber) : Type 0 where
   pub number : ℕ
@@ -19,7 +19,7 @@ pub record IsGot (names : List ActorName) (me : ActorName) (p : ProcessNumber)
   pub there : slice_get names number ≡ Some name
   pub process : name.process ≡ p
 
--- so, or the environment does
+-- an actor or the environment receives the signal
 abbrev pub HasReceiver :
     List ActorName → ActorName → Party → Option InstanceNumber → Type 0
 HasReceiver names me Environment k = Unit {0}
@@ -31,6 +31,6 @@ IsReceived names me (Output s) = HasReceiver names me s.receiver.party s.receive
 IsReceived names me (Set t z) = Unit {0}
 IsReceived names me (Reset t) = Unit {0}
 
--- so each of them
+-- each output has a receiver
 abbrev pub AreReceived : List ActorName → ActorName → List Effect → Type 0
 AreReceived names me es = AllByRecursion (IsReceived names me) es

@@ -1,5 +1,5 @@
--- When an event is refused, and by which name. The rows of each call stand in the order in which
--- they are tested; the room of the journal comes last.
+-- When an event is refused, and by which name. The rows of each call are in the order in which they
+-- are tested; the room of the journal comes last.
 use Rattle.std.specs.Prelude.{ℕ, ◌+◌, ◌==◌, Bool, true, false, not, ◌&&◌, List, [], ◌∷◌, length}
 use Rattle.std.specs.Prelude.{map, Option, None, Some, slice_get, nat_lt, nat_le, if◌then◌else◌}
 use Rattle.std.specs.List.{list_any}
@@ -70,7 +70,7 @@ same_sorts [] (y ∷ ys) = false
 same_sorts (x ∷ xs) [] = false
 same_sorts (x ∷ xs) (y ∷ ys) = same_sort x y && same_sorts xs ys
 
--- a route brings the signal, which is there, from the environment to process n, and the values have
+-- the signal is declared, a route brings it from the environment to process n, and the values have
 -- the sorts of its parameters
 unfoldable pub is_offered : Draft → ℕ → SignalNumber → List Value → Bool
 is_offered d n s vs = list_any (offers n s) d.routes
@@ -98,7 +98,7 @@ is_ignored found.Start = false
 is_ignored (found.Input i) = false
 is_ignored found.Ignored = true
 
--- as many turns as can be counted have begun
+-- the greatest number of turns has begun
 abbrev pub is_counted_out : ℕ → Bool
 is_counted_out turns = nat_le MOST_TURNS_BEGUN turns
 
@@ -136,7 +136,7 @@ abbrev pub of_actor : (Actor → Option Refusal) → Option Actor → Option Ref
 of_actor f None = Some NoActor
 of_actor f (Some a) = f a
 
--- why a link refuses an event, its journal aside
+-- why a link refuses an event, if the journal has room
 unfoldable pub refuses : Draft → Core → Event → Option Refusal
 refuses d w (Offer o) = of_actor (λ a. first_of (offer_rows d o a)) (slice_get w.actors o.actor)
 refuses d w (Begin n) = of_actor (λ a. first_of (begin_rows d w.turns a)) (slice_get w.actors n)
@@ -145,7 +145,7 @@ refuses d w (Finish n) = finish_row (slice_get w.actors n)
 refuses d w (Advance k) = first_of (advance_rows w.timers.clock k)
 refuses d w TakeEnv = empty_row w.ring
 
--- how many places of the journal have to be free: a turn that begins keeps one for its end
+-- the number of free places that an event needs: a turn that begins keeps one for its end
 abbrev pub needs : Event → ℕ
 needs (Offer o) = 1
 needs (Begin n) = 2
@@ -158,6 +158,6 @@ abbrev pub with_room : ℕ → Event → Option Refusal → Option Refusal
 with_room room e None = if nat_lt room (needs e) then Some JournalFull else None
 with_room room e (Some r) = Some r
 
--- why a link whose journal has so many free places refuses an event
+-- why a link whose journal has this many free places refuses an event
 abbrev pub refuses_in : Draft → Core → ℕ → Event → Option Refusal
 refuses_in d w room e = with_room room e (refuses d w e)

@@ -1,5 +1,5 @@
--- The machine of a link: what an accepted event makes of its state, and what is answered (Z.100,
--- the behaviour of a set of processes).
+-- The machine of a link: the next state and the answer of an accepted event (Z.100, the behaviour
+-- of a set of processes).
 use Rattle.std.specs.Prelude.{ℕ, ◌+◌, List, [], ◌∷◌, length, Option, None, Some, Result, Ok, Err}
 use Rattle.std.specs.Prelude.{slice_get}
 use Rattle.turn_code.specs.Run.{of_party}
@@ -33,15 +33,15 @@ use Rattle.actor_machine.specs.declared.reply.Report.{Report}
 use Rattle.actor_machine.specs.declared.reply.Reply.{Reply}
 use Rattle.actor_machine.specs.declared.reply.Reply.TheVariants as reply
 
--- What the machine answers: that a turn gets stuck, and in which trouble, or what a link replies.
--- No reply says the first: a turn that reads a variable that isn't set, meets an operand of the
--- wrong sort or one that isn't there, has no next state, no receiver or no answer, or leaves its
--- code.
+-- An answer: the trouble in which a turn gets stuck, or a reply of the link. No reply is of the
+-- first kind. A turn gets stuck if it reads a variable that isn't set, meets an operand that is
+-- missing or of the wrong sort, has no next state, no receiver or no answer to a DECISION, or
+-- leaves its code.
 pub data Answer : Type 0 where
   Stuck : Trouble → Answer
   Says : Reply → Answer
 
--- what an event makes of the state, and what is answered
+-- the next state and the answer of an event
 pub record Stepped : Type 0 where
   pub to : Core
   pub answer : Answer
@@ -76,7 +76,7 @@ skip_reply d (Some a) = skip_reply_of (item_at d a.name.process.0 a.standing a.p
 
 -- ---- finishes
 
--- how the turn that an actor of process p has out ends, by a meaning of turns; none where it has
+-- the result of the turn that an actor of process p has out, by a meaning of turns; none if it has
 -- none out
 abbrev pub result_given : Meaning → ℕ → Standing → Option Given → Option (Result Outcome Trouble)
 result_given m p (At s) (Some g) = Some (m p s g.number g.input)
@@ -87,7 +87,7 @@ abbrev pub report_of : ℕ → ActorName → Outcome → Core → Report
 report_of n me o w =
     record { end = o.end; count = o.progress.count; lost = record { items = lost_in n me o w } }
 
--- actor n, which is called `me`, ends its turn so
+-- actor n, named `me`, ends its turn with this result
 abbrev pub finish_by : ℕ → ActorName → Core → Option (Result Outcome Trouble) → Stepped
 finish_by n me w None = record { to = w; answer = Says (reply.Refused Stranger) }
 finish_by n me w (Some (Err x)) = record { to = w; answer = Stuck x }
@@ -100,7 +100,7 @@ finish_at m n w (Some a) = finish_by n a.name w (result_given m a.name.process.0
 
 -- ---- the clock and the environment
 
--- each due timer's signal comes to its actor's port, in order
+-- the signal of each due timer goes to its actor's port, in order
 abbrev pub notified : List Actor → List Due → List Actor
 notified actors [] = actors
 notified actors (x ∷ xs) = notified (change actors x.timer.actor (hears x.timer.number)) xs
@@ -127,7 +127,7 @@ take_reply (x ∷ xs) = reply.Taken x
 
 -- ---- all events
 
--- an event that isn't refused, by a meaning of turns
+-- the step of an event that isn't refused, by a meaning of turns
 unfoldable pub step : Draft → Meaning → Core → Event → Stepped
 step d m w (Offer o) =
     record {

@@ -15,25 +15,25 @@ pub struct Offer {
     pub values: ArrayVec<Value, 4>,
 }
 
-/// What may happen to a link. The actors are named by their numbers.
+/// An event of a link. Actors are named by their numbers.
 #[derive(Drop)]
 pub enum Event {
     /// The environment sends a signal.
     Offer(Offer),
     /// An actor begins a turn.
     Begin(u16),
-    /// An actor throws away a signal that its state has no input for.
+    /// An actor discards a signal that its state has no input for.
     Skip(u16),
     /// An actor ends the turn that it has out.
     Finish(u16),
-    /// So many ticks pass.
+    /// This many ticks pass.
     Advance(u64),
     /// The environment takes the signal that has waited longest for it.
     TakeEnv,
 }
 
 impl Offer {
-    /// The same once more. It can't fail.
+    /// A copy. It can't fail.
     pub fn copy(&self) -> Offer
         ensures { result ≡ self.now }
     {
@@ -44,7 +44,7 @@ impl Offer {
         }
     }
 
-    /// Whether it is the same signal with the same values, to the same actor.
+    /// Whether it is the same signal with equal values, to the same actor.
     pub fn same(&self, other: &Offer) -> bool
         ensures { IsTrue result ↔ (self.now ≡ other.now) }
     {
@@ -55,7 +55,7 @@ impl Offer {
 }
 
 impl Event {
-    /// The same event once more. It can't fail.
+    /// A copy of the event. It can't fail.
     pub fn copy(&self) -> Event
         ensures { result ≡ self.now }
     {
@@ -69,7 +69,7 @@ impl Event {
         }
     }
 
-    /// Whether it is the same event.
+    /// Whether the two events are equal.
     pub fn same(&self, other: &Event) -> bool
         ensures { IsTrue result ↔ (self.now ≡ other.now) }
     {

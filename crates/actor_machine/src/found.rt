@@ -1,9 +1,9 @@
-//! What an actor finds as its turn comes.
+//! What an actor finds in its port when it may begin a turn.
 
-/// What an actor finds as it looks into its port.
+/// What an actor finds when it looks into its port.
 #[derive(Clone, Copy, PartialEq, Eq, Debug)]
 pub enum Found {
-    /// It has stopped, or its state saves each item that waits.
+    /// It has stopped, or no item waits that its state doesn't save.
     Nothing,
     /// It is at START, which waits for nothing.
     Start,

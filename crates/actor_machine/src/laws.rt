@@ -1,4 +1,4 @@
-//! What follows from the machine alone. Each call costs nothing.
+//! Laws that follow from the machine. A call does nothing at run time.
 
 ghost use Rattle.actor_machine.specs.Full.{FullLaw};
 ghost use Rattle.actor_machine.specs.Laws.{KeepsLaw, SetLaw, StateLaw, FitsLaw, TimerLaw, ItemLaw, TextLaw, FinishLaw, WithinLaw, NeverStuckLaw, OutLaw, OverLaw, PlaceLaw};
@@ -6,9 +6,9 @@ ghost use Rattle.actor_machine.specs.Laws.{KeepsLaw, SetLaw, StateLaw, FitsLaw, 
 use tick_wheel::laws::due_law;
 use turn_code::laws::{effects_law, run_law, safe_law, start_law};
 
-/// A book begins with what holds of every book, and each event, each list of events and each rebase keeps it: all fits in each state from its base
-/// to the present one, its numbers stay within their bounds, each turn that is out has a number of its own, and no timer that has a deadline has a
-/// signal waiting.
+/// An opened book has the invariant, and each event, each list of events and each rebase keeps it. All fits in each
+/// state from its base to the present one, and its numbers stay within their bounds. Turns that are out have different
+/// numbers. No timer that has a deadline has a signal in the port.
 pub fn keeps_law()
     ensures { KeepsLaw }
 {
@@ -19,7 +19,7 @@ pub fn keeps_law()
     due_law();
 }
 
-/// No event and no rebase changes the set of processes, or how many events the journal may hold.
+/// No event and no rebase changes the set of processes or the limit of the journal.
 pub fn set_law()
     ensures { SetLaw }
 {}
@@ -34,19 +34,19 @@ pub fn fits_law()
     ensures { FitsLaw }
 {}
 
-/// In no state of a book, so in none to which any list of events leads, has a timer that has a deadline (one that `Wheel::is_active` names) a signal
-/// waiting in its actor's port: the signal comes as the deadline goes, and a SET, a RESET and a STOP take it away.
+/// No timer that has a deadline (one that `Wheel::is_active` names) has a signal in its actor's port, in any state of a
+/// book. The deadline goes as the signal comes, and SET, RESET and STOP remove the signal.
 pub fn timer_law()
     ensures { TimerLaw }
 {}
 
-/// What may wait for a process fits each input that waits for it, in every state of the process.
+/// An item that may wait for a process fits each input that waits for it, in every state of the process.
 pub fn item_law()
     ensures { ItemLaw }
 {}
 
-/// Any list of events has the same answers, and leaves the same book in the same state, by the code of the set and by what
-/// it means.
+/// Any list of events has the same answers and leaves the same book in the same state, by the code of the set and by
+/// any meaning of the set.
 pub fn text_law()
     ensures { TextLaw }
 {
@@ -56,8 +56,8 @@ pub fn text_law()
     due_law();
 }
 
-/// A turn that is out ends by the run of its own code on its own input, within the budget of its certificate, and each of its outputs has a
-/// receiver: the environment, or an actor of the process that it goes to.
+/// A turn that is out ends by the run of its own code on its own input, within the budget of its certificate. Each of
+/// its outputs has a receiver: the environment, or an actor of the process that it goes to.
 pub fn finish_law()
     ensures { FinishLaw }
 {
@@ -77,7 +77,7 @@ pub fn within_law()
     due_law();
 }
 
-/// The end of a turn is refused where the actor has no turn out, and there alone.
+/// A finish is refused exactly if the actor has no turn out.
 pub fn out_law()
     ensures { OutLaw }
 {}
@@ -103,9 +103,9 @@ pub fn never_stuck_law()
     run_law();
 }
 
-/// What is full is told by name, and nothing else is: an offer is refused as B1 Full exactly where it comes along a route to a full port, and of a
-/// turn's outputs exactly those to a full port or a full environment are told so in its report, with their places, and as Stopped, of those that
-/// have a receiver, exactly those to an actor that has stopped. The losses stand in the order of their places, none twice.
+/// Refusals and losses as Full, EnvFull and Stopped are exact. An offer is B1 Full exactly if a route brings it to a
+/// full port. A turn's report lists exactly the outputs to a full port or a full environment and, of those that have a
+/// receiver, those to an actor that has stopped. The losses are in the order of their places, without duplicates.
 pub fn full_law()
     ensures { FullLaw }
 {}

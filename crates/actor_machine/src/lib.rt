@@ -1,5 +1,5 @@
-//! What the processes of a link do, said on lists: one link's actors with their ports, its timers, its clock and what waits
-//! for the environment, as a machine whose steps are the events of a link (Z.100, the behaviour of processes).
+//! The behaviour of the processes of a link, on lists: actors with ports, timers, a clock and signals that wait for the
+//! environment. It is a machine whose steps are the events of a link (Z.100, the behaviour of processes).
 #![tactic(auto)]
 
 mod actor;

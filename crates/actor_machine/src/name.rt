@@ -1,11 +1,11 @@
-//! What an actor is called.
+//! The names of actors.
 
 ghost use Rattle.std.specs.Prelude.{◌≡◌};
 ghost use Rattle.actor_machine.specs.Names.{same_actor, address_of};
 
 use turn_code::{Address, InstanceNumber, Party, ProcessNumber};
 
-/// What an actor is called: an instance of a process.
+/// The name of an actor: its process and the number of its instance.
 #[derive(Clone, Copy, PartialEq, Eq, Debug)]
 pub struct ActorName {
     pub process: ProcessNumber,
@@ -13,7 +13,7 @@ pub struct ActorName {
 }
 
 impl ActorName {
-    /// Whether it is the same actor.
+    /// Whether both names are of the same actor.
     pub fn same(self, other: ActorName) -> bool
         ensures { result ≡ same_actor self other }
     {

@@ -1,9 +1,9 @@
-//! What follows from the definitions alone. A call costs nothing.
+//! Laws that follow from the definitions. A call does nothing at run time.
 
 ghost use Rattle.actor_machine.specs.NameLaws.{ActorsLaw};
 
-/// There are as many actors as processes have instances. They are numbered by process, then by instance; an actor's number is its place,
-/// and there alone it stands. Where each process has one instance, its number is the actor's.
+/// There are as many actors as processes have instances. They are numbered by process, then by instance. An actor's
+/// number is the only place of its name. If each process has one instance, an actor has the number of its process.
 pub fn actors_law()
     ensures { ActorsLaw }
 {}

@@ -8,7 +8,7 @@ use crate::name::ActorName;
 use turn_check::Verified;
 use turn_code::ProcessNumber;
 
-/// The number of an actor of a set, from 0; none where there is no such actor.
+/// The number of an actor of a set, from 0; none if there is no such actor.
 pub fn number_of(set: &Verified, name: ActorName) -> Option<u16>
     ensures { result ≡ place_of name (actors_of set.now.processes) }
 {

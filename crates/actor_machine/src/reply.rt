@@ -1,4 +1,4 @@
-//! What is answered to the events of a link.
+//! Replies to the events of a link.
 
 ghost use Rattle.std.specs.Prelude.{◌≡◌};
 ghost use Rattle.actor_machine.specs.Printed.{refusal_text};
@@ -9,10 +9,10 @@ use std::fmt;
 use thiserror::Error;
 use turn_code::{End, Place, SignalNumber, Trigger, Value, copied_values};
 
-/// Why an event did not happen. Then nothing changes.
+/// Why an event is refused. A refused event changes nothing.
 #[derive(Clone, Copy, PartialEq, Eq, Debug, Error)]
 pub enum Refusal {
-    /// As many signals as the actor's port may have wait there.
+    /// The actor's port has as many signals as its capacity allows.
     Full,
     /// The actor has stopped.
     Stopped,
@@ -20,21 +20,21 @@ pub enum Refusal {
     NoRoute,
     /// The actor has a turn out.
     Busy,
-    /// The actor has stopped, or each item that waits for it is saved in its state.
+    /// No item waits for the actor that its state doesn't save, or the actor has stopped.
     Nothing,
     /// The actor has no such turn out.
     Stranger,
-    /// Nothing waits for the environment.
+    /// No signal waits for the environment.
     Empty,
-    /// The journal has no place for the event, or its places are used up.
+    /// The journal has no room for the event, or all places are used up.
     JournalFull,
-    /// As many turns as can be counted have begun (2^40).
+    /// The greatest number of turns has begun (2^40).
     CountFull,
     /// There is no such actor.
     NoActor,
-    /// The first item that isn't saved is no input of the actor's state: it is to be skipped first.
+    /// The first item that isn't saved is no input of the actor's state; it must be skipped first.
     SkipFirst,
-    /// There is nothing to throw away: the actor is at START, or the first item that isn't saved is an input of its state.
+    /// There is nothing to skip: the actor is at START, or the first item that isn't saved is an input of its state.
     NotIgnored,
     /// More than 65,535 ticks at once.
     TooFar,
@@ -77,18 +77,18 @@ impl fmt::Display for Refusal {
     }
 }
 
-/// Why an output did not reach anybody.
+/// Why an output is lost.
 #[derive(Clone, Copy, PartialEq, Eq, Debug)]
 pub enum Cause {
     /// The port of its receiver was full.
     Full,
-    /// As many signals as may wait for the environment were there.
+    /// As many signals wait for the environment as its capacity allows.
     EnvFull,
-    /// Its receiver had stopped.
+    /// Its receiver has stopped.
     Stopped,
 }
 
-/// An output that reached nobody.
+/// An output that is lost.
 #[derive(Clone, Copy, PartialEq, Eq, Debug)]
 pub struct Lost {
     /// Its place among the effects of the turn, from 0 and below 32.
@@ -96,14 +96,14 @@ pub struct Lost {
     pub cause: Cause,
 }
 
-/// How a turn ended.
+/// The end of a turn.
 #[derive(Drop)]
 pub struct Report {
     /// The next state, or a stop.
     pub end: End,
-    /// How many instructions it took.
+    /// The number of instructions that it took.
     pub count: u32,
-    /// The outputs that reached nobody, in text order.
+    /// The outputs that are lost, in text order.
     pub lost: ArrayVec<Lost, 32>,
 }
 
@@ -116,38 +116,38 @@ pub struct Emitted {
     pub parameters: ArrayVec<Value, 4>,
 }
 
-/// A turn that began.
+/// A turn that has begun.
 #[derive(Clone, Copy, PartialEq, Eq, Debug)]
 pub struct Begun {
-    /// Its number, from 0, over all actors of the link.
+    /// The number of the turn, from 0, over all actors of the link.
     pub turn: u64,
-    /// Where the actor is.
+    /// The state of the actor.
     pub place: Place,
-    /// The number of the input there, in text order; 0 at START.
+    /// The number of the input there, from 0 in text order; 0 at START.
     pub number: usize,
 }
 
-/// What is answered to an event.
+/// The reply to an event.
 #[derive(Drop)]
 pub enum Reply {
-    /// The signal waits in the actor's port.
+    /// The signal is in the actor's port.
     Offered,
     /// The turn has begun.
     Begun(Begun),
-    /// This signal, or the signal of this timer, was thrown away.
+    /// This signal, or the signal of this timer, was discarded.
     Skipped(Trigger),
-    /// The turn has ended, and its effects took place.
+    /// The turn has ended, and its effects are done.
     Finished(Report),
-    /// So many timers were due.
+    /// This many timers were due.
     Passed(usize),
-    /// What waited for the environment.
+    /// The signal that waited longest for the environment.
     Taken(Emitted),
-    /// Nothing happened.
+    /// The event was refused.
     Refused(Refusal),
 }
 
 impl Emitted {
-    /// The same once more. It can't fail.
+    /// A copy. It can't fail.
     pub fn copy(&self) -> Emitted
         ensures { result ≡ self.now }
     {

@@ -1,4 +1,4 @@
--- What actors are called, as effects of a turn come to them.
+-- The names of actors stay as the effects of a turn take place.
 use Rattle.std.proofs.Common.{◌≡◌, ℕ, List, Option, Some, refl, sym, ap, ◌∙◌}
 use Rattle.std.specs.Prelude.{slice_get}
 use Rattle.turn_code.specs.declared.value.Value.{Value}
@@ -19,7 +19,7 @@ use Rattle.actor_machine.proofs.FitsLists.{NamesStay, names_change, names_found}
 use Rattle.actor_machine.proofs.FitsActors.{receives_stay, drops_stay}
 use Rattle.actor_state.specs.Outcomes.{with_variables}
 
--- whoever stands at a number is the first of that name
+-- the name at a number of the set's actors has its first place there
 pub placed_at : (ps : List DraftProcess) (names : List ActorName) (n : ℕ) (x : ActorName) → names ≡ actors_of ps → slice_get names n ≡ Some x
     → place_of x names ≡ Some n
 placed_at ps names n x same there =
@@ -35,7 +35,7 @@ laid_names n me w (Output s) = delivered_names me w s s.receiver.party s.receive
 laid_names n me w (Set t z) = names_change w.actors n (drops t.0) (drops_stay t.0)
 laid_names n me w (Reset t) = names_change w.actors n (drops t.0) (drops_stay t.0)
 
--- an effect leaves the names as they are
+-- an effect leaves the names unchanged
 pub laid_kept : (ps : List DraftProcess) (n : ℕ) (me : ActorName) (w v : Core) (e : Effect) → v ≡ laid n me w e → names_in w.actors ≡ actors_of ps
     → names_in v.actors ≡ actors_of ps
 laid_kept ps n me w v e made names = ap (λ (x : Core). names_in x.actors) made ∙ laid_names n me w e ∙ names
@@ -44,7 +44,7 @@ variables_stay : (vs : List (Option Value)) → NamesStay (with_variables vs)
 unfolding NamesStay
 variables_stay vs a = refl
 
--- and so does the variables that a turn leaves
+-- setting the variables of an actor leaves the names unchanged
 pub settled_kept : (ps : List DraftProcess) (n : ℕ) (vs : List (Option Value)) (xs ys : List Actor) → ys ≡ change xs n (with_variables vs)
     → names_in xs ≡ actors_of ps → names_in ys ≡ actors_of ps
 settled_kept ps n vs xs ys made names = ap names_in made ∙ names_change xs n (with_variables vs) (variables_stay vs) ∙ names

@@ -1,4 +1,4 @@
--- The actors of a set as they are made, process by process and instance by instance.
+-- Opening the actors of a set, process by process and instance by instance.
 use Rattle.std.proofs.Common.{◌≡◌, ℕ, suc, ◌+◌, ◌-◌, ◌*◌, ◌<◌, ◌≤◌, List, [], ◌∷◌, ◌++◌, length, map, drop, get_or, take, sum_by, sym, ap, subst, ◌∙◌, append_assoc, append-nil, arith}
 use Rattle.std.specs.List.{AllByRecursion}
 use Rattle.std.proofs.lemmas.List.{length-append, length-map, drop_more, drop_all, take_all}
@@ -10,7 +10,7 @@ use Rattle.actor_machine.specs.Kept.{opened_actor, opened_from}
 use Rattle.actor_machine.specs.declared.actor.Actor.{Actor}
 use Rattle.actor_state.specs.Opening.{HasFew}
 
--- the instances of a process that are still to be made once so many are
+-- the instances of a process that are still to be opened once `done` of them are open
 pub left_of : ℕ → DraftProcess → ℕ → ℕ → List Actor
 left_of port p n done = map (opened_actor port p) (instances_from n (done + 1) (p.instances - done))
 
@@ -32,7 +32,7 @@ one_less port p n done h =
     ∙ ap (λ (k : ℕ). opened_actor port p (named n (done + 1)) ∷ map (opened_actor port p) (instances_from n k (p.instances - (done + 1))))
     (let e : suc (done + 1) ≡ done + 1 + 1 = omega arith in e)
 
--- one actor more
+-- one more actor is opened
 pub instance_more : (port : ℕ) (p : DraftProcess) (n done : ℕ) (before now all : List Actor) (a : Actor) → done < p.instances → before ++ left_of port p n done ≡ all
     → now ≡ before ++ a ∷ [] → a ≡ opened_actor port p (named n (done + 1)) → now ++ left_of port p n (done + 1) ≡ all
 instance_more port p n done before now all a less so h e =
@@ -43,7 +43,7 @@ instance_more port p n done before now all a less so h e =
     ∙ ap (λ (xs : List Actor). before ++ xs) (sym (one_less port p n done less))
     ∙ so
 
--- one process more
+-- one more process is opened
 pub process_more : (port : ℕ) (n : ℕ) (p : DraftProcess) (ps : List DraftProcess) (before now all : List Actor) → before ++ opened_from port n (p ∷ ps) ≡ all
     → now ≡ before ++ map (opened_actor port p) (instances_from n 1 p.instances) → now ++ opened_from port (suc n) ps ≡ all
 process_more port n p ps before now all so h =
@@ -72,7 +72,7 @@ pub processes_done : (port n : ℕ) (ps : List DraftProcess) (now all : List Act
 processes_done port n ps now all over so =
     sym (append-nil now) ∙ ap (λ (xs : List DraftProcess). now ++ opened_from port n xs) (sym (drop_all n ps over)) ∙ so
 
--- at most 8 for each process
+-- there are at most 8 actors for each process
 pub opened_few : (port n : ℕ) (ps : List DraftProcess) → AllByRecursion HasFew ps → length (opened_from port n ps) ≤ 8 * length ps
 opened_few port n [] all = omega arith
 opened_few port n (p ∷ ps) all =
@@ -90,7 +90,7 @@ actors_few port ps now all few is =
     let same = ap length is in
     omega (arith, count, few, same)
 
--- ---- how many there are
+-- ---- the number of actors
 
 pub count_more : (n k : ℕ) (ps : List DraftProcess) (p : DraftProcess) → n < length ps → p ≡ get_or ps n p → k ≡ sum_by (λ (x : DraftProcess). x.instances) (take n ps)
     → k + p.instances ≡ sum_by (λ (x : DraftProcess). x.instances) (take (n + 1) ps)

@@ -1,4 +1,4 @@
--- What the states of a valid set save is within the bounds of a set.
+-- The signals and timers that the states of a valid set save are within the bounds of a set.
 use Rattle.std.proofs.Common.{◌≡◌, ℕ, ◌≤◌, zero, suc, List, [], ◌∷◌, length, Option, None, Some, refl, subst, arith}
 use Rattle.std.specs.Prelude.{All, slice_get}
 use Rattle.std.specs.List.{AllByRecursion}

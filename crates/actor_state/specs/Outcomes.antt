@@ -12,7 +12,7 @@ abbrev pub outcome_with : End → List (Option Value) → List Effect → ℕ �
 outcome_with e vs es count =
     record { end = e; progress = record { variables = vs; effects = es; count = count } }
 
--- a timer that an effect names is one of those that a process may have
+-- a timer that an effect names is within the limit of a process
 abbrev pub HasTimer : Effect → Type 0
 HasTimer (Output s) = Unit {0}
 HasTimer (Set t z) = t.0 < MOST_TIMERS_EACH

@@ -11,18 +11,18 @@ use Rattle.actor_machine.specs.declared.actor.Actor.{Actor}
 use Rattle.actor_machine.specs.declared.actor.Standing.{Standing}
 use Rattle.actor_machine.specs.declared.actor.Standing.TheVariants.{At, Stopped}
 
--- one of the signals, or of the timers, that there may be
+-- the number of a signal or timer is within its limit
 abbrev pub IsSmall : Trigger → Type 0
 IsSmall (Signal n) = n.0 < MOST_SIGNALS
 IsSmall (Timer n) = n.0 < MOST_TIMERS_EACH
 
--- the signal or timer of the item that an actor would throw away
+-- the signal or timer of the item that an actor would skip
 abbrev pub skipped_by : Draft → Option Actor → Option Trigger
 skipped_by d None = None
 skipped_by d (Some a) = option_map trigger_of (item_at d a.name.process.0 a.standing a.port.items)
 
--- the number of the input that this item is to an actor of process n that took it there; 0 at
--- START, and where there is none
+-- the number of the input for this item in an actor of process n that takes it; 0 at START, after a
+-- STOP and if there is no item
 abbrev pub number_with : Draft → ℕ → Standing → Option Item → ℕ
 number_with d n (At (State q)) o = number_in (found_item d n q.0 o)
 number_with d n (At Start) o = 0

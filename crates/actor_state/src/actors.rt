@@ -1,4 +1,4 @@
-//! Changes of one actor, and of one actor among all.
+//! Changes of one actor, and of one actor in a list.
 
 ghost use Rattle.std.specs.Prelude.{◌≡◌, ◌↔◌, ◌<◌, ◌≤◌, IsTrue, Some, length, slice_get};
 ghost use Rattle.actor_machine.specs.Core.{change, change_found, found_in, names_in, outs};
@@ -12,7 +12,7 @@ use input_port::{Arrival, PutError};
 use turn_check::Verified;
 use turn_code::{Effect, End, InstanceNumber, Place, ProcessNumber, TimerNumber, Value};
 
-/// A signal comes to an actor. One that has stopped takes none, nor does one whose port is full: why it didn't take it, if it didn't.
+/// Puts a signal into an actor's port. Returns why not, if the actor has stopped or its port is full.
 fn receive(actor: &mut Actor, arrival: Arrival) -> Option<Cause>
     ensures actor { actor.new ≡ receives arrival actor.old }
     ensures cause { result ≡ refusal_at actor.old.port actor.old.standing }
@@ -26,7 +26,7 @@ fn receive(actor: &mut Actor, arrival: Arrival) -> Option<Cause>
     }
 }
 
-/// A signal comes to actor `number`, if there is one. Why nobody took it, if so.
+/// Puts a signal into the port of actor `number`. Returns why not, if it isn't taken; without such an actor, `Stopped`.
 pub(crate) fn deliver(actors: &mut [Actor], number: usize, arrival: Arrival) -> Option<Cause>
     ensures actors { actors.new ≡ change actors.old number (receives arrival) }
     ensures cause { result ≡ refusal_in (slice_get actors.old number) }
@@ -38,7 +38,7 @@ pub(crate) fn deliver(actors: &mut [Actor], number: usize, arrival: Arrival) -> 
     }
 }
 
-/// A signal comes to the actor with a number that is found, if it is. Why nobody took it, if so.
+/// As `deliver`, for an actor that may not be found; `Stopped` if it isn't.
 pub(crate) fn deliver_to(
     actors: &mut [Actor],
     found: Option<usize>,
@@ -53,7 +53,7 @@ pub(crate) fn deliver_to(
     }
 }
 
-/// Whether the actor with a number is called so.
+/// Whether the actor with a number has this name.
 fn is_called(actors: &[Actor], number: usize, name: ActorName) -> bool
     ensures { IsTrue result ↔ (slice_get (names_in actors.now) number ≡ Some name) }
 {
@@ -63,8 +63,8 @@ fn is_called(actors: &[Actor], number: usize, name: ActorName) -> bool
     }
 }
 
-/// The number of the actor of a set with a name, if there is one. No actor is looked at but the one with the number of the process, which it is
-/// where each process before that has one instance.
+/// The number of the actor of a set with a name, if there is one. It first tries the number of the process, which is
+/// right if each earlier process has one instance.
 fn place_of(set: &Verified, actors: &[Actor], name: ActorName) -> Option<usize>
     requires { names_in actors.now ≡ actors_of set.now.processes }
     ensures { result ≡ place_of name (names_in actors.now) }
@@ -79,8 +79,8 @@ fn place_of(set: &Verified, actors: &[Actor], name: ActorName) -> Option<usize>
     }
 }
 
-/// The number of the actor that gets a signal of another one to a process: the instance that is named, where one is; else the one with the
-/// sender's own number where it is there, and the first one where it isn't.
+/// The number of the actor that receives a signal from another one to a process. It is the named instance, if one is
+/// named; otherwise the one with the sender's instance number, or the first one if there is no such instance.
 pub(crate) fn number_for(
     set: &Verified,
     actors: &[Actor],
@@ -113,14 +113,14 @@ pub(crate) fn number_for(
     }
 }
 
-/// The signal of a timer leaves an actor's port.
+/// Removes the signal of a timer from an actor's port.
 fn forget(actor: &mut Actor, timer: TimerNumber)
     ensures { actor.new ≡ drops timer.0 actor.old }
 {
     actor.port.drop_timer(timer);
 }
 
-/// The signal of a timer leaves the port of actor `number`.
+/// Removes the signal of a timer from the port of actor `number`.
 pub(crate) fn forget_timer(actors: &mut [Actor], number: usize, timer: TimerNumber)
     ensures { actors.new ≡ change actors.old number (drops timer.0) }
 {
@@ -129,7 +129,7 @@ pub(crate) fn forget_timer(actors: &mut [Actor], number: usize, timer: TimerNumb
     }
 }
 
-/// The signal of a timer comes to an actor.
+/// Puts the signal of a timer into an actor's port, after all others; an earlier one of that timer is removed.
 #[tactic(auto, using(crate::proofs::TimerItems::none_left))]
 fn hear(actor: &mut Actor, timer: TimerNumber)
     requires { timer.0 < MOST_TIMERS_EACH }
@@ -139,7 +139,7 @@ fn hear(actor: &mut Actor, timer: TimerNumber)
     actor.port.put_timer(timer);
 }
 
-/// The signal of a timer comes to actor `number`.
+/// Puts the signal of a timer into the port of actor `number`.
 pub(crate) fn notify(actors: &mut [Actor], number: usize, timer: TimerNumber)
     requires { timer.0 < MOST_TIMERS_EACH }
     ensures { actors.new ≡ change actors.old number (hears timer.0) }
@@ -149,7 +149,7 @@ pub(crate) fn notify(actors: &mut [Actor], number: usize, timer: TimerNumber)
     }
 }
 
-/// An actor has these variables, and no turn out.
+/// Sets an actor's variables to these, and its turn is no longer out.
 fn settle(actor: &mut Actor, variables: &[Option<Value>])
     requires { length variables.now ≤ MOST_VARIABLES }
     ensures { actor.new ≡ with_variables variables.now actor.old }
@@ -159,7 +159,7 @@ fn settle(actor: &mut Actor, variables: &[Option<Value>])
     actor.given = None;
 }
 
-/// Actor `number` has these variables, and no turn out.
+/// Sets the variables of actor `number` to these, and its turn is no longer out.
 pub(crate) fn settle_at(actors: &mut [Actor], number: usize, variables: &[Option<Value>])
     requires { length variables.now ≤ MOST_VARIABLES }
     ensures { actors.new ≡ change actors.old number (with_variables variables.now) }
@@ -169,7 +169,7 @@ pub(crate) fn settle_at(actors: &mut [Actor], number: usize, variables: &[Option
     }
 }
 
-/// An actor comes to its next state, or stops.
+/// Moves an actor to its next state, or stops it and empties its port.
 fn go(actor: &mut Actor, end: End)
     ensures { actor.new ≡ moved end actor.old }
 {
@@ -182,7 +182,7 @@ fn go(actor: &mut Actor, end: End)
     }
 }
 
-/// Actor `number` comes to its next state, or stops.
+/// Moves actor `number` to its next state, or stops it.
 pub(crate) fn end_turn(actors: &mut [Actor], number: usize, end: End)
     ensures { actors.new ≡ change actors.old number (moved end) }
 {
@@ -191,7 +191,7 @@ pub(crate) fn end_turn(actors: &mut [Actor], number: usize, end: End)
     }
 }
 
-/// How many actors have a turn out.
+/// The number of actors that have a turn out.
 pub(crate) fn count_outs(actors: &[Actor]) -> usize
     ensures { result ≡ outs actors.now }
 {

@@ -1,4 +1,4 @@
-//! Ticks pass.
+//! The clock of a link.
 
 ghost use Rattle.std.specs.Prelude.{◌≡◌, ◌≤◌, ◌<◌, ◌+◌, ◌^◌, length};
 ghost use Rattle.actor_machine.specs.Refusals.{advance_rows, first_of};
@@ -12,7 +12,7 @@ use actor_machine::{Actor, Refusal};
 use tick_wheel::{Due, FARTHEST, LAST_CLOCK, Wheel};
 use turn_code::TimerNumber;
 
-/// Why so many ticks can't pass, if they can't.
+/// Why this many ticks can't pass, if they can't.
 pub(crate) fn advance_refusal(clock: u64, ticks: u64) -> Option<Refusal>
     requires { clock ≤ LAST_TICK }
     ensures { result ≡ first_of (advance_rows clock ticks) }
@@ -26,7 +26,7 @@ pub(crate) fn advance_refusal(clock: u64, ticks: u64) -> Option<Refusal>
     None
 }
 
-/// Each due timer's signal comes to its actor's port, in order.
+/// Puts the signal of each due timer into its actor's port, in order.
 fn notify_all(actors: &mut [Actor], due: &[Due])
     ensures { actors.new ≡ notified actors.old due.now }
 {
@@ -36,7 +36,7 @@ fn notify_all(actors: &mut [Actor], due: &[Due])
     }
 }
 
-/// So many ticks pass. How many timers are due; the wheel has them, in order.
+/// Lets this many ticks pass, and returns the number of timers that are due; the wheel lists them in order.
 fn pass(wheel: &mut Wheel, ticks: u64) -> usize
     requires near { ticks ≤ MOST_TICKS }
     requires clock { wheel.old.clock + ticks ≤ LAST_TICK }
@@ -52,7 +52,7 @@ fn pass(wheel: &mut Wheel, ticks: u64) -> usize
 }
 
 impl LinkActors {
-    /// So many ticks pass: the clock goes on, and the signals of the timers that are due come to the ports. How many are due.
+    /// Advances the clock by this many ticks, puts the signals of due timers into the ports, and returns their number.
     pub fn advance(&mut self, ticks: u64) -> usize
         requires near { ticks ≤ MOST_TICKS }
         requires clock { self.old.timers.clock + ticks ≤ LAST_TICK }

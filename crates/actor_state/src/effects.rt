@@ -19,7 +19,7 @@ use turn_check::Verified;
 use turn_code::{Address, Effect, End, Party, Sending, TimerNumber, Value, copied_values};
 
 impl LinkActors {
-    /// What one effect of a turn of an actor with this number and this name does. Why nobody got it, if it is an output and nobody did.
+    /// Carries out one effect of the turn of the actor with this number and name. Returns why an output is lost.
     fn lay(&mut self, set: &Verified, actor: u8, name: ActorName, effect: &Effect) -> Option<Cause>
         requires names { names_in self.old.actors ≡ actors_of set.now.processes }
         requires actor { actor < MOST_ACTORS }
@@ -40,7 +40,7 @@ impl LinkActors {
         }
     }
 
-    /// An output of an actor comes to its receiver, if that takes it. Why it doesn't, if it doesn't.
+    /// Sends an output of an actor to its receiver. Returns why it is lost, if it is.
     fn send(&mut self, set: &Verified, sender: ActorName, sending: &Sending) -> Option<Cause>
         requires names { names_in self.old.actors ≡ actors_of set.now.processes }
         ensures link { self.new ≡ delivered sender self.old sending.now sending.now.receiver.party sending.now.receiver.instance }
@@ -63,7 +63,7 @@ impl LinkActors {
         }
     }
 
-    /// A timer waits anew, and its signal leaves the port.
+    /// Starts a timer anew and removes its signal from the port.
     fn set(&mut self, actor: u8, timer: TimerNumber, ticks: i32)
         requires actor { actor < MOST_ACTORS }
         requires timer { timer.0 < MOST_TIMERS_EACH }
@@ -77,7 +77,7 @@ impl LinkActors {
         self.wheel.set(Timer::new(actor, timer.0), deadline);
     }
 
-    /// A timer waits no longer, and its signal leaves the port.
+    /// Stops a timer and removes its signal from the port.
     fn reset(&mut self, actor: u8, timer: TimerNumber)
         requires actor { actor < MOST_ACTORS }
         requires timer { timer.0 < MOST_TIMERS_EACH }
@@ -90,7 +90,7 @@ impl LinkActors {
         self.wheel.reset(Timer::new(actor, timer.0));
     }
 
-    /// What the effects of a turn do, one after another. The outputs that nobody gets.
+    /// Carries out the effects of a turn one after another, and returns the outputs that are lost.
     fn lay_all(
         &mut self,
         set: &Verified,
@@ -115,8 +115,8 @@ impl LinkActors {
         lost
     }
 
-    /// A turn of an actor with this number and this name ends with this end, these variables and effects, after so many instructions: the
-    /// variables come first, then the effects one after another, then the end.
+    /// Ends a turn of the actor with this number and name, with this end, these variables and effects, and `count`
+    /// instructions. The variables are set first; then the effects take place one after another, and then the end.
     pub fn finish(
         &mut self,
         set: &Verified,
@@ -143,7 +143,7 @@ impl LinkActors {
         Report { end, count, lost }
     }
 
-    /// The actor gets the variables that its turn leaves, and the turn is counted.
+    /// Sets the actor's variables to those of its turn, and counts the turn.
     fn start(&mut self, actor: u8, variables: &[Option<Value>], count: u32)
         requires variables { length variables.now ≤ MOST_VARIABLES }
         requires finishes { self.old.finishes < MOST_TURNS_BEGUN }
@@ -159,7 +159,7 @@ impl LinkActors {
         self.instructions += u64::from(count);
     }
 
-    /// A turn ends: the next state comes, or a stop, which empties the port and resets the timers.
+    /// Moves the actor to the next state, or stops it, which empties the port and resets the timers.
     fn end(&mut self, actor: u8, end: End)
         requires { actor < MOST_ACTORS }
         ensures { self.new ≡ ended actor end self.old }
@@ -171,7 +171,7 @@ impl LinkActors {
     }
 }
 
-/// All timers of an actor wait no longer.
+/// Stops all timers of an actor.
 fn reset_all(wheel: &mut Wheel, actor: u8)
     requires { actor < MOST_ACTORS }
     ensures { timers_of wheel.new ≡ without_timers (timers_of wheel.old) actor }
@@ -181,7 +181,7 @@ fn reset_all(wheel: &mut Wheel, actor: u8)
     }
 }
 
-/// How long a SET waits, which is 1 tick at least.
+/// The number of ticks until the timer of a SET expires, at least 1.
 fn delay_of(ticks: i32) -> u64
     ensures value { result ≡ delay ticks }
     ensures least { 1 ≤ result }
@@ -190,7 +190,7 @@ fn delay_of(ticks: i32) -> u64
     if ticks < 1 { 1 } else { ticks as u64 }
 }
 
-/// The signal as it comes to its receiver.
+/// The signal as it arrives at its receiver.
 fn arrival_of(sender: ActorName, sending: &Sending) -> Arrival
     ensures { result ≡ arrival_of sender sending.now }
 {

@@ -1,5 +1,5 @@
-//! The state of a link in memory: its actors, its timers, and what waits for the environment. Each change of it is one
-//! part of a step of the link's machine.
+//! The state of a link in memory: its actors, its timers, and the signals for the environment. Each change is one part
+//! of a step of the link's machine.
 #![tactic(auto)]
 
 mod actors;

@@ -14,7 +14,7 @@ use std::marker::Model;
 use tick_wheel::Wheel;
 use turn_code::{Value, VariableNumber};
 
-/// The state of a link: its actors, its timers with the clock, what waits for the environment, and counts.
+/// The state of a link: actors, timers with the clock, signals for the environment, and counts.
 #[derive(Drop)]
 pub struct LinkActors {
     pub(crate) actors: Vec<Actor>,
@@ -50,7 +50,7 @@ impl Model for LinkActors {
 }
 
 impl LinkActors {
-    /// The actors, by number. There are 128 at most.
+    /// The actors by number, at most 128.
     pub fn actors(&self) -> &[Actor]
         ensures value { result.now ≡ self.now.actors }
         ensures few { length result.now ≤ MOST_ACTORS }
@@ -58,7 +58,7 @@ impl LinkActors {
         self.actors.as_slice()
     }
 
-    /// Where an actor is; while it has a turn out, where it was before. None where there is no such actor.
+    /// The standing of an actor; while it has a turn out, that before the turn. None if there is no such actor.
     pub fn standing_of(&self, actor: u16) -> Option<Standing>
         ensures { result ≡ option_map (λ (a : PlainActor). a.standing) (slice_get self.now.actors actor) }
     {
@@ -68,7 +68,7 @@ impl LinkActors {
         }
     }
 
-    /// What an actor is called. None where there is no such actor.
+    /// The name of an actor; none if there is no such actor.
     pub fn name_of(&self, actor: u16) -> Option<ActorName>
         ensures { result ≡ slice_get (names_in self.now.actors) actor }
     {
@@ -78,49 +78,49 @@ impl LinkActors {
         }
     }
 
-    /// The clock, in ticks. It is 2^62 at most.
+    /// The clock in ticks, at most 2^62.
     pub fn clock(&self) -> u64
         ensures { result ≡ self.now.timers.clock }
     {
         self.wheel.clock()
     }
 
-    /// How many signals wait for the environment.
+    /// The number of signals that wait for the environment.
     pub fn waiting(&self) -> usize
         ensures { result ≡ length self.now.ring.items }
     {
         self.ring.len()
     }
 
-    /// The signal that waits for the environment at a place: 0 is that of the one that has waited longest.
+    /// The signal at a place among those that wait for the environment; 0 is the one that has waited longest.
     pub fn waiting_at(&self, place: usize) -> Option<&Emitted>
         ensures { option_copied result ≡ slice_get self.now.ring.items place }
     {
         self.ring.get(place)
     }
 
-    /// How many turns have begun.
+    /// The number of turns that have begun.
     pub fn turns(&self) -> u64
         ensures { result ≡ self.now.turns }
     {
         self.turns
     }
 
-    /// How many turns have ended.
+    /// The number of turns that have ended.
     pub fn finishes(&self) -> u64
         ensures { result ≡ self.now.finishes }
     {
         self.finishes
     }
 
-    /// How many instructions the turns that have ended took.
+    /// The number of instructions of all turns that have ended.
     pub fn instructions(&self) -> u64
         ensures { result ≡ self.now.instructions }
     {
         self.instructions
     }
 
-    /// How many actors have a turn out.
+    /// The number of actors that have a turn out.
     pub fn outs(&self) -> usize
         ensures { result ≡ outs self.now.actors }
     {

@@ -15,7 +15,7 @@ use input_port::{Item, Port, Saved};
 use turn_check::Verified;
 use turn_code::{Place, ProcessNumber, StateNumber, Trigger};
 
-/// What an input or a SAVE would name an item by.
+/// The signal or timer by which an input or a SAVE names an item.
 pub(crate) fn trigger_of(item: &Item) -> Trigger
     ensures { result ≡ trigger_of item.now }
 {
@@ -25,7 +25,7 @@ pub(crate) fn trigger_of(item: &Item) -> Trigger
     }
 }
 
-/// A signal or timer more is saved.
+/// Adds a signal or timer to those saved.
 fn save(saved: &mut Saved, trigger: Trigger)
     requires { IsSmall trigger }
     ensures { (x : PlainItem) → saves saved.new x ≡ (same_trigger (trigger_of x) trigger || saves saved.old x) }
@@ -36,7 +36,7 @@ fn save(saved: &mut Saved, trigger: Trigger)
     }
 }
 
-/// These signals and timers, as a port asks for them.
+/// These signals and timers, as the argument of a port's search.
 fn saved_of(triggers: &[Trigger]) -> Saved
     requires { AllByRecursion IsSmall triggers.now }
     ensures { (x : PlainItem) → saves result x ≡ list_any (same_trigger (trigger_of x)) triggers.now }
@@ -48,7 +48,7 @@ fn saved_of(triggers: &[Trigger]) -> Saved
     saved
 }
 
-/// What a state saves, as a port asks for it.
+/// The signals and timers that a state saves, as the argument of a port's search.
 fn saved_in(set: &Verified, process: u8, state: StateNumber) -> Saved
     ensures { (x : PlainItem) → saves result x ≡ is_saved set.now process state.0 x }
 {
@@ -68,7 +68,7 @@ fn first_item<'a>(
     port.first(&saved_in(set, number, state))
 }
 
-/// What an actor finds as the first item that its state doesn't save is this one.
+/// What an actor finds, if this is the first item that its state doesn't save.
 fn found_as(set: &Verified, number: u8, state: StateNumber, item: &Item) -> Found
     ensures { result ≡ as_input (input_for set.now number state.0 item.now) }
 {
@@ -78,7 +78,7 @@ fn found_as(set: &Verified, number: u8, state: StateNumber, item: &Item) -> Foun
     }
 }
 
-/// The number of the input that an item is to an actor that took it, 0 where it took none.
+/// The number of the input for an item that an actor took; 0 if it took none.
 pub(crate) fn number_of(
     set: &Verified,
     number: u8,
@@ -96,7 +96,7 @@ pub(crate) fn number_of(
     }
 }
 
-/// The number of the input that is found, 0 at START.
+/// The number of the input that is found; 0 at START.
 fn number_in(found: Found) -> usize
     ensures { result ≡ number_in found }
 {
@@ -106,7 +106,7 @@ fn number_in(found: Found) -> usize
     }
 }
 
-/// What an actor finds in a state.
+/// What an actor finds in a state, if its port may have items.
 #[inline(never)]
 fn found_in(set: &Verified, number: u8, state: StateNumber, port: &Port) -> Found
     ensures { result ≡ found_item set.now number state.0 (first_unsaved (is_saved set.now number state.0) port.now.items) }
@@ -117,7 +117,7 @@ fn found_in(set: &Verified, number: u8, state: StateNumber, port: &Port) -> Foun
     }
 }
 
-/// The same. Of an empty port, as most are, nothing is asked.
+/// What an actor finds in a state. An empty port, as most are, isn't searched.
 #[inline]
 #[tactic(auto, using(crate::proofs::Looking::nothing_in))]
 fn found_there(set: &Verified, number: u8, state: StateNumber, port: &Port) -> Found
@@ -130,7 +130,7 @@ fn found_there(set: &Verified, number: u8, state: StateNumber, port: &Port) -> F
     }
 }
 
-/// What an actor finds.
+/// What an actor finds in its port, by its standing.
 #[inline]
 fn found_at(set: &Verified, number: u8, standing: Standing, port: &Port) -> Found
     ensures { result ≡ found_at set.now number standing port.now.items }
@@ -142,7 +142,7 @@ fn found_at(set: &Verified, number: u8, standing: Standing, port: &Port) -> Foun
     }
 }
 
-/// What an actor finds.
+/// What an actor finds in its port.
 #[inline]
 pub(crate) fn look(set: &Verified, actor: &Actor) -> Found
     ensures { result ≡ looks set.now actor.now }
@@ -150,7 +150,7 @@ pub(crate) fn look(set: &Verified, actor: &Actor) -> Found
     found_at(set, actor.name.process.0, actor.standing, &actor.port)
 }
 
-/// Takes the first item that an actor's state doesn't save; at START, and behind a STOP, there is none.
+/// Takes the first item that an actor's state doesn't save; none at START and after a STOP.
 pub(crate) fn take(set: &Verified, number: u8, standing: Standing, port: &mut Port) -> Option<Item>
     ensures item { result ≡ item_at set.now number standing port.old.items }
     ensures left { port.new ≡ record port.old { items = left_at set.now number standing port.old.items } }

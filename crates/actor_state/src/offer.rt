@@ -1,4 +1,4 @@
-//! Signals of the environment.
+//! Signals from the environment.
 
 ghost use Rattle.std.specs.Prelude.{◌≡◌, ℕ, ◌≤◌, ◌<◌, ◌&&◌, ◌==◌, nat_lt, length, map, Option, Some, None, slice_get};
 ghost use Rattle.std.specs.List.{list_any};
@@ -47,14 +47,14 @@ fn offers(number: u8, signal: SignalNumber, route: &DraftRoute) -> bool
         && carries(route.signals.as_slice(), signal)
 }
 
-/// Whether a signal is among some.
+/// Whether a signal is in a list.
 fn carries(signals: &[SignalNumber], signal: SignalNumber) -> bool
     ensures { result ≡ list_any (λ (x : PlainSignal). x.0 == signal.0) signals.now }
 {
     signals.iter().any(|other| other.0 == signal.0)
 }
 
-/// Whether the sorts are the same.
+/// Whether two sorts are equal.
 fn same_sort(one: Sort, other: Sort) -> bool
     ensures { result ≡ same_sort one other }
 {
@@ -80,7 +80,7 @@ fn have_sorts(values: &[Value], sorts: &[Sort]) -> bool
     }
 }
 
-/// Whether the signal is there, with parameters of these values' sorts.
+/// Whether the signal is declared, with parameters of these values' sorts.
 fn takes(signals: &[DraftSignal], signal: SignalNumber, values: &[Value]) -> bool
     ensures { result ≡ (nat_lt signal.0 (length signals.now) && same_sorts (map sort_of values.now) (parameters_of (slice_get signals.now signal.0))) }
 {
@@ -115,7 +115,7 @@ fn has_stopped(standing: Standing) -> bool
     }
 }
 
-/// Why an actor refuses a signal of the environment, if it does.
+/// Why an actor refuses a signal from the environment, if it does.
 pub(crate) fn offer_refusal(
     set: &Verified,
     signal: SignalNumber,
@@ -137,7 +137,7 @@ pub(crate) fn offer_refusal(
 }
 
 impl LinkActors {
-    /// A signal of the environment comes to an actor.
+    /// Puts a signal from the environment into an actor's port.
     pub fn offer(&mut self, actor: u16, signal: SignalNumber, values: ArrayVec<Value, 4>)
         ensures { self.new ≡ record self.old { actors = change self.old.actors actor (receives (offered_arrival (record { actor = actor; signal = signal; values = values }))) } }
     {

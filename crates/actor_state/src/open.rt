@@ -1,4 +1,4 @@
-//! How a link begins, and copies of it.
+//! Opening and copying a link.
 
 ghost use Rattle.std.specs.Prelude.{◌≡◌, ◌≤◌, ◌<◌, ◌+◌, ◌++◌, [], length, map, sum_by, IfOk, OnOk};
 ghost use Rattle.std.specs.List.{AllByRecursion};
@@ -17,7 +17,7 @@ use tick_wheel::Wheel;
 use turn_check::{Verified, initial_values_of};
 use turn_code::{DraftProcess, InstanceNumber, Place, ProcessNumber, copied_variables};
 
-/// An actor of a process before its START, with a port for so many signals.
+/// An actor of a process before its START, with a port for `port` signals. `AllocError` if memory runs out.
 fn opened_actor(
     alloc: Global,
     process: &DraftProcess,
@@ -38,7 +38,7 @@ fn opened_actor(
     })
 }
 
-/// The turn of an actor once more, if it has one out.
+/// A copy of an actor's turn, if it has one out.
 fn copied_given(given: &Option<Given>) -> Option<Given>
     ensures { result ≡ given.now }
 {
@@ -52,7 +52,7 @@ fn copied_given(given: &Option<Given>) -> Option<Given>
     }
 }
 
-/// An equal actor.
+/// An equal actor, or `AllocError` if memory runs out.
 fn copied_actor(actor: &Actor) -> Result<Actor, AllocError>
     ensures { IfOk result (λ copy. copy ≡ actor.now) }
 {
@@ -65,7 +65,7 @@ fn copied_actor(actor: &Actor) -> Result<Actor, AllocError>
     })
 }
 
-/// The actors of one process more: each of its instances before its START, with a port for so many signals.
+/// Adds the actors of one process: each of its instances before its START, with a port for `port` signals.
 fn open_process(
     alloc: Global,
     actors: &mut Vec<Actor>,
@@ -89,7 +89,7 @@ fn open_process(
     Ok(())
 }
 
-/// How many actors the instances of processes are.
+/// The number of instances of all processes.
 fn count_actors(processes: &[DraftProcess]) -> usize
     requires few { AllByRecursion HasFew processes.now }
     requires count { length processes.now ≤ MOST_PROCESSES }
@@ -102,7 +102,7 @@ fn count_actors(processes: &[DraftProcess]) -> usize
     count
 }
 
-/// The actors of all processes, before their START, with a port for so many signals each. Room for all of them is made at once.
+/// The actors of all processes before their START, with a port for `port` signals each. The list is allocated at once.
 fn opened_actors(
     alloc: Global,
     processes: &[DraftProcess],
@@ -124,7 +124,7 @@ fn opened_actors(
     Ok(actors)
 }
 
-/// The actors once more.
+/// Equal actors, or `AllocError` if memory runs out.
 fn copied_actors(alloc: Global, actors: &[Actor]) -> Result<Vec<Actor>, AllocError>
     ensures { IfOk result (λ copy. copy.items ≡ actors.now) }
 {
@@ -145,8 +145,8 @@ fn processes_of(set: &Verified) -> &[DraftProcess]
 }
 
 impl LinkActors {
-    /// The link of a set as it begins: each instance of each process is an actor before its START, with a port for so many signals, and
-    /// there is room for so many signals to the environment.
+    /// The opened link of a set: each instance of each process is an actor before its START, with a port for `port`
+    /// signals. There is room for `env` signals to the environment. `AllocError` if memory runs out.
     pub fn open(
         alloc: Global,
         set: &Verified,
@@ -170,7 +170,7 @@ impl LinkActors {
         })
     }
 
-    /// An equal link.
+    /// An equal link, or `AllocError` if memory runs out.
     pub fn copy(&self) -> Result<LinkActors, AllocError>
         ensures { IfOk result (λ link. link ≡ self.now) }
     {

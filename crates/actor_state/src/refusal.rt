@@ -14,7 +14,7 @@ use actor_machine::{Actor, Refusal};
 use turn_check::Verified;
 use turn_code::{SignalNumber, Value};
 
-/// A refusal, or else that of a journal with too few free places.
+/// The refusal if there is one; otherwise `JournalFull` if the journal has too few free places.
 pub fn with_room(room: usize, needed: usize, refusal: Option<Refusal>) -> Option<Refusal>
     ensures { (e : PlainEvent) → needs e ≡ needed → result ≡ with_room room e refusal }
 {
@@ -30,7 +30,7 @@ pub fn with_room(room: usize, needed: usize, refusal: Option<Refusal>) -> Option
     }
 }
 
-/// Why actor `actor` refuses a signal of the environment, if it does.
+/// Why actor `actor` refuses a signal from the environment, if it does.
 fn offer_refusal_at(
     set: &Verified,
     actor: u16,
@@ -56,7 +56,7 @@ fn begin_refusal_at(set: &Verified, actor: u16, turns: u64, actors: &[Actor]) ->
     }
 }
 
-/// Why actor `actor` can't throw a signal away, if it can't.
+/// Why actor `actor` can't skip an item, if it can't.
 fn skip_refusal_at(set: &Verified, actor: u16, actors: &[Actor]) -> Option<Refusal>
     ensures { result ≡ of_actor (λ a. first_of (skip_rows set.now a)) (slice_get actors.now actor) }
 {
@@ -67,7 +67,7 @@ fn skip_refusal_at(set: &Verified, actor: u16, actors: &[Actor]) -> Option<Refus
 }
 
 impl LinkActors {
-    /// Why the link refuses a signal of the environment, its journal aside.
+    /// Why the link refuses a signal from the environment, if its journal has room.
     pub fn offer_refusal(
         &self,
         set: &Verified,
@@ -80,28 +80,28 @@ impl LinkActors {
         offer_refusal_at(set, actor, signal, values, &self.actors)
     }
 
-    /// Why an actor can't begin a turn, the journal aside.
+    /// Why an actor can't begin a turn, if the journal has room.
     pub fn begin_refusal(&self, set: &Verified, actor: u16) -> Option<Refusal>
         ensures { result ≡ refuses set.now self.now (Begin actor) }
     {
         begin_refusal_at(set, actor, self.turns, &self.actors)
     }
 
-    /// Why an actor can't throw a signal away, the journal aside.
+    /// Why an actor can't skip an item, if the journal has room.
     pub fn skip_refusal(&self, set: &Verified, actor: u16) -> Option<Refusal>
         ensures { result ≡ refuses set.now self.now (Skip actor) }
     {
         skip_refusal_at(set, actor, &self.actors)
     }
 
-    /// Why so many ticks can't pass, the journal aside.
+    /// Why this many ticks can't pass, if the journal has room.
     pub fn advance_refusal(&self, ticks: u64) -> Option<Refusal>
         ensures { (set : PlainDraft) → result ≡ refuses set self.now (Advance ticks) }
     {
         advance_refusal(self.wheel.clock(), ticks)
     }
 
-    /// Why nothing can be taken for the environment, the journal aside.
+    /// Why no signal can be taken for the environment, if the journal has room.
     pub fn take_refusal(&self) -> Option<Refusal>
         ensures { (set : PlainDraft) → result ≡ refuses set self.now TakeEnv }
     {

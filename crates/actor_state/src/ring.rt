@@ -1,4 +1,4 @@
-//! What waits for the environment.
+//! Signals that wait for the environment.
 
 ghost use Rattle.std.specs.Prelude.{◌≡◌, ◌∷◌, [], length, slice_get, IfOk, IfSome, IfNone};
 ghost use Rattle.std.specs.Option.{option_copied};
@@ -12,8 +12,8 @@ use std::alloc::{AllocError, Global};
 use std::marker::Model;
 use turn_code::copied_values;
 
-/// Signals that actors sent to the environment, in the order in which they were sent, as many as there is room for.
-/// After `new` only `copy` can answer that memory is wanting.
+/// Signals that actors sent to the environment, in the order in which they were sent, up to a capacity.
+/// After `new` only `copy` can return that memory ran out.
 #[derive(Drop)]
 pub struct Ring {
     items: HeapCircularBuffer<Emitted>,
@@ -28,7 +28,7 @@ impl Model for Ring {
 }
 
 impl Ring {
-    /// An empty ring with room for so many signals.
+    /// An empty ring with room for `capacity` signals. `AllocError` if memory runs out.
     pub(crate) fn new(alloc: Global, capacity: usize) -> Result<Ring, AllocError>
         ensures { IfOk result (λ ring. ring ≡ record { capacity = capacity; items = [] }) }
     {
@@ -37,21 +37,21 @@ impl Ring {
         })
     }
 
-    /// How many signals there are.
+    /// The number of signals.
     pub(crate) fn len(&self) -> usize
         ensures { result ≡ length self.now.items }
     {
         self.items.len()
     }
 
-    /// The signal at a place: 0 is that of the one that has waited longest.
+    /// The signal at a place; 0 is the one that has waited longest.
     pub(crate) fn get(&self, place: usize) -> Option<&Emitted>
         ensures { option_copied result ≡ slice_get self.now.items place }
     {
         self.items.get(place)
     }
 
-    /// Puts a signal behind the others, where there is room. Whether there was.
+    /// Adds a signal after the others if there is room, and returns whether there was.
     pub(crate) fn put(&mut self, emitted: Emitted) -> bool
         ensures ring { self.new ≡ with_emitted self.old emitted }
         ensures room { result ≡ has_room self.old }
@@ -68,7 +68,7 @@ impl Ring {
         self.items.pop_front()
     }
 
-    /// An equal ring.
+    /// An equal ring, or `AllocError` if memory runs out.
     pub(crate) fn copy(&self) -> Result<Ring, AllocError>
         ensures { IfOk result (λ ring. ring ≡ self.now) }
     {
@@ -81,7 +81,7 @@ impl Ring {
     }
 }
 
-/// The same signal once more. It can't fail.
+/// A copy of the signal. It can't fail.
 pub(crate) fn copied(emitted: &Emitted) -> Emitted
     ensures { result ≡ emitted.now }
 {

@@ -1,4 +1,4 @@
-//! Turns begin, and signals are thrown away.
+//! Begins of turns, and skips.
 
 ghost use Rattle.std.specs.Prelude.{◌≡◌, ◌<◌, ◌+◌, ◌^◌, Option, Some, None, option_map, slice_get};
 ghost use Rattle.actor_machine.specs.Core.{change, is_out};
@@ -16,7 +16,7 @@ use input_port::Item;
 use turn_check::Verified;
 use turn_code::{Address, Input, Trigger, Value};
 
-/// How many turns can be counted.
+/// The greatest number of turns.
 const TURNS: u64 = 1 << 40;
 
 /// Why an actor can't begin a turn, if it can't.
@@ -39,7 +39,7 @@ pub(crate) fn begin_refusal(set: &Verified, turns: u64, actor: &Actor) -> Option
     }
 }
 
-/// Why an actor can't throw a signal away, if it can't.
+/// Why an actor can't skip an item, if it can't.
 pub(crate) fn skip_refusal(set: &Verified, actor: &Actor) -> Option<Refusal>
     ensures { result ≡ first_of (skip_rows set.now actor.now) }
 {
@@ -63,7 +63,7 @@ fn brought_by(item: Option<Item>) -> (ArrayVec<Value, 4>, Option<Address>)
     }
 }
 
-/// What a turn is given.
+/// The input of a turn.
 fn input_with(variables: &ArrayVec<Option<Value>, 32>, item: Option<Item>) -> Input
     ensures { (a : PlainActor) → a.variables ≡ variables.now → result ≡ input_with a item }
 {
@@ -77,7 +77,7 @@ fn input_with(variables: &ArrayVec<Option<Value>, 32>, item: Option<Item>) -> In
     }
 }
 
-/// An actor takes the item that it finds, and has a turn out.
+/// The actor takes the item that it finds, and has this turn out.
 fn begin(set: &Verified, turn: u64, actor: &mut Actor)
     ensures { actor.new ≡ begun set.now turn actor.old }
 {
@@ -92,7 +92,7 @@ fn begin(set: &Verified, turn: u64, actor: &mut Actor)
     });
 }
 
-/// An actor throws away the item that it finds.
+/// The actor discards the item that it finds, and returns its signal or timer.
 fn skip(set: &Verified, actor: &mut Actor) -> Option<Trigger>
     ensures actor { actor.new ≡ skipped set.now actor.old }
     ensures skipped { result ≡ option_map trigger_of (item_at set.now actor.old.name.process.0 actor.old.standing actor.old.port.items) }
@@ -103,7 +103,7 @@ fn skip(set: &Verified, actor: &mut Actor) -> Option<Trigger>
     }
 }
 
-/// Actor `number` takes the item that it finds, and has a turn out.
+/// Actor `number` takes the item that it finds, and has this turn out.
 fn begin_at(set: &Verified, number: u8, turn: u64, actors: &mut [Actor])
     ensures { actors.new ≡ change actors.old number (begun set.now turn) }
 {
@@ -112,7 +112,7 @@ fn begin_at(set: &Verified, number: u8, turn: u64, actors: &mut [Actor])
     }
 }
 
-/// Actor `number` throws away the item that it finds.
+/// Actor `number` discards the item that it finds, and returns its signal or timer.
 fn skip_at(set: &Verified, number: u8, actors: &mut [Actor]) -> Option<Trigger>
     ensures actors { actors.new ≡ change actors.old number (skipped set.now) }
     ensures skipped { result ≡ skipped_by set.now (slice_get actors.old number) }
@@ -125,7 +125,7 @@ fn skip_at(set: &Verified, number: u8, actors: &mut [Actor]) -> Option<Trigger>
 }
 
 impl LinkActors {
-    /// An actor begins a turn: it takes the item that it finds, and has the turn out.
+    /// Begins a turn of an actor: it takes the item that it finds, and has the turn out.
     pub fn begin(&mut self, set: &Verified, actor: u8)
         requires { self.old.turns < MOST_TURNS_BEGUN }
         ensures { self.new ≡ record self.old { actors = change self.old.actors actor (begun set.now self.old.turns); turns = self.old.turns + 1 } }
@@ -134,7 +134,7 @@ impl LinkActors {
         self.turns += 1;
     }
 
-    /// An actor throws away the item that it finds.
+    /// Discards the item that an actor finds, and returns its signal or timer.
     pub fn skip(&mut self, set: &Verified, actor: u8) -> Option<Trigger>
         ensures link { self.new ≡ record self.old { actors = change self.old.actors actor (skipped set.now) } }
         ensures skipped { result ≡ skipped_by set.now (slice_get self.old.actors actor) }
