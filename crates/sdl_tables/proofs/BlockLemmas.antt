@@ -1,4 +1,4 @@
--- The tables of a block are the block's.
+-- The tables of a block agree with the block.
 use Rattle.std.proofs.Common.{◌≡◌, ℕ, ◌<◌, ◌≤◌, nat_lt, List, [], ◌∷◌, ◌++◌, map, length, Option, None, Some, Contains, slice_get, if◌then◌else◌, refl, sym, ap, ◌∙◌, subst, get_or}
 use Rattle.std.specs.List.{flat_map, position_or_len}
 use Rattle.std.specs.Option.{option_map, option_and_then}
@@ -22,14 +22,14 @@ use Rattle.plain_laws.proofs.Searches.{position-map, find-at}
 pub flat_map-push : {X : Type 0} (f : X → List ℕ) (xs : List X) (x : X) → flat_map f (xs ++ x ∷ []) ≡ flat_map f xs ++ f x
 flat_map-push f xs x = flat_map-append f xs (x ∷ []) ∙ ap (λ r. flat_map f xs ++ r) (append-nil (f x))
 
--- one more that gives no place
+-- Appends an element that has no place.
 pub Marks-nothing : {X : Type 0} (f : X → List ℕ) (xs : List X) (x : X) (place : Option ℕ)
     → Marks place (flat_map f xs) → f x ≡ [] → Marks place (flat_map f (xs ++ x ∷ []))
 Marks-nothing f xs x place m none =
     subst (Marks place)
     (sym (append-nil (flat_map f xs)) ∙ (ap (λ r. flat_map f xs ++ r) (sym none) ∙ sym (flat_map-push f xs x))) m
 
--- one more that gives one
+-- Appends an element that has a place.
 pub Marks-one : {X : Type 0} (f : X → List ℕ) (xs : List X) (x : X) (one both : Option ℕ) (at : ℕ)
     → Marks one (flat_map f xs) → Contains (f x) at
     → ((us vs : List ℕ) → Marks one us → Marks (Some at) vs → Marks both (us ++ vs)) → Marks both (flat_map f (xs ++ x ∷ []))
@@ -41,7 +41,7 @@ Marks-some f xs x both at m there e =
     let empty : flat_map f (xs ++ x ∷ []) ≡ [] = subst (λ (o : Option ℕ). Marks o (flat_map f (xs ++ x ∷ []))) e m in
     not_empty (f x) at there (append-nil_right (flat_map f xs) (f x) (sym (flat_map-push f xs x) ∙ empty))
 
--- the signal with a name is the one with its number
+-- The signal with a name is the one at the number of that name.
 pub signal-by_number : (b : PlainBlock) (x : List ℕ) → signal_named b x ≡ option_and_then (slice_get (signals_of b)) (number_of (signal_names b) x)
 signal-by_number b x =
     let p = λ (s : PlainSignal). same_name x s.name.name in
@@ -86,14 +86,14 @@ flat_map-map : {A B C : Type 0} (g : B → List C) (f : A → B) (xs : List A) �
 flat_map-map g f [] = refl
 flat_map-map g f (x ∷ xs) = ap (λ r. g (f x) ++ r) (flat_map-map g f xs)
 
--- what is twice in the processes, in the way of the code
+-- The duplicate names inside processes, in the order in which the code collects them.
 pub inside-processes : {A : Type 0} (f : A → PlainProcess) (xs : List A) (ps : List PlainProcess) → map f xs ≡ ps
     → flat_map (λ x. flat_map (repeats []) (process_scopes (f x))) xs ≡ flat_map (repeats []) (flat_map process_scopes ps)
 inside-processes f xs ps e =
     sym (flat_map-map (λ p. flat_map (repeats []) (process_scopes p)) f xs)
     ∙ (ap (flat_map (λ p. flat_map (repeats []) (process_scopes p))) e ∙ sym (flat_map-flat_map (repeats []) process_scopes ps))
 
--- a table has each name once: that changes nothing
+-- Removing duplicates from the table doesn't change which names are shared with it.
 shared-once : (ids xs : List Identifier) → shared (names_once ids) xs ≡ shared ids xs
 shared-once ids [] = refl
 shared-once ids (x ∷ xs) =
@@ -110,7 +110,7 @@ shared-inside f ids (x ∷ xs) =
     let there : flat_map (λ x. shared (names_once ids) (timers_of (f x))) xs ≡ flat_map (λ x. shared ids (timers_of (f x))) xs = shared-inside f ids xs in
     cc
 
--- the timers that are named as signals, in the way of the code
+-- The timers that have the name of a signal, in the order in which the code collects them.
 pub timers-inside : {A : Type 0} (f : A → PlainProcess) (b : PlainBlock) (table ids : List Identifier) (xs : List A) → map f xs ≡ processes_of b
     → ids ≡ signal_names b → table ≡ names_once ids → flat_map (λ x. shared table (timers_of (f x))) xs ≡ signal_timers b
 timers-inside f b table ids xs e same once =

@@ -1,4 +1,4 @@
--- The index with one signal more.
+-- The index with one more signal.
 use Rattle.std.proofs.Common.{◌≡◌, ℕ, Bool, true, false, not, cond, List, [], ◌∷◌, ◌++◌, if◌then◌else◌, map, sym, ap, ◌∙◌}
 use Rattle.std.specs.List.{list_any}
 use Rattle.std.proofs.lemmas.List.{map-append}
@@ -24,7 +24,7 @@ module _ (i n : RouteIndex) (ms : List Mention) (m : Mention) (key : Passage) (a
       carried_push ms m p q s (is_carried i p q s) (is_carried n p q s) (old.carried p q s)
       (puts (passage_of p q s) ∙ ap (λ k. cond (same_passage k (passage_of p q s)) true (is_carried i p q s)) way)
 
-  -- one that was there
+  -- A passage that was already in the index.
   pub index_known : added ≡ false → n.receivers ≡ i.receivers → n.senders ≡ i.senders → Indexes n (ms ++ m ∷ [])
   index_known stands receivers senders =
       let there = before true (not-false (contains same_passage i.carried key) (sym told ∙ stands)) in
@@ -38,7 +38,7 @@ module _ (i n : RouteIndex) (ms : List Mention) (m : Mention) (key : Passage) (a
             ∙ ap (λ l. receivers_in l p s) (sym (map-append turned ms (m ∷ [])))));
       }
 
-  -- one that is new
+  -- A passage that is new.
   pub index_new : added ≡ true
       → ((k : End) → held n.receivers k ≡ held i.receivers k ++ (if same_end (end_of m.from m.signal) k then m.to ∷ [] else []))
       → ((k : End) → held n.senders k ≡ held i.senders k ++ (if same_end (end_of m.to m.signal) k then m.from ∷ [] else []))

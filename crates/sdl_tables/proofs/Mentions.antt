@@ -1,4 +1,4 @@
--- What the index has of the signals that paths bring, one after another.
+-- The contents of the index after the signals of paths were added one by one.
 use Rattle.std.proofs.Common.{◌≡◌, ℕ, Bool, true, false, cond, ◌&&◌, ◌||◌, List, [], ◌∷◌, ◌++◌, if◌then◌else◌, fold, map, bytes_eq, refl, sym, ap, ◌∙◌}
 use Rattle.std.specs.List.{list_any, flat_map}
 use Rattle.std.proofs.lemmas.List.{append-nil, map-append}
@@ -44,7 +44,7 @@ side_self (sides.Process x) = (bytes_eq-Decides x x).1 refl
 sides_of : (p q : Party) → same_party p q ≡ true → side_of p ≡ side_of q
 sides_of p q h = side_same (side_of p) (side_of q) (sym (party_side p q) ∙ h)
 
--- what is the same as one of two that are the same is the same as the other
+-- A party has the same relation to two equal parties.
 pub party_same : (x p q : Party) → same_party p q ≡ true → same_party x p ≡ same_party x q
 party_same x p q h = party_side x p ∙ (ap (λ s. same_side (side_of x) s) (sides_of p q h) ∙ sym (party_side x q))
 
@@ -57,7 +57,7 @@ party_turned p q = party_side p q ∙ (same_sides (side_of p) (side_of q) ∙ sy
 name_same : (x s t : List ℕ) → same_name s t ≡ true → same_name s x ≡ same_name t x
 name_same x s t h = ap (λ k. bytes_eq k (folded x)) ((bytes_eq-Decides (folded s) (folded t)).0 h)
 
--- a key of the index is that of a signal under way where the two are the same
+-- Two keys of the index are equal exactly if the parties and the signal are the same.
 pub passage_mention : (from to p q : Party) (signal s : List ℕ)
     → same_passage (passage_of from to signal) (passage_of p q s) ≡ is_mention p q s (record { from = from; to = to; signal = signal })
 passage_mention from to p q signal s =
@@ -72,7 +72,7 @@ end_mention own p signal s =
     let b = nat_list_eq_equiv.symm (folded signal) (folded s) in
     λ i. a i && b i
 
--- ---- parties once
+-- ---- lists of parties without duplicates
 
 same_among : (ps : List Party) (p q : Party) → same_party p q ≡ true → list_any (same_party p) ps ≡ list_any (same_party q) ps
 same_among [] p q h = refl
@@ -111,7 +111,7 @@ added_there ps q = one_more ps q q (list_any (same_party q) ps) refl ∙ (ap (λ
 add_twice : (ps : List Party) (q : Party) → add_party (add_party ps q) q ≡ add_party ps q
 add_twice ps q = add_there (add_party ps q) q (added_there ps q)
 
--- ---- the signals under way
+-- ---- passages of signals
 
 one_among : (p q to : Party) (a c : Bool) → list_any (same_party q) (if a && c then to ∷ [] else []) ≡ (a && (same_party q to && c))
 one_among p q to true true = or-false (same_party q to) ∙ sym (and-true (same_party q to))
@@ -124,7 +124,7 @@ reached (m ∷ ms) p q s =
     list_any-append (same_party q) (mention_receivers p s m) (flat_map (mention_receivers p s) ms)
     ∙ (λ i. one_among p q m.to (same_party p m.from) (same_name s m.signal) i || reached ms p q s i)
 
--- who is among the receivers gets the signal
+-- A party is among the receivers exactly if a path carries the signal to it.
 pub is_received : (ms : List Mention) (p q : Party) (s : List ℕ) → list_any (same_party q) (receivers_in ms p s) ≡ list_any (is_mention p q s) ms
 is_received ms p q s = among_fold [] (flat_map (mention_receivers p s) ms) q ∙ reached ms p q s
 
@@ -144,7 +144,7 @@ receivers_push ms m p s =
     ap (λ l. fold add_party [] l) (flat_map-append (mention_receivers p s) ms (m ∷ []) ∙ ap (λ r. flat_map (mention_receivers p s) ms ++ r) (append-nil (mention_receivers p s m)))
     ∙ fold-append add_party [] (flat_map (mention_receivers p s) ms) (mention_receivers p s m)
 
--- a signal more whose way is new
+-- Adds a signal whose passage is new.
 pub receivers_new : (ms : List Mention) (m : Mention) (p : Party) (s : List ℕ) → list_any (is_mention m.from m.to m.signal) ms ≡ false
     → receivers_in (ms ++ m ∷ []) p s ≡ receivers_in ms p s ++ (if same_party p m.from && same_name s m.signal then m.to ∷ [] else [])
 receivers_new ms m p s h = receivers_push ms m p s ∙ by_test (same_party p m.from) (same_name s m.signal) refl refl
@@ -155,7 +155,7 @@ receivers_new ms m p s h = receivers_push ms m p s ∙ by_test (same_party p m.f
     by_test true false e f = sym (append-nil (receivers_in ms p s))
     by_test false c e f = sym (append-nil (receivers_in ms p s))
 
--- a signal more whose way is known
+-- Adds a signal whose passage is already known.
 pub receivers_known : (ms : List Mention) (m : Mention) (p : Party) (s : List ℕ) → list_any (is_mention m.from m.to m.signal) ms ≡ true
     → receivers_in (ms ++ m ∷ []) p s ≡ receivers_in ms p s
 receivers_known ms m p s h = receivers_push ms m p s ∙ by_test (same_party p m.from) (same_name s m.signal) refl refl
@@ -166,7 +166,7 @@ receivers_known ms m p s h = receivers_push ms m p s ∙ by_test (same_party p m
     by_test true false e f = refl
     by_test false c e f = refl
 
--- the other way round
+-- Reversed mentions.
 pub turned_any : (ms : List Mention) (p q : Party) (s : List ℕ) → list_any (is_mention q p s) (map turned ms) ≡ list_any (is_mention p q s) ms
 turned_any [] p q s = refl
 turned_any (m ∷ ms) p q s = λ i. swapped (same_party q m.to) (same_party p m.from) (same_name s m.signal) i || turned_any ms p q s i
@@ -241,7 +241,7 @@ paths_receivers (path ∷ paths) ps p s =
     ∙ (paths_receivers paths (fold add_party ps (path_receivers p s path)) p s
     ∙ sym (fold-append add_party ps (path_receivers p s path) (flat_map (path_receivers p s) paths)))))
 
--- what the index has for a party is what the paths of the block say
+-- The parties in the index are those of the block's paths.
 pub path_parties : (paths : List PlainPath) (p : Party) (s : List ℕ) → receivers_in (flat_map mentions_of paths) p s ≡ parties_once (flat_map (path_receivers p s) paths)
 path_parties paths p s = paths_receivers paths [] p s
 
@@ -268,7 +268,7 @@ path_sources paths p s =
     ap (λ ms. receivers_in ms p s) (turned_mentions paths)
     ∙ (path_parties (map turned_path paths) p s ∙ ap parties_once (turned_senders paths p s))
 
--- those of one route more
+-- The mentions of one more route.
 pub routes_more : (rs : List (Bor Route)) (r : Bor Route)
     → flat_map mentions_of (flat_map (λ x. x.paths) (map (λ x. route_of x.now) (rs ++ r ∷ [])))
     ≡ flat_map mentions_of (flat_map (λ x. x.paths) (map (λ x. route_of x.now) rs)) ++ flat_map mentions_of (route_of r.now).paths

@@ -1,4 +1,4 @@
--- Numbers of names, and names that are stamped by number.
+-- Numbers of names, and names that are marked by number with a stamp.
 use Rattle.std.proofs.Common.{◌≡◌, ℕ, ◌+◌, ◌<◌, ◌≤◌, ◌==◌, Bool, true, false, cond, not, ◌||◌, if◌then◌else◌, List, [], ◌∷◌, ◌++◌, length, map, Option, Some, None, position, bytes_eq, refl, sym, ap, ◌∙◌, subst, arith, get_or, set, zero, suc, true≢false}
 use Rattle.std.specs.Option.{option_map_or}
 use Rattle.std.specs.List.{flat_map, position_from, AllByRecursion}
@@ -20,7 +20,7 @@ use Rattle.sdl_tables.specs.Triggers.{trigger_ids, taken_by, IsNumbered, AreNumb
 use Rattle.sdl_tables.specs.declared.triggers.Trigger.{Trigger}
 use Rattle.std.specs.Global.{Vec}
 
--- ---- lists of which each element is so
+-- ---- lists in which each element satisfies a predicate
 
 pub each_as : {X : Type 0} (P Q : X → Type 0) → ((x : X) → P x → Q x) → (xs : List X) → AllByRecursion P xs → AllByRecursion Q xs
 each_as P Q turn [] all = tt
@@ -31,7 +31,7 @@ each_at P [] i d all lt = absurd (omega arith)
 each_at P (x ∷ xs) zero d all lt = all.0
 each_at P (x ∷ xs) (suc i) d all lt = each_at P xs i d all.1 (omega arith)
 
--- ---- one element more
+-- ---- one more element
 
 pub joined_push : {A B : Type 0} (f : A → List B) (xs : List A) (x : A) → flat_map f (xs ++ x ∷ []) ≡ flat_map f xs ++ f x
 joined_push f xs x = flat_map-append f xs (x ∷ []) ∙ ap (λ r. flat_map f xs ++ r) (append-nil (f x))
@@ -49,7 +49,7 @@ marked_more before xs id new double fresh m =
     (ap (λ r. repeats before xs ++ r) (ap (λ b. if b then [] else id.at ∷ []) fresh ∙ if-not (is_in (before ++ xs) id.name) [] (id.at ∷ []))
     ∙ sym (repeats_more before xs id)) m
 
--- what a part gives to a state, where the part is told
+-- The names that a STATE part adds to a state, given by an equal list.
 pub given_as : (of_part : PlainState → List Identifier) (xs : List Identifier) (states : List Identifier) (s : ℕ) (part : PlainState) → xs ≡ of_part part
     → given_to (λ _. xs) states s part ≡ given_to of_part states s part
 given_as of_part xs states s part e =
@@ -57,7 +57,7 @@ given_as of_part xs states s part e =
 
 -- ---- numbers
 
--- the number of a name, from a number on
+-- The number of a name, counted from k.
 abbrev from : ℕ → List Identifier → List ℕ → Option ℕ
 from k ids x = position_from (λ id. same_name x id.name) k ids
 
@@ -73,14 +73,14 @@ from-kept k [] id x n h = absurd (none-some n h)
 from-kept k (y ∷ ys) id x n h =
     kept_by (same_name x y.name) k n (from (k + 1) ys x) (from (k + 1) (ys ++ id ∷ []) x) (from-kept (k + 1) ys id x n) h
 
--- one more name changes no number
+-- Appending a name changes no number.
 pub numbers_kept : (ids : List Identifier) (id : Identifier) → Keeps ids (ids ++ id ∷ [])
 numbers_kept ids id x n h = number_from (ids ++ id ∷ []) x ∙ from-kept 0 ids id x n (sym (number_from ids x) ∙ h)
 
 pub keeps_all : (old mid new : List Identifier) → Keeps old mid → Keeps mid new → Keeps old new
 keeps_all old mid new one other x n h = other x n (one x n h)
 
--- numbers stay numbers
+-- Numbers remain valid.
 pub still_numbered : (old new : List Identifier) (ts : List Trigger) → Keeps old new → AllByRecursion (IsNumbered old) ts → AllByRecursion (IsNumbered new) ts
 still_numbered old new ts keeps all = each_as (IsNumbered old) (IsNumbered new) (λ t h. keeps t.id.name t.number h) ts all
 
@@ -107,7 +107,7 @@ from-new k (y ∷ ys) id h =
     new_by (same_name id.name y.name) k (k + length (y ∷ ys)) (from (k + 1) ys id.name) (from (k + 1) (ys ++ id ∷ []) id.name)
     (λ e. from-new (k + 1) ys id e ∙ ap Some more) h
 
--- a name that isn't there comes last
+-- A new name gets the next number.
 pub number_new : (ids : List Identifier) (id : Identifier) → number_of ids id.name ≡ None → number_of (ids ++ id ∷ []) id.name ≡ Some (length ids)
 number_new ids id h =
     number_from (ids ++ id ∷ []) id.name
@@ -137,7 +137,7 @@ from-bound k (y ∷ ys) x n h =
 pub number_within : (ids : List Identifier) (x : List ℕ) (n : ℕ) → number_of ids x ≡ Some n → n < length ids
 number_within ids x n h = let r = from-bound 0 ids x n (sym (number_from ids x) ∙ h) in omega (arith, r.1)
 
--- two names of one number
+-- Two names with one number.
 alike_by : (b c : Bool) (k n m : ℕ) (x y z : List ℕ) (o q : Option ℕ) → same_name x z ≡ b → same_name y z ≡ c → n ≡ m
     → ((i : ℕ) → o ≡ Some i → k < i) → ((i : ℕ) → q ≡ Some i → k < i)
     → (o ≡ Some n → q ≡ Some m → folded x ≡ folded y)
@@ -170,7 +170,7 @@ same_by ids x y n m h g false true e f =
     let both : number_of ids y ≡ number_of ids x = ap (λ z. position (λ id. bytes_eq z (folded id.name)) ids) one in
     absurd (eqb-false m n e (same_Some m n (sym g ∙ (both ∙ h))))
 
--- names are the same where their numbers are
+-- Two names are the same exactly if their numbers are equal.
 pub same_number : (ids : List Identifier) (x y : List ℕ) (n m : ℕ) → number_of ids x ≡ Some n → number_of ids y ≡ Some m → (m == n) ≡ same_name y x
 same_number ids x y n m h g = same_by ids x y n m h g (m == n) (same_name y x) refl refl
 
@@ -195,7 +195,7 @@ stamped_by names before seen stamp t x m old lt false e s =
     ap (λ v. v == stamp) (get_or-set_other seen t.number m stamp 0 (eqb-false m t.number e))
     ∙ (old ∙ (sym (or-false (is_in before x)) ∙ (ap (λ r. is_in before x || r) s ∙ sym (one_more before t.id x))))
 
--- one name more
+-- Marks one more name.
 pub stamped_more : (names before : List Identifier) (seen : List ℕ) (stamp : ℕ) (t : Trigger) → Stamped names seen stamp before → IsNumbered names t
     → Stamped names (set seen t.number stamp) stamp (before ++ t.id ∷ [])
 stamped_more names before seen stamp t old numbered =
@@ -222,14 +222,14 @@ not_equal : (m n : ℕ) → m < n → (b : Bool) → (m == n) ≡ b → (m == n)
 not_equal m n lt true e = let same : m ≡ n = eqb-true m n e in absurd (omega arith)
 not_equal m n lt false e = e
 
--- a new stamp
+-- With a new stamp, no name is marked.
 pub stamped_fresh : (names : List Identifier) (seen : List ℕ) (stamp : ℕ) → AreBelow seen stamp → length names ≡ length seen → Stamped names seen stamp []
 stamped_fresh names seen stamp below count = record {
   count = count;
   same = λ x n h. not_equal (get_or seen n 0) stamp (below n) (get_or seen n 0 == stamp) refl;
 }
 
--- ---- the part with a number
+-- ---- the STATE part with a number
 
 pub taken_past : (parts : List (Vec Trigger)) (n : ℕ) → length parts ≤ n → taken_by parts n ≡ []
 taken_past parts n past = ap (λ o. option_map_or trigger_ids o []) (slice_get_past parts n past)
@@ -243,7 +243,7 @@ numbered_in names parts n v ts lt is items all =
     subst (AllByRecursion (IsNumbered names)) (sym items)
     (subst (λ (w : Vec Trigger). AllByRecursion (IsNumbered names) w.items) (sym is) (each_at (λ (w : Vec Trigger). AllByRecursion (IsNumbered names) w.items) parts n v all lt))
 
--- ---- names that stand before already
+-- ---- names that occurred before
 
 pub is_in-append : (xs ys : List Identifier) (x : List ℕ) → is_in (xs ++ ys) x ≡ (is_in xs x || is_in ys x)
 is_in-append xs ys x = list_any-append (λ y. same_name x y.name) xs ys
@@ -256,7 +256,7 @@ both_in false false h = refl
 pub covers_last : (before ids : List Identifier) → Covers (before ++ ids) ids
 covers_last before ids x h = is_in-append before ids x ∙ (ap (λ b. is_in before x || b) h ∙ or-true (is_in before x))
 
--- all of them repeat
+-- If all names occurred before, all of them are repeated.
 pub repeats_covered : (before ids : List Identifier) → Covers before ids → repeats before ids ≡ map (λ id. id.at) ids
 repeats_covered before [] covers = refl
 repeats_covered before (id ∷ ids) covers =
@@ -267,7 +267,7 @@ repeats_covered before (id ∷ ids) covers =
     ap (λ b. (if b then id.at ∷ [] else []) ++ repeats (before ++ id ∷ []) ids) here
     ∙ ap (λ r. id.at ∷ r) (repeats_covered (before ++ id ∷ []) ids rest)
 
--- and no stamp is missing
+-- If all names occurred before, their marks are complete already.
 pub stamped_covered : (names before ids : List Identifier) (seen : List ℕ) (stamp : ℕ) → Stamped names seen stamp before → Covers before ids
     → Stamped names seen stamp (before ++ ids)
 stamped_covered names before ids seen stamp old covers = record {

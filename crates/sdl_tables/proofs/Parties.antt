@@ -1,4 +1,4 @@
--- What a table's keys and values say of parties.
+-- The keys and values of a table of parties.
 use Rattle.std.proofs.Common.{◌≡◌, false, ◌||◌, List, [], ◌∷◌, ◌++◌, map, None, is_some, refl, sym, ap, ◌∙◌}
 use Rattle.std.proofs.lemmas.List.{map-append}
 use Rattle.std.specs.List.{list_any}
@@ -10,7 +10,7 @@ use Rattle.sdl_tables.specs.RouteIndexes.{same_side, side_of}
 use Rattle.sdl_tables.proofs.RouteKeys.{party_side}
 use Rattle.sdl_tables.proofs.Tables.{is_some-lookup, is_none, list_any-map}
 
--- the keys are those of the values
+-- Each key is that of its value.
 abbrev pub Sided : List (Side × Party) → Type 0
 Sided es = keys_of es ≡ map side_of (values_of es)
 

@@ -1,4 +1,4 @@
--- The tables of a process are the process's.
+-- The tables of a process agree with the process.
 use Rattle.std.proofs.Common.{◌≡◌, List, [], ◌++◌, map, sym, ap, ◌∙◌, append_assoc}
 use Rattle.std.specs.List.{flat_map}
 use Rattle.sdl_ast.specs.declared.expression.Identifier.{Identifier}
@@ -13,7 +13,7 @@ pub ids-of_rows : (p : PlainProcess) (rows : List row.Variable) (ids : List Iden
     → ids ≡ map (λ r. r.name) rows → ids ≡ variable_names p
 ids-of_rows p rows ids same h = h ∙ (sym (map-map (λ v. v.name) variable_of rows) ∙ ap (map (λ v. v.name)) same)
 
--- the names of a process that are there twice: those that it declares, and those that its states take and save
+-- The duplicate names of a process: those that it declares, and those that its states consume and save.
 pub scopes_are : (p : PlainProcess) → flat_map (repeats []) (process_scopes p)
     ≡ (repeats [] (variable_names p) ++ (repeats [] (timers_of p) ++ repeats [] (connector_names p))) ++ flat_map (repeats []) (triggers_by_state p)
 scopes_are p =

@@ -1,4 +1,4 @@
--- Names once, and names that repeat.
+-- Lists without duplicates, and names that repeat.
 use Rattle.std.proofs.Common.{◌≡◌, ℕ, Bool, true, false, not, ◌||◌, List, [], ◌∷◌, ◌++◌, fold, Option, if◌then◌else◌, bytes_eq, refl, sym, ap, ◌∙◌, subst, append_assoc}
 use Rattle.std.specs.List.{list_any}
 use Rattle.std.proofs.lemmas.List.Folds.{list_any-append}
@@ -12,7 +12,7 @@ use Rattle.sdl_tables.specs.Names.{same_name, is_in, add_name, names_once}
 use Rattle.sdl_tables.specs.Scopes.{repeats, Marks}
 use Rattle.plain_laws.proofs.Lists.{cons-nil, append-nil_left, append-nil_right}
 
--- a name is among those where one that is the same is
+-- Two spellings of one name are both in a list, or neither is.
 is_in-same : (ids : List Identifier) (x y : List ℕ) → same_name x y ≡ true → is_in ids x ≡ is_in ids y
 is_in-same ids x y h =
     ap (λ f. list_any (λ id. bytes_eq f (folded id.name)) ids) ((bytes_eq-Decides (folded x) (folded y)).0 h)
@@ -38,7 +38,7 @@ is_in-fold before (id ∷ ids) x =
     ∙ (ap (λ r. r || is_in ids x) (is_in-add_name before id x)
     ∙ or_assoc (is_in before x) (same_name x id.name) (is_in ids x))
 
--- names once are all the names
+-- Removing duplicates keeps all names.
 pub is_in-names_once : (ids : List Identifier) (x : List ℕ) → is_in (names_once ids) x ≡ is_in ids x
 is_in-names_once ids x = is_in-fold [] ids x
 
@@ -50,7 +50,7 @@ repeats-append before (x ∷ xs) ys =
     ∙ (sym (append_assoc here (repeats (before ++ x ∷ []) xs) (repeats ((before ++ x ∷ []) ++ xs) ys))
     ∙ ap (λ b. (here ++ repeats (before ++ x ∷ []) xs) ++ repeats b ys) (append_assoc before (x ∷ []) xs))
 
--- one identifier more
+-- One more identifier.
 pub repeats-push : (xs : List Identifier) (id : Identifier)
     → repeats [] (xs ++ id ∷ []) ≡ repeats [] xs ++ (if is_in xs id.name then id.at ∷ [] else [])
 repeats-push xs id =
@@ -86,6 +86,6 @@ fold-distinct before (id ∷ ids) h =
     ap (λ b. fold add_name b ids) (add-distinct before id (is_in before id.name) refl here)
     ∙ (fold-distinct (before ++ id ∷ []) ids rest ∙ append_assoc before (id ∷ []) ids)
 
--- where no name is there twice, names once are the names
+-- A list in which no name repeats is unchanged when duplicates are removed.
 pub names_once-distinct : (ids : List Identifier) → repeats [] ids ≡ [] → names_once ids ≡ ids
 names_once-distinct ids h = fold-distinct [] ids h

@@ -1,4 +1,4 @@
--- Keys of the tables, and parties by their keys.
+-- Keys of the tables, and parties compared by their keys.
 use Rattle.std.proofs.Common.{◌≡◌, Bool, true, false, cond, ◌&&◌, [], ◌∷◌, ◌++◌, Option, None, Some, if◌then◌else◌, bytes_eq, refl, sym, ap, ◌∙◌, subst, true≢false}
 use Rattle.std.specs.Option.{option_map_or}
 use Rattle.std.specs.Global.{Vec}
@@ -29,14 +29,14 @@ end_same x y h =
     let b = (bytes_eq-Decides x.signal y.signal).0 parts.1 in
     λ i. record { side = a i; signal = b i }
 
--- two parties are one where their sides are
+-- Two parties are the same exactly if their keys are equal.
 pub party_side : (p q : Party) → same_party p q ≡ same_side (side_of p) (side_of q)
 party_side Environment Environment = refl
 party_side Environment (Process y) = refl
 party_side (Process x) Environment = refl
 party_side (Process x) (Process y) = refl
 
--- what a new key has
+-- The list of a new key.
 pub first_held : (f : End → Option (Vec Party)) (key k : End) (list : Vec Party) (other : Party) (new : Option (Vec Party)) → f key ≡ None
     → list.items ≡ other ∷ [] → (b : Bool) → same_end key k ≡ b → new ≡ cond b (Some list) (f k)
     → option_map_or (λ v. v.items) new [] ≡ option_map_or (λ v. v.items) (f k) [] ++ (if b then other ∷ [] else [])

@@ -1,4 +1,4 @@
--- The inputs of each state, by number.
+-- The inputs of each state, by the number of the state.
 use Rattle.std.proofs.Common.{◌≡◌, ℕ, ◌+◌, ◌<◌, ◌==◌, Bool, true, false, List, [], ◌∷◌, ◌++◌, map, length, Some, if◌then◌else◌, slice_get, refl, sym, ap, ◌∙◌, subst, arith, get_or, set, zero, suc, ◌≢◌}
 use Rattle.std.specs.List.{flat_map, enumerate_from}
 use Rattle.std.specs.Option.{option_map_or}

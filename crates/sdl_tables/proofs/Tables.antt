@@ -1,4 +1,4 @@
--- What a table's keys and values say of names.
+-- The keys and values of a table of names.
 use Rattle.std.proofs.Common.{◌≡◌, ◌<◌, ℕ, Bool, true, false, cond, nat_lt, length, IfSome, ◌||◌, List, [], ◌∷◌, ◌++◌, map, Option, None, Some, is_some, if◌then◌else◌, position, bytes_eq, ◌+◌, refl, sym, ap, ◌∙◌, true≢false, arith}
 use Rattle.std.proofs.lemmas.Iterator.Adapters.{position_from-zero}
 use Rattle.std.proofs.lemmas.List.{map-append}
@@ -10,7 +10,7 @@ use Rattle.sdl_ast.specs.declared.expression.Identifier.{Identifier}
 use Rattle.plain_laws.proofs.Searches.{position-map}
 use Rattle.sdl_tables.specs.Names.{is_in, number_of, add_name}
 
--- an identifier's key
+-- The key of an identifier.
 abbrev pub key_of : Identifier → List ℕ
 key_of id = folded id.name
 
@@ -25,7 +25,7 @@ within-cond true k n e = below
     below = grind (arith, leb_tells, e)
 within-cond false k n e = tt
 
--- whether a test passes somewhere, by the place where it first does
+-- A test passes for some element exactly if it has a first place.
 module _ {X : Type 0} (p : X → Bool) where
   found-from : (k : ℕ) (xs : List X) → is_some (position_from p k xs) ≡ list_any p xs
   found-from k [] = refl
@@ -49,7 +49,7 @@ pub list_any-map : {A B : Type 0} (t : B → Bool) (f : A → B) (xs : List A) �
 list_any-map t f [] = refl
 list_any-map t f (x ∷ xs) = ap (λ r. t (f x) || r) (list_any-map t f xs)
 
--- the keys are those of the values
+-- Each key is that of its value.
 abbrev pub Keyed : List (List ℕ × Identifier) → Type 0
 Keyed es = keys_of es ≡ map key_of (values_of es)
 
@@ -78,7 +78,7 @@ add_name-present ids id h = ap (λ b. if b then ids else ids ++ id ∷ []) h
 pub add_name-new : (ids : List Identifier) (id : Identifier) → is_in ids id.name ≡ false → add_name ids id ≡ ids ++ id ∷ []
 add_name-new ids id h = ap (λ b. if b then ids else ids ++ id ∷ []) h
 
--- a name that the table lacks goes last
+-- A name that isn't in the table is appended.
 pub entries-new : (es : List (List ℕ × Identifier)) (id : Identifier) → Keyed es → is_in (values_of es) id.name ≡ false
     → lookup (bytes_eq (folded id.name)) es ≡ None
 entries-new es id h absent = is_none (lookup (bytes_eq (folded id.name)) es) (holds_name es id.name h ∙ absent)

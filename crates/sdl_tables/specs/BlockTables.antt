@@ -1,4 +1,4 @@
--- What the tables of a block keep.
+-- The contents of the tables of a block.
 use Rattle.std.specs.Prelude.{◌≡◌, [], map}
 use Rattle.std.specs.List.{flat_map}
 use Rattle.sdl_ast.specs.Views.{block_of, signal_of, route_of, process_of}
@@ -8,7 +8,7 @@ use Rattle.sdl_tables.specs.Routes.{paths_of}
 use Rattle.sdl_tables.specs.Scopes.{double_names}
 use Rattle.sdl_tables.specs.declared.block_table.BlockTable.TheInside.{Inside}
 
--- the tables are those of the block, and no name is there twice
+-- the tables agree with the block, and no name is a duplicate
 pub record HasBlockTables (t : Inside) : Type 0 where
   pub signals : t.signals ≡ signal_names (block_of t.block.now)
   pub rows : map (λ s. signal_of s.now) t.rows.items ≡ signals_of (block_of t.block.now)

@@ -1,6 +1,6 @@
--- The tables of a block: its signals, routes and processes, and of each process the variables,
--- timers, connectors and states, with what each state takes and saves; each in the order of the
--- text. Two names that differ in case alone are one. (Z.100: entity classes and scope units.)
+-- The tables of a block: signals, routes and processes. Each process has variables, timers,
+-- connectors and states, and each state its inputs and saves. All are in text order. Names that
+-- differ only in case are one. (Z.100: entity classes and scope units.)
 use Rattle.std.specs.Prelude.{ℕ, Bool, false, ◌==◌, List, [], ◌∷◌, ◌++◌, Option, if◌then◌else◌, map}
 use Rattle.std.specs.Prelude.{fold, find, position, bytes_eq}
 use Rattle.std.specs.List.{list_any, flat_map, enumerate_from}
@@ -18,11 +18,11 @@ use Rattle.sdl_ast.specs.Plain.{route, connect, process, PlainBlock}
 abbrev pub same_name : List ℕ → List ℕ → Bool
 same_name x y = bytes_eq (folded x) (folded y)
 
--- whether one of these identifiers has the name
+-- one of these identifiers has the name
 abbrev pub is_in : List Identifier → List ℕ → Bool
 is_in ids x = list_any (λ id. same_name x id.name) ids
 
--- the number of a name: the place of the first that has it, from 0
+-- the number of a name, from 0: the index of the first identifier that has it
 abbrev pub number_of : List Identifier → List ℕ → Option ℕ
 number_of ids x = position (λ id. same_name x id.name) ids
 
@@ -46,7 +46,7 @@ processes_in (route r) = []
 processes_in (connect channels routes) = []
 processes_in (process p) = p ∷ []
 
--- the signals, over all SIGNALs
+-- the signals of all SIGNALs
 abbrev pub signals_of : PlainBlock → List PlainSignal
 signals_of b = flat_map signals_in b.entities
 
@@ -71,7 +71,7 @@ signal_named b x = find (λ s. same_name x s.name.name) (signals_of b)
 
 -- ---- variables
 
--- a variable with its sort, and the initial value that its group gives it
+-- a variable with its sort, and the initial value that its group has
 pub record Variable : Type 0 where
   pub name : Identifier
   pub sort : Sort
@@ -97,7 +97,7 @@ abbrev pub timers_in : PlainDeclaration → List Identifier
 timers_in (variables groups) = []
 timers_in (timers names) = names
 
--- the timers of a process, over all TIMERs
+-- the timers of all TIMERs of a process
 abbrev pub timers_of : PlainProcess → List Identifier
 timers_of p = flat_map timers_in p.declarations
 
@@ -113,19 +113,19 @@ connection_named p x = find (λ c. same_name x c.name.name) p.connections
 
 -- ---- states
 
--- one name more, unless it is there
+-- appends a name, unless it is in the list
 abbrev pub add_name : List Identifier → Identifier → List Identifier
 add_name ids id = if is_in ids id.name then ids else ids ++ id ∷ []
 
--- each name once, where and as it stands first
+-- the names without duplicates, in the spelling and order of their first occurrence
 abbrev pub names_once : List Identifier → List Identifier
 names_once ids = fold add_name [] ids
 
--- the names in STATE parts, one as often as it stands there
+-- the names in STATE parts, with duplicates
 abbrev pub named_states : PlainProcess → List Identifier
 named_states p = flat_map (λ part. part.names) p.states
 
--- the states: parts of one name are one state, spelled and numbered by the first
+-- the states: parts with one name are one state, spelled and numbered by the first
 abbrev pub states_of : PlainProcess → List Identifier
 states_of p = names_once (named_states p)
 
@@ -137,7 +137,7 @@ clause_parts (save names) = []
 abbrev pub input_parts : PlainProcess → List PlainInput
 input_parts p = flat_map (λ part. flat_map clause_parts part.clauses) p.states
 
--- what a state takes: a signal with its places, the place of the word INPUT, and the transition
+-- an input of a state: a signal with its places, the place of the word INPUT, and the transition
 pub record Input : Type 0 where
   pub at : ℕ
   pub stimulus : PlainStimulus
@@ -150,7 +150,7 @@ clause_inputs (save names) = []
 abbrev pub part_inputs : PlainState → List Input
 part_inputs part = flat_map clause_inputs part.clauses
 
--- the signals and timers of the SAVEs
+-- the signals and timers of SAVEs
 abbrev pub clause_saves : PlainClause → List Identifier
 clause_saves (input i) = []
 clause_saves (save names) = names
@@ -158,7 +158,7 @@ clause_saves (save names) = names
 abbrev pub part_saves : PlainState → List Identifier
 part_saves part = flat_map clause_saves part.clauses
 
--- the signals and timers of the INPUTs and SAVEs together
+-- the signals and timers of INPUTs and SAVEs
 abbrev pub clause_triggers : PlainClause → List Identifier
 clause_triggers (input i) = map (λ s. s.name) i.stimuli
 clause_triggers (save names) = names
@@ -166,21 +166,21 @@ clause_triggers (save names) = names
 abbrev pub part_triggers : PlainState → List Identifier
 part_triggers part = flat_map clause_triggers part.clauses
 
--- whether a name is that of number s among the states
+-- the name is that of state s
 abbrev pub is_state : List Identifier → ℕ → List ℕ → Bool
 is_state states s x = option_map_or (λ n. n == s) (number_of states x) false
 
--- what a part gives to state s: what is in it, as often as it names the state
+-- the items that a part adds to state s: its items, once for each time that it names the state
 abbrev pub given_to :
     {X : Type 0} → (PlainState → List X) → List Identifier → ℕ → PlainState → List X
 given_to in_part states s part =
     flat_map (λ id. if is_state states s id.name then in_part part else []) part.names
 
--- what state s has, over all its parts
+-- the items of state s, over all STATE parts
 abbrev pub of_state : {X : Type 0} → (PlainState → List X) → PlainProcess → ℕ → List X
 of_state in_part p s = flat_map (given_to in_part (states_of p) s) p.states
 
--- what each state has, by number
+-- the items of each state, by number
 abbrev pub by_state : {X : Type 0} → (PlainState → List X) → PlainProcess → List (List X)
 by_state in_part p = map (λ s. of_state in_part p s.0) (enumerate_from 0 (states_of p))
 
@@ -198,6 +198,6 @@ saves_of p s = of_state part_saves p s
 abbrev pub saves_by_state : PlainProcess → List (List Identifier)
 saves_by_state p = by_state part_saves p
 
--- the names that each state takes or saves
+-- the names that each state consumes or saves
 abbrev pub triggers_by_state : PlainProcess → List (List Identifier)
 triggers_by_state p = by_state part_triggers p

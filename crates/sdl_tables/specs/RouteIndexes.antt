@@ -1,4 +1,4 @@
--- What the index of the routes of a block keeps.
+-- The contents of the index of the routes of a block.
 use Rattle.std.specs.Prelude.{◌≡◌, ℕ, Bool, ◌&&◌, List, [], ◌∷◌, if◌then◌else◌, map}
 use Rattle.std.specs.List.{list_any, flat_map}
 use Rattle.std.specs.Option.{option_map_or}
@@ -20,34 +20,34 @@ use Rattle.sdl_tables.specs.contracts.route_index.SidePartialEq.TheImpl as side_
 use Rattle.sdl_tables.specs.contracts.route_index.EndPartialEq.TheImpl as end_eq
 use Rattle.sdl_tables.specs.contracts.route_index.PassagePartialEq.TheImpl as passage_eq
 
--- a signal that a path brings from one party to another
+-- a signal that a path carries from one party to another
 pub record Mention : Type 0 where
   pub from : Party
   pub to : Party
   pub signal : List ℕ
 
--- the signals of a path, one as often as it stands there
+-- the signals of a path, with duplicates
 abbrev pub mentions_of : PlainPath → List Mention
 mentions_of path =
     map (λ id. record { from = path.from; to = path.to; signal = id.name }) path.signals
 
--- the same the other way round
+-- a mention in the reverse direction
 abbrev pub turned : Mention → Mention
 turned m = record { from = m.to; to = m.from; signal = m.signal }
 
 abbrev pub is_mention : Party → Party → List ℕ → Mention → Bool
 is_mention from to s m = same_party from m.from && (same_party to m.to && same_name s m.signal)
 
--- to whom signal s is brought from a party
+-- the parties to which signal s is carried from a party
 abbrev pub mention_receivers : Party → List ℕ → Mention → List Party
 mention_receivers from s m =
     if same_party from m.from && same_name s m.signal then m.to ∷ [] else []
 
--- each of them once
+-- the parties to which signal s is carried from a party, without duplicates
 abbrev pub receivers_in : List Mention → Party → List ℕ → List Party
 receivers_in ms from s = parties_once (flat_map (mention_receivers from s) ms)
 
--- parties, and signals with their ends, as they are looked up
+-- keys for parties, and for signals with one or both parties
 abbrev pub side_of : Party → Side
 side_of Environment = sides.Environment
 side_of (Process id) = sides.Process (folded id.name)
@@ -67,18 +67,18 @@ same_end x y = (end_eq.ghosts).eq x y
 abbrev pub same_passage : Passage → Passage → Bool
 same_passage x y = (passage_eq.ghosts).eq x y
 
--- what a table has for a party and a signal
+-- the parties in a table for a key
 abbrev pub held : Ends → End → List Party
 held e k = option_map_or (λ v. v.items) (get same_end e.lists k) []
 
 abbrev pub listed : Ends → Party → List ℕ → List Party
 listed e own s = held e (end_of own s)
 
--- what the index says of two parties and a signal
+-- the index has a passage of this signal between two parties
 abbrev pub is_carried : RouteIndex → Party → Party → List ℕ → Bool
 is_carried i from to s = contains same_passage i.carried (passage_of from to s)
 
--- the index has these, and nothing else
+-- the index contains exactly these mentions
 pub record Indexes (i : RouteIndex) (ms : List Mention) : Type 0 where
   pub carried :
       (from to : Party) (s : List ℕ) → is_carried i from to s ≡ list_any (is_mention from to s) ms

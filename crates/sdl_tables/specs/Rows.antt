@@ -1,4 +1,4 @@
--- What the rows of the tables stand for.
+-- The views of the rows of tables.
 use Rattle.std.specs.Prelude.{ℕ, List, [], map, slice_get}
 use Rattle.std.specs.Global.{Vec}
 use Rattle.std.specs.List.{flat_map}
@@ -30,7 +30,7 @@ rows_inputs v = map row_input v.items
 abbrev pub stimulus_inputs : PlainInput → List names.Input
 stimulus_inputs i = names.clause_inputs (input i)
 
--- What state s has in a table, each row of which is read in the same way: nothing past its end.
+-- The items of state s in a table, given the view of a row. A state past the end has none.
 abbrev pub row_at : {R X : Type 0} → (R → List X) → List R → ℕ → List X
 row_at read rows s = option_map_or read (slice_get rows s) []
 
@@ -45,7 +45,7 @@ row_names v = v.items
 abbrev pub names_at : List (Vec Identifier) → ℕ → List Identifier
 names_at states s = row_at row_names states s
 
--- the names of a clause, and of a STATE part
+-- the names of a clause, and those of a STATE part
 abbrev pub clause_names : Which → PlainClause → List Identifier
 clause_names Saves c = names.clause_saves c
 clause_names Triggers c = names.clause_triggers c

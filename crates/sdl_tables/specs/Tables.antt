@@ -1,4 +1,4 @@
--- What the tables of a process and of a block keep.
+-- The contents of the tables of a process.
 use Rattle.std.specs.Prelude.{◌≡◌, ◌++◌, [], map}
 use Rattle.std.specs.List.{flat_map}
 use Rattle.sdl_ast.specs.Views.{process_of, input_of}
@@ -11,7 +11,7 @@ use Rattle.sdl_tables.specs.declared.process_table.ProcessTable.TheInside.{Insid
 use Rattle.sdl_tables.specs.declared.process_table.Declared.{Declared}
 use Rattle.sdl_tables.specs.declared.process_table.Standing.{Standing}
 
--- what a process declares, with each name once, and a place of those that are there twice
+-- the declarations of a process without duplicates, and the place of a duplicate
 pub record HasDeclared (p : PlainProcess) (d : Declared) : Type 0 where
   pub variables : d.variables ≡ names_once (variable_names p)
   pub rows : map variable_of d.rows.items ≡ variables_of p
@@ -21,13 +21,13 @@ pub record HasDeclared (p : PlainProcess) (d : Declared) : Type 0 where
       Marks d.double (repeats [] (variable_names p)
       ++ (repeats [] (timers_of p) ++ repeats [] (connector_names p)))
 
--- its states, its INPUTs, and a place of a name that a state takes or saves twice
+-- the states and INPUTs of a process, and the place of a name that a state consumes or saves twice
 pub record HasStanding (p : PlainProcess) (t : Standing) : Type 0 where
   pub states : t.states ≡ states_of p
   pub parts : map (λ i. input_of i.now) t.parts.items ≡ input_parts p
   pub double : Marks t.double (flat_map (repeats []) (triggers_by_state p))
 
--- the tables are those of the process, and no name is there twice
+-- the tables agree with the process, and no name is a duplicate
 pub record HasTables (t : Inside) : Type 0 where
   pub variables : t.variables ≡ variable_names (process_of t.process.now)
   pub rows : map variable_of t.rows.items ≡ variables_of (process_of t.process.now)

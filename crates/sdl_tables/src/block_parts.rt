@@ -1,4 +1,4 @@
-//! What the tables of a block are made of: its signals, its routes and its processes.
+//! Builds the parts of the tables of a block: signals, routes and processes.
 ghost use Rattle.std.specs.Prelude.{◌≡◌, ◌++◌, [], ℕ, List, map, IfOk, OnOk, None};
 ghost use Rattle.std.specs.List.{flat_map};
 ghost use Rattle.sdl_ast.specs.Views.{signal_of, route_of, process_of, entity_of, block_of};
@@ -16,7 +16,7 @@ use crate::scope::{Scope, earlier, index_names};
 use sdl_ast::{Block, Entity, Identifier, Process, Route, SignalDeclaration};
 use std::alloc::{AllocError, Global};
 
-/// Signals that are declared together, at the end.
+/// Appends signals that are declared together.
 fn push_signals<'a>(
     rows: &mut Vec<&'a SignalDeclaration>,
     declared: &'a [SignalDeclaration],
@@ -30,7 +30,7 @@ fn push_signals<'a>(
     Ok(())
 }
 
-/// The signals of a block, in the order of the text.
+/// Collects the signals of a block, in the order of the text.
 fn collect_signals<'a>(
     alloc: Global,
     entities: &'a [Entity],
@@ -49,7 +49,7 @@ fn collect_signals<'a>(
     Ok(rows)
 }
 
-/// The routes of a block, in the order of the text.
+/// Collects the routes of a block, in the order of the text.
 fn collect_routes<'a>(alloc: Global, entities: &'a [Entity]) -> Result<Vec<&'a Route>, AllocError>
     ensures { IfOk result (λ rows. map (λ r. route_of r.now) rows.items ≡ flat_map routes_in (map entity_of entities.now)) }
 {
@@ -65,7 +65,7 @@ fn collect_routes<'a>(alloc: Global, entities: &'a [Entity]) -> Result<Vec<&'a R
     Ok(rows)
 }
 
-/// The processes of a block, in the order of the text.
+/// Collects the processes of a block, in the order of the text.
 fn collect_processes<'a>(
     alloc: Global,
     entities: &'a [Entity],
@@ -105,7 +105,7 @@ fn process_ids(alloc: Global, rows: &[&Process]) -> Result<Vec<Identifier>, Allo
     rows.iter().map(|row| row.name).collect(alloc)
 }
 
-/// The first timer of a process that is named as a signal.
+/// The place of the first timer of a process that has the name of a signal.
 fn signal_timers_in(signals: &NameTable, processes: &[&Process]) -> Option<u32>
     ensures { Marks result (flat_map (λ p. shared signals.now (timers_of (process_of p.now))) processes.now) }
 {
@@ -116,14 +116,14 @@ fn signal_timers_in(signals: &NameTable, processes: &[&Process]) -> Option<u32>
     place
 }
 
-/// The tables of all processes, unless a name is twice in one of them.
+/// The tables of all processes, or the place of a duplicate name in one of them.
 #[derive(Drop)]
 struct Processes<'a> {
     tables: Vec<ProcessTable<'a>>,
     double: Option<u32>,
 }
 
-/// The tables of processes; they are for use where no name is there twice.
+/// Builds the tables of processes. They may be used only if there is no duplicate name.
 fn build_tables<'a>(
     alloc: Global,
     key: NameKey,
@@ -145,7 +145,7 @@ fn build_tables<'a>(
     Ok(Processes { tables, double })
 }
 
-/// The first of all places of a block.
+/// The first of all duplicates of a block, from the first of each kind.
 pub(crate) fn first_double(
     signals: Option<u32>,
     routes: Option<u32>,
@@ -160,7 +160,7 @@ pub(crate) fn first_double(
     earlier(declared, shared)
 }
 
-/// The signals of a block, their names by number, and the first that is there twice.
+/// The signals of a block, their names by number, and the place of the first duplicate.
 #[derive(Drop)]
 pub(crate) struct BlockSignals<'a> {
     pub rows: Vec<&'a SignalDeclaration>,
@@ -168,7 +168,7 @@ pub(crate) struct BlockSignals<'a> {
     pub double: Option<u32>,
 }
 
-/// The signals of a block.
+/// Builds the tables of a block's signals.
 pub(crate) fn table_signals<'a>(
     alloc: Global,
     key: NameKey,
@@ -188,7 +188,7 @@ pub(crate) fn table_signals<'a>(
     })
 }
 
-/// The routes of a block, what they carry, and the first whose name is there twice.
+/// The routes of a block, an index of the signals that they carry, and the place of the first duplicate name.
 #[derive(Drop)]
 pub(crate) struct BlockRoutes<'a> {
     pub rows: Vec<&'a Route>,
@@ -196,7 +196,7 @@ pub(crate) struct BlockRoutes<'a> {
     pub double: Option<u32>,
 }
 
-/// The routes of a block.
+/// Builds the tables of a block's routes.
 pub(crate) fn table_routes<'a>(
     alloc: Global,
     key: NameKey,
@@ -217,8 +217,8 @@ pub(crate) fn table_routes<'a>(
     })
 }
 
-/// The names of a block's processes by number and their tables, the first name that is there twice, the first that is
-/// twice in one of them, and the first timer that is named as a signal.
+/// The names of a block's processes by number, and their tables. `double` is the first duplicate process name, `inside`
+/// the first duplicate in a process, and `shared` the first timer with the name of a signal.
 #[derive(Drop)]
 pub(crate) struct BlockProcesses<'a> {
     pub names: NameTable,
@@ -228,7 +228,7 @@ pub(crate) struct BlockProcesses<'a> {
     pub shared: Option<u32>,
 }
 
-/// The processes of a block, where these are the names of its signals.
+/// Builds the tables of a block's processes. `signals` holds the names of its signals.
 pub(crate) fn table_processes<'a>(
     alloc: Global,
     key: NameKey,

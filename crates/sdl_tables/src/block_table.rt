@@ -16,8 +16,8 @@ use sdl_ast::{Block, Name, Party, Route, SignalDeclaration};
 use std::alloc::Global;
 use std::marker::Model;
 
-/// A block with its tables: its signals and processes by name and by number, and who sends what to whom. Contracts see
-/// the block.
+/// A block with its tables: signals and processes by name and by number, and the receivers and senders of signals.
+/// Contracts see the block.
 #[derive(Drop)]
 pub struct BlockTable<'a> {
     block: &'a Block,
@@ -46,7 +46,7 @@ impl<'a> Model for BlockTable<'a> {
 }
 
 impl<'a> BlockTable<'a> {
-    /// The tables of a block, unless a name is there twice.
+    /// Builds the tables of a block. `DoubleName` if a name is a duplicate, `NoMemory` if memory runs out.
     pub fn new(alloc: Global, block: &'a Block) -> Result<Self, TableFault>
         ensures table { IfOk result (λ t. t ≡ block.now) }
         ensures double { IfErr result (λ e. IsDouble e (double_names (block_of block.now))) }
@@ -86,7 +86,7 @@ impl<'a> BlockTable<'a> {
         self.block
     }
 
-    /// What its tables hash names by.
+    /// The key with which its tables hash names.
     pub fn key(&self) -> NameKey {
         self.key
     }
@@ -112,21 +112,21 @@ impl<'a> BlockTable<'a> {
         &self.routes
     }
 
-    /// Whether some path of its routes brings a signal from one party to another.
+    /// Whether some path of its routes carries a signal from one party to another.
     pub fn carries(&self, from: &Party, to: &Party, signal: Name) -> bool
         ensures { result ≡ carries (block_of self.now) from.now to.now signal }
     {
         self.index.carries(from, to, signal)
     }
 
-    /// The parties to which the paths of its routes bring a signal from one, each once and in the order of the text.
+    /// The parties to which paths carry a signal from a party, without duplicates and in the order of the text.
     pub fn receivers(&self, from: &Party, signal: Name) -> &[Party]
         ensures { result.now ≡ receivers (block_of self.now) from.now signal }
     {
         self.index.receivers(from, signal)
     }
 
-    /// The parties from which the paths of its routes bring a signal to one, each once and in the order of the text.
+    /// The parties from which paths carry a signal to a party, without duplicates and in the order of the text.
     pub fn senders(&self, to: &Party, signal: Name) -> &[Party]
         ensures { result.now ≡ parties_once (senders (block_of self.now) to.now signal) }
     {
@@ -147,7 +147,7 @@ impl<'a> BlockTable<'a> {
         &self.tables
     }
 
-    /// The signal with a name.
+    /// The declaration of the signal with a name, if there is one.
     pub fn signal(&self, name: Name) -> Option<&'a SignalDeclaration>
         ensures { option_map (λ s. signal_of s.now) result ≡ signal_named (block_of self.now) name }
     {

@@ -1,15 +1,15 @@
-//! Why a block has no tables.
+//! The reasons why a block has no tables.
 ghost use Rattle.std.specs.Prelude.{◌≡◌};
 ghost use Rattle.sdl_tables.specs.declared.fault.TableFault.TheVariants.{NoMemory};
 
 use std::alloc::AllocError;
 
-/// Why there are no tables.
+/// Why tables can't be built.
 #[derive(Clone, Copy, Debug)]
 pub enum TableFault {
-    /// A name is there twice: the place of the second one.
+    /// A name is a duplicate. Holds the place of the second occurrence, in bytes.
     DoubleName(u32),
-    /// There was not enough memory.
+    /// Memory ran out.
     NoMemory,
 }
 

@@ -1,4 +1,4 @@
-//! What each state takes.
+//! Collects the inputs of each state.
 ghost use Rattle.std.specs.Prelude.{◌≡◌, ◌++◌, [], ℕ, ◌<◌, ◌==◌, if◌then◌else◌, map, length, IfOk, OnOk, vec_len};
 ghost use Rattle.sdl_ast.specs.Views.{state_of, input_of, process_of};
 ghost use Rattle.sdl_tables.specs.Names.{states_of, given_to, part_inputs, inputs_by_state};
@@ -9,7 +9,7 @@ use crate::process_table::InputRow;
 use sdl_ast::{InputPart, Process, StateClause, StatePart};
 use std::alloc::{AllocError, Global};
 
-/// A row for each signal of an INPUT.
+/// Appends a row for each signal of an INPUT.
 fn push_input<'a>(rows: &mut Vec<InputRow<'a>>, input: &'a InputPart) -> Result<(), AllocError>
     ensures { OnOk result (map row_input rows.new.items ≡ map row_input rows.old.items ++ stimulus_inputs (input_of input.now)) }
 {
@@ -19,7 +19,7 @@ fn push_input<'a>(rows: &mut Vec<InputRow<'a>>, input: &'a InputPart) -> Result<
     Ok(())
 }
 
-/// The rows of a part's INPUTs.
+/// Appends the rows of the INPUTs of a STATE part.
 fn push_part<'a>(rows: &mut Vec<InputRow<'a>>, part: &'a StatePart) -> Result<(), AllocError>
     ensures { OnOk result (map row_input rows.new.items ≡ map row_input rows.old.items ++ part_inputs (state_of part.now)) }
 {
@@ -32,7 +32,7 @@ fn push_part<'a>(rows: &mut Vec<InputRow<'a>>, part: &'a StatePart) -> Result<()
     Ok(())
 }
 
-/// No row for any of so many states.
+/// An empty row for each of `count` states.
 fn empty_rows<'a>(alloc: Global, count: usize) -> Result<Vec<Vec<InputRow<'a>>>, AllocError>
     ensures len { IfOk result (λ v. vec_len v ≡ count) }
     ensures empty { IfOk result (λ v. (s : ℕ) → rows_at v.items s ≡ []) }
@@ -44,7 +44,7 @@ fn empty_rows<'a>(alloc: Global, count: usize) -> Result<Vec<Vec<InputRow<'a>>>,
     Ok(inputs)
 }
 
-/// Gives the inputs of a part to one state.
+/// Appends the inputs of a part to one state.
 fn push_state<'a>(
     inputs: &mut Vec<Vec<InputRow<'a>>>,
     number: usize,
@@ -60,7 +60,7 @@ fn push_state<'a>(
     Ok(())
 }
 
-/// Gives the inputs of a part to each state that it names.
+/// Appends the inputs of a part to each state that it names.
 fn push_states<'a>(
     inputs: &mut Vec<Vec<InputRow<'a>>>,
     states: &NameTable,
@@ -79,7 +79,7 @@ fn push_states<'a>(
     Ok(())
 }
 
-/// The inputs of each state, by number; those of a state in the order of the text.
+/// Collects the inputs of each state by number; the inputs of one state are in the order of the text.
 pub(crate) fn collect_inputs<'a>(
     alloc: Global,
     process: &'a Process,

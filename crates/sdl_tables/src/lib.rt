@@ -1,4 +1,4 @@
-//! The names of a block and of its processes, each with its number.
+//! Tables of the names of a block and of its processes. Each name has a number.
 #![tactic(auto)]
 
 mod block_parts;

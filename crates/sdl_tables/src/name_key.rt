@@ -1,4 +1,4 @@
-//! What the tables of a block hash their names by.
+//! The key with which the tables of a block hash names.
 ghost use Rattle.core.specs.Hash.DefaultHasher.{with_keys};
 
 use core::hash::keyed_hasher;
@@ -9,11 +9,11 @@ use sdl_ast::{
 use sha2::{Digest, Sha256};
 use std::hash::{BuildHasher, DefaultHasher};
 
-/// What the tables of a block hash their names by: octets of a digest of the names that enter them, and of the routes
-/// with both parties. Each text has a key of its own, and always the same one. A text whose names are chosen so that
-/// they collide under a key has another key.
+/// The key with which the tables of a block hash names: octets of a digest of the names that enter the tables, and of
+/// the routes with both parties. The key of a text is always the same. Names changed so that they collide under the key
+/// of a text lead to another key.
 ///
-/// No contract speaks of a key.
+/// No contract mentions a key.
 #[derive(Clone, Copy)]
 pub struct NameKey {
     key0: u64,
@@ -47,20 +47,20 @@ impl NameKey {
     }
 }
 
-/// Feeds a name, as it is written, and what no name has behind it.
+/// Feeds a name as it is written, and a comma, which no name contains.
 fn feed(digest: &mut Sha256, name: Name) {
     digest.update(name.as_bytes());
     digest.update(b",");
 }
 
-/// Feeds names.
+/// Feeds several names, in order.
 fn feed_ids(digest: &mut Sha256, ids: &[Identifier]) {
     for id in ids {
         feed(digest, id.name);
     }
 }
 
-/// Feeds what a block has.
+/// Feeds the entities of a block, except CONNECTs.
 fn feed_entities(digest: &mut Sha256, entities: &[Entity]) {
     for entity in entities {
         match entity {
@@ -79,7 +79,7 @@ fn feed_signals(digest: &mut Sha256, declared: &[SignalDeclaration]) {
     }
 }
 
-/// Feeds a route: its name, its parties and the signals that it brings.
+/// Feeds a route: its name, its parties and the signals that it carries.
 fn feed_route(digest: &mut Sha256, route: &Route) {
     feed(digest, route.name.name);
     for path in &route.paths {
@@ -94,7 +94,7 @@ fn feed_path(digest: &mut Sha256, path: &Path) {
     feed_ids(digest, &path.signals);
 }
 
-/// Feeds a party: no name for the environment.
+/// Feeds a party. The environment is fed as an empty name.
 fn feed_party(digest: &mut Sha256, party: &Party) {
     match party {
         Party::Environment => digest.update(b","),
@@ -102,8 +102,8 @@ fn feed_party(digest: &mut Sha256, party: &Party) {
     }
 }
 
-/// Feeds the names that a process has: its own, what it declares, those of its STATEs, INPUTs and SAVEs, and those of its
-/// connections.
+/// Feeds the names of a process: its own, its variables and timers, its states, the signals and timers of INPUTs and
+/// SAVEs, and its connections.
 fn feed_process(digest: &mut Sha256, process: &Process) {
     feed(digest, process.name.name);
     feed_declarations(digest, &process.declarations);
@@ -128,7 +128,7 @@ fn feed_groups(digest: &mut Sha256, groups: &[Group]) {
     }
 }
 
-/// Feeds the names of STATE parts and of what they take and save.
+/// Feeds the names of STATE parts, and of the signals and timers that they consume and save.
 fn feed_states(digest: &mut Sha256, states: &[StatePart]) {
     for part in states {
         feed_ids(digest, &part.names);
@@ -136,7 +136,7 @@ fn feed_states(digest: &mut Sha256, states: &[StatePart]) {
     }
 }
 
-/// Feeds the names of what INPUTs take and SAVEs save.
+/// Feeds the names of the signals and timers of INPUTs and SAVEs.
 fn feed_clauses(digest: &mut Sha256, clauses: &[StateClause]) {
     for clause in clauses {
         match clause {
@@ -146,7 +146,7 @@ fn feed_clauses(digest: &mut Sha256, clauses: &[StateClause]) {
     }
 }
 
-/// Feeds the names of what an INPUT takes.
+/// Feeds the names of the signals and timers of an INPUT.
 fn feed_stimuli(digest: &mut Sha256, stimuli: &[Stimulus]) {
     for stimulus in stimuli {
         feed(digest, stimulus.name.name);

@@ -1,4 +1,4 @@
-//! Names in the order of the text, each once, with their numbers.
+//! Names without duplicates, in the order of the text, with their numbers.
 ghost use Rattle.std.specs.Prelude.{◌≡◌, ◌<◌, [], length, position, bytes_eq, IfOk, OnOk, OnErr, IsSome, IfSome, not, slice_get, Some};
 ghost use Rattle.indexmap.specs.IndexMap.{keys};
 ghost use Rattle.sdl_tables.specs.Names.{is_in, number_of, add_name};
@@ -9,10 +9,10 @@ use sdl_ast::{Identifier, Name};
 use std::alloc::{AllocError, Global};
 use std::marker::Model;
 
-/// Up to so many names each is compared, which takes less than a hash.
+/// Up to this many names are compared one by one, which is faster than hashing.
 const FEW: usize = 8;
 
-/// The number of a name in lower case among a few.
+/// The number of a name in lower case, by comparing it with each name.
 fn place_among(names: &[Name], name: &Name) -> Option<usize>
     ensures { result ≡ position (bytes_eq name.now) names.now }
 {
@@ -30,8 +30,8 @@ fn place_in(entries: &IndexMap<Name, Identifier, NameKey>, name: &Name) -> Optio
     }
 }
 
-/// The names of one class and scope, as first written and in the order of the text. A name is looked
-/// up by what it is in lower case. Contracts see the list of identifiers.
+/// The names of one class and scope, in the order and spelling of their first occurrence. Names are
+/// looked up in lower case. Contracts see the list of identifiers.
 #[derive(Drop)]
 pub struct NameTable {
     entries: IndexMap<Name, Identifier, NameKey>,
@@ -51,7 +51,7 @@ impl Model for NameTable {
 }
 
 impl NameTable {
-    /// A table with no name, which hashes by this key.
+    /// An empty table that hashes with this key.
     pub fn new(alloc: Global, key: NameKey) -> Self
         ensures { result ≡ [] }
     {
@@ -60,14 +60,14 @@ impl NameTable {
         }
     }
 
-    /// How many names there are.
+    /// The number of names.
     pub fn len(&self) -> usize
         ensures { result ≡ length self.now }
     {
         self.entries.len()
     }
 
-    /// The number of a name, from 0.
+    /// The number of a name, from 0, if the table has it.
     pub fn number(&self, name: Name) -> Option<usize>
         ensures number { result ≡ number_of self.now name }
         ensures within { IfSome result (λ n. n < length self.now) }
@@ -75,14 +75,14 @@ impl NameTable {
         place_in(&self.entries, &name.folded())
     }
 
-    /// Whether a name is there.
+    /// Whether the table has a name.
     pub fn contains(&self, name: Name) -> bool
         ensures { result ≡ is_in self.now name }
     {
         self.number(name).is_some()
     }
 
-    /// The name with a number, as it is first written.
+    /// The name with a number, as first written, if there is one.
     pub fn get(&self, number: usize) -> Option<Identifier>
         ensures { result ≡ slice_get self.now number }
     {
@@ -90,7 +90,7 @@ impl NameTable {
         Some(*id)
     }
 
-    /// The name with a number that there is, as it is first written.
+    /// The name with a number that exists, as first written.
     pub fn name(&self, number: usize) -> Identifier
         requires { number < length self.now }
         ensures { slice_get self.now number ≡ Some result }
@@ -98,7 +98,7 @@ impl NameTable {
         self.entries[number]
     }
 
-    /// Adds a name, unless it is there: `false` then. Without memory nothing changes.
+    /// Adds a name. Returns `false` if the table had it. If memory runs out, nothing changes.
     pub fn add(&mut self, id: Identifier) -> Result<bool, AllocError>
         ensures added { IfOk result (λ new. new ≡ not (is_in self.old id.name)) }
         ensures ids { OnOk result (self.new ≡ add_name self.old id) }

@@ -1,4 +1,4 @@
-//! Parties, each once.
+//! Parties without duplicates.
 ghost use Rattle.std.specs.Prelude.{◌≡◌, [], length, IfOk, OnOk, OnErr, not, slice_get};
 ghost use Rattle.std.specs.List.{list_any};
 ghost use Rattle.sdl_tables.specs.Routes.{same_party, add_party};
@@ -10,7 +10,7 @@ use sdl_ast::Party;
 use std::alloc::{AllocError, Global};
 use std::marker::Model;
 
-/// Parties in the order in which they came, each once. Contracts see their list.
+/// Parties in the order in which they were added, without duplicates. Contracts see their list.
 #[derive(Drop)]
 pub struct PartyTable {
     entries: IndexMap<Side, Party, NameKey>,
@@ -30,7 +30,7 @@ impl Model for PartyTable {
 }
 
 impl PartyTable {
-    /// A table with no party, which hashes by this key.
+    /// An empty table that hashes with this key.
     pub fn new(alloc: Global, key: NameKey) -> Self
         ensures { result ≡ [] }
     {
@@ -39,14 +39,14 @@ impl PartyTable {
         }
     }
 
-    /// How many parties there are.
+    /// The number of parties.
     pub fn len(&self) -> usize
         ensures { result ≡ length self.now }
     {
         self.entries.len()
     }
 
-    /// The party with a number, from 0.
+    /// The party with a number, from 0, if there is one.
     pub fn get(&self, number: usize) -> Option<Party>
         ensures { result ≡ slice_get self.now number }
     {
@@ -54,7 +54,7 @@ impl PartyTable {
         Some(*party)
     }
 
-    /// Adds a party, unless it is there: `false` then. Without memory nothing changes.
+    /// Adds a party. Returns `false` if the table had it. If memory runs out, nothing changes.
     pub fn add(&mut self, party: Party) -> Result<bool, AllocError>
         ensures added { IfOk result (λ new. new ≡ not (list_any (same_party party) self.old)) }
         ensures parties { OnOk result (self.new ≡ add_party self.old party) }

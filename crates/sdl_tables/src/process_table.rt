@@ -21,7 +21,7 @@ use sdl_ast::{
 use std::alloc::{AllocError, Global};
 use std::marker::Model;
 
-/// A variable of a process: its name as declared, its sort, and the initial value that its group gives it.
+/// A variable of a process: its name as declared, its sort, and the initial value that its group has.
 #[derive(Clone, Copy, Debug, PartialEq, Eq)]
 pub struct Variable {
     pub name: Identifier,
@@ -29,14 +29,14 @@ pub struct Variable {
     pub initial: Option<Constant>,
 }
 
-/// What a state takes: an INPUT, and one of the signals that it names.
+/// An input of a state: an INPUT, and one of the signals or timers that it names.
 #[derive(Clone, Copy)]
 pub struct InputRow<'a> {
     pub input: &'a InputPart,
     pub stimulus: &'a Stimulus,
 }
 
-/// The variables of a group, at the end.
+/// Appends the variables of a group.
 fn push_group(rows: &mut Vec<Variable>, group: &Group) -> Result<(), AllocError>
     ensures { OnOk result (map variable_of rows.new.items ≡ map variable_of rows.old.items ++ group_variables (group_of group.now)) }
 {
@@ -50,7 +50,7 @@ fn push_group(rows: &mut Vec<Variable>, group: &Group) -> Result<(), AllocError>
     Ok(())
 }
 
-/// The variables of groups, at the end.
+/// Appends the variables of groups.
 fn push_groups(rows: &mut Vec<Variable>, groups: &[Group]) -> Result<(), AllocError>
     ensures { OnOk result (map variable_of rows.new.items ≡ map variable_of rows.old.items ++ flat_map group_variables (map group_of groups.now)) }
 {
@@ -60,7 +60,7 @@ fn push_groups(rows: &mut Vec<Variable>, groups: &[Group]) -> Result<(), AllocEr
     Ok(())
 }
 
-/// The variables of a process, in the order of the text.
+/// Collects the variables of a process, in the order of the text.
 fn collect_variables(
     alloc: Global,
     declarations: &[Declaration],
@@ -77,7 +77,7 @@ fn collect_variables(
     Ok(rows)
 }
 
-/// The timers of a process, in the order of the text.
+/// Collects the timers of a process, in the order of the text.
 fn collect_timers(
     alloc: Global,
     declarations: &[Declaration],
@@ -94,7 +94,7 @@ fn collect_timers(
     Ok(rows)
 }
 
-/// The place of a timer that is named as one of these.
+/// The place of the first timer whose name is in the table.
 pub(crate) fn shared_declared(among: &NameTable, declarations: &[Declaration]) -> Option<u32>
     ensures { Marks result (shared among.now (flat_map timers_in (map declaration_of declarations.now))) }
 {
@@ -126,7 +126,7 @@ fn connector_ids(alloc: Global, connections: &[Connection]) -> Result<Vec<Identi
     Ok(ids)
 }
 
-/// The names of states, in the order of first STATE.
+/// Collects the names of states, in the order of their first STATE.
 fn collect_states(alloc: Global, key: NameKey, parts: &[StatePart]) -> Result<NameTable, AllocError>
     ensures { IfOk result (λ names. names ≡ names_once (flat_map (λ part. part.names) (map state_of parts.now))) }
 {
@@ -137,7 +137,7 @@ fn collect_states(alloc: Global, key: NameKey, parts: &[StatePart]) -> Result<Na
     Ok(names)
 }
 
-/// The INPUTs of a STATE part, at the end.
+/// Appends the INPUTs of a STATE part.
 fn push_parts<'a>(parts: &mut Vec<&'a InputPart>, part: &'a StatePart) -> Result<(), AllocError>
     ensures { OnOk result (map (λ i. input_of i.now) parts.new.items
         ≡ map (λ i. input_of i.now) parts.old.items ++ flat_map clause_parts (state_of part.now).clauses) }
@@ -151,7 +151,7 @@ fn push_parts<'a>(parts: &mut Vec<&'a InputPart>, part: &'a StatePart) -> Result
     Ok(())
 }
 
-/// The INPUTs of STATE parts, in the order of the text.
+/// Collects the INPUTs of STATE parts, in the order of the text.
 fn collect_parts<'a>(
     alloc: Global,
     states: &'a [StatePart],
@@ -166,7 +166,7 @@ fn collect_parts<'a>(
     Ok(parts)
 }
 
-/// The variables of a process, and the place of one whose name is there twice.
+/// The variables of a process, and the place of the first duplicate name.
 #[derive(Drop)]
 struct Variables {
     names: NameTable,
@@ -174,7 +174,7 @@ struct Variables {
     double: Option<u32>,
 }
 
-/// The variables of a process by number, and the first name that is there twice.
+/// Numbers the variables of a process, and finds the first duplicate name.
 fn index_variables(alloc: Global, key: NameKey, process: &Process) -> Result<Variables, AllocError>
     ensures names { IfOk result (λ v. v.names ≡ names_once (variable_names (process_of process.now))) }
     ensures rows { IfOk result (λ v. map variable_of v.rows.items ≡ variables_of (process_of process.now)) }
@@ -190,7 +190,7 @@ fn index_variables(alloc: Global, key: NameKey, process: &Process) -> Result<Var
     })
 }
 
-/// The timers of a process by number, and the first name that is there twice.
+/// Numbers the timers of a process, and finds the first duplicate name.
 fn index_timers(alloc: Global, key: NameKey, process: &Process) -> Result<Scope, AllocError>
     ensures names { IfOk result (λ s. s.names ≡ names_once (timers_of (process_of process.now))) }
     ensures double { IfOk result (λ s. Marks s.double (repeats [] (timers_of (process_of process.now)))) }
@@ -200,7 +200,7 @@ fn index_timers(alloc: Global, key: NameKey, process: &Process) -> Result<Scope,
     Ok(scope)
 }
 
-/// The names of a process's connections by number, and the first that is there twice.
+/// Numbers the connections of a process, and finds the first duplicate name.
 fn index_connectors(alloc: Global, key: NameKey, process: &Process) -> Result<Scope, AllocError>
     ensures names { IfOk result (λ s. s.names ≡ names_once (connector_names (process_of process.now))) }
     ensures double { IfOk result (λ s. Marks s.double (repeats [] (connector_names (process_of process.now)))) }
@@ -210,7 +210,7 @@ fn index_connectors(alloc: Global, key: NameKey, process: &Process) -> Result<Sc
     Ok(scope)
 }
 
-/// The variables, timers and connections of a process, and the first place of a name that is there twice.
+/// The variables, timers and connections of a process, and the place of the first duplicate name.
 #[derive(Drop)]
 struct Declared {
     variables: NameTable,
@@ -220,7 +220,7 @@ struct Declared {
     double: Option<u32>,
 }
 
-/// What a process declares, by number, and the first name that is there twice.
+/// Numbers the declarations of a process, and finds the first duplicate name.
 fn index_declared(alloc: Global, key: NameKey, process: &Process) -> Result<Declared, AllocError>
     ensures declared { IfOk result (λ d. HasDeclared (process_of process.now) d) }
 {
@@ -240,8 +240,7 @@ fn index_declared(alloc: Global, key: NameKey, process: &Process) -> Result<Decl
     })
 }
 
-/// The states and INPUTs of a process, and the first place of a name that a state takes or saves, and took or saved
-/// before.
+/// The states and INPUTs of a process, and the place of the first name that a state consumes or saves twice.
 #[derive(Drop)]
 struct Standing<'a> {
     states: NameTable,
@@ -249,7 +248,7 @@ struct Standing<'a> {
     double: Option<u32>,
 }
 
-/// The states and INPUTs of a process, and the first name that a state takes or saves, and took or saved before.
+/// Collects the states and INPUTs of a process, and finds the first name that a state consumes or saves twice.
 fn index_standing<'a>(
     alloc: Global,
     key: NameKey,
@@ -267,7 +266,7 @@ fn index_standing<'a>(
     })
 }
 
-/// A process with its tables: its variables, timers, connectors and states by name and by number. Contracts see the
+/// A process with its tables: variables, timers, connectors and states by name and by number. Contracts see the
 /// process.
 #[derive(Drop)]
 pub struct ProcessTable<'a> {
@@ -296,7 +295,7 @@ impl<'a> Model for ProcessTable<'a> {
 }
 
 impl<'a> ProcessTable<'a> {
-    /// The tables of a process, unless a name is there twice. They hash by this key.
+    /// Builds the tables of a process, which hash with this key. `DoubleName` if a name is a duplicate.
     pub fn new(alloc: Global, key: NameKey, process: &'a Process) -> Result<Self, TableFault>
         ensures table { IfOk result (λ t. t ≡ process.now) }
         ensures distinct { OnOk result (flat_map (repeats []) (process_scopes (process_of process.now)) ≡ []) }
@@ -362,23 +361,23 @@ impl<'a> ProcessTable<'a> {
         &self.states
     }
 
-    /// The inputs of each of its states, by number; those of a state in the order of the text. They are made here: a
-    /// row for each state and each signal that it takes, so many more than the text is long.
+    /// The inputs of each of its states by number, in the order of the text. They are built on each call. There is a
+    /// row for each state and each signal that it consumes, so the result can be much longer than the text.
     pub fn inputs(&self, alloc: Global) -> Result<Vec<Vec<InputRow<'a>>>, AllocError>
         ensures { IfOk result (λ v. map rows_inputs v.items ≡ inputs_by_state (process_of self.now)) }
     {
         collect_inputs(alloc, self.process, &self.states)
     }
 
-    /// The names that each of its states saves, by number; those of a state in the order of the text. They are made
-    /// here: a name for each state and each signal that it saves, so many more than the text is long.
+    /// The names that each of its states saves by number, in the order of the text. They are built on each call. There
+    /// is a name for each state and each signal that it saves, so the result can be much longer than the text.
     pub fn saves(&self, alloc: Global) -> Result<Vec<Vec<Identifier>>, AllocError>
         ensures { IfOk result (λ v. map row_names v.items ≡ saves_by_state (process_of self.now)) }
     {
         collect_names(alloc, self.process, &self.states, Which::Saves)
     }
 
-    /// Its INPUTs, each once.
+    /// Its INPUTs, each one once even if its STATE part names several states.
     pub fn parts(&self) -> &[&'a InputPart]
         ensures { map (λ i. input_of i.now) result.now ≡ input_parts (process_of self.now) }
     {

@@ -1,4 +1,4 @@
-//! Who gets a signal and who may have sent it, by the routes.
+//! Finds the receivers and the possible senders of a signal by the routes.
 ghost use Rattle.std.specs.Prelude.{◌≡◌, [], ◌∷◌, ◌++◌, List, if◌then◌else◌, ◌&&◌, map, IfOk, OnOk, None};
 ghost use Rattle.indexmap.specs.IndexMap.{get};
 ghost use Rattle.std.specs.List.{flat_map};
@@ -19,7 +19,7 @@ use sdl_ast::{Name, Party, Path, Route};
 use std::alloc::{AllocError, Global};
 use std::hash::{Hash, Hasher};
 
-/// A party as it is looked up: without its place, and by its name in lower case.
+/// The key of a party: without its place, and with its name in lower case.
 #[derive(Clone, Copy, PartialEq, Eq)]
 pub(crate) enum Side {
     /// The environment.
@@ -41,14 +41,14 @@ impl Hash for Side {
     }
 }
 
-/// A party and a signal, by its name in lower case.
+/// The key of a party and a signal, with the name of the signal in lower case.
 #[derive(Clone, Copy, PartialEq, Eq, Hash)]
 pub(crate) struct End {
     side: Side,
     signal: Name,
 }
 
-/// A signal on its way from one party to another.
+/// The key of a signal that a path carries from one party to another.
 #[derive(Clone, Copy, PartialEq, Eq, Hash)]
 pub(crate) struct Passage {
     from: Side,
@@ -56,7 +56,7 @@ pub(crate) struct Passage {
     signal: Name,
 }
 
-/// A party as it is looked up.
+/// The key of a party.
 pub(crate) fn side_of(party: &Party) -> Side
     ensures { result ≡ side_of party.now }
 {
@@ -66,7 +66,7 @@ pub(crate) fn side_of(party: &Party) -> Side
     }
 }
 
-/// A party and a signal as they are looked up.
+/// The key of a party and a signal.
 fn end_of(party: &Party, signal: Name) -> End
     ensures { result ≡ end_of party.now signal }
 {
@@ -76,7 +76,7 @@ fn end_of(party: &Party, signal: Name) -> End
     }
 }
 
-/// A signal on its way as it is looked up.
+/// The key of a signal that is carried from one party to another.
 fn passage_of(from: &Party, to: &Party, signal: Name) -> Passage
     ensures { result ≡ passage_of from.now to.now signal }
 {
@@ -87,14 +87,14 @@ fn passage_of(from: &Party, to: &Party, signal: Name) -> Passage
     }
 }
 
-/// For a party and a signal, the parties at the other ends of the paths that bring the signal.
+/// For a party and a signal, the parties at the other ends of the paths that carry the signal.
 #[derive(Drop)]
 pub(crate) struct Ends {
     lists: IndexMap<End, Vec<Party>, NameKey>,
 }
 
 impl Ends {
-    /// No parties for any key.
+    /// A table without parties.
     fn new(alloc: Global, key: NameKey) -> Self
         ensures { (own : tree.Party) (s : _) → listed result own s ≡ [] }
     {
@@ -103,7 +103,7 @@ impl Ends {
         }
     }
 
-    /// The first party for a key.
+    /// Adds the first party for a key.
     fn begin(&mut self, alloc: Global, key: End, other: Party) -> Result<(), AllocError>
         requires { get same_end self.old.lists key ≡ None }
         ensures { OnOk result ((k : Key) → held self.new k ≡ held self.old k ++ (if same_end key k then other ∷ [] else [])) }
@@ -114,7 +114,7 @@ impl Ends {
         Ok(())
     }
 
-    /// One party more.
+    /// Adds a party for a key.
     fn add(&mut self, alloc: Global, key: End, other: Party) -> Result<(), AllocError>
         ensures { OnOk result ((k : Key) → held self.new k ≡ held self.old k ++ (if same_end key k then other ∷ [] else [])) }
     {
@@ -124,7 +124,7 @@ impl Ends {
         }
     }
 
-    /// The parties for a party and a signal, each once; none where no path brings it.
+    /// The parties for a party and a signal. There are none if no path carries it.
     fn get(&self, own: &Party, signal: Name) -> &[Party]
         ensures { result.now ≡ listed self.now own.now signal }
     {
@@ -135,7 +135,7 @@ impl Ends {
     }
 }
 
-/// The routes of a block, by party and signal.
+/// The routes of a block, indexed by party and signal.
 #[derive(Drop)]
 pub(crate) struct RouteIndex {
     carried: IndexSet<Passage, NameKey>,
@@ -144,7 +144,7 @@ pub(crate) struct RouteIndex {
 }
 
 impl RouteIndex {
-    /// The index of no routes, which hashes by this key.
+    /// An empty index, which hashes with this key.
     fn empty(alloc: Global, key: NameKey) -> Self
         ensures { Indexes result [] }
     {
@@ -155,7 +155,7 @@ impl RouteIndex {
         }
     }
 
-    /// A signal that a path brings.
+    /// Adds a signal that a path carries.
     fn add(
         &mut self,
         alloc: Global,
@@ -178,7 +178,7 @@ impl RouteIndex {
         Ok(())
     }
 
-    /// The signals that a path brings.
+    /// Adds the signals that a path carries.
     fn add_path(&mut self, alloc: Global, path: &Path) -> Result<(), AllocError>
         ensures { OnOk result ((ms : List Mention) → Indexes self.old ms → Indexes self.new (ms ++ mentions_of (path_of path.now))) }
     {
@@ -188,7 +188,7 @@ impl RouteIndex {
         Ok(())
     }
 
-    /// The paths of a route.
+    /// Adds the paths of a route.
     fn add_paths(&mut self, alloc: Global, paths: &[Path]) -> Result<(), AllocError>
         ensures { OnOk result ((ms : List Mention) → Indexes self.old ms → Indexes self.new (ms ++ flat_map mentions_of (map path_of paths.now))) }
     {
@@ -198,7 +198,7 @@ impl RouteIndex {
         Ok(())
     }
 
-    /// The index of some routes, which hashes by this key.
+    /// The index of these routes, which hashes with this key.
     pub(crate) fn new(alloc: Global, key: NameKey, routes: &[&Route]) -> Result<Self, AllocError>
         ensures { IfOk result (λ i. Indexes i (flat_map mentions_of (flat_map (λ r. r.paths) (map (λ r. route_of r.now) routes.now)))) }
     {
@@ -209,21 +209,21 @@ impl RouteIndex {
         Ok(index)
     }
 
-    /// Whether some path brings a signal from one party to another.
+    /// Whether some path carries a signal from one party to another.
     pub(crate) fn carries(&self, from: &Party, to: &Party, signal: Name) -> bool
         ensures { result ≡ is_carried self.now from.now to.now signal }
     {
         self.carried.contains(&passage_of(from, to, signal))
     }
 
-    /// The parties that get a signal from one, each once.
+    /// The parties to which a signal is carried from a party, without duplicates.
     pub(crate) fn receivers(&self, from: &Party, signal: Name) -> &[Party]
         ensures { result.now ≡ listed self.now.receivers from.now signal }
     {
         self.receivers.get(from, signal)
     }
 
-    /// The parties that send a signal to one, each once.
+    /// The parties from which a signal is carried to a party, without duplicates.
     pub(crate) fn senders(&self, to: &Party, signal: Name) -> &[Party]
         ensures { result.now ≡ listed self.now.senders to.now signal }
     {

@@ -1,4 +1,4 @@
-//! Names of one scope, and the first that is there twice.
+//! The names of one scope, and the first duplicate among them.
 ghost use Rattle.std.specs.Prelude.{◌≡◌, [], ◌++◌, ◌∷◌, List, ℕ, fold, IfOk, OnOk, if◌then◌else◌};
 ghost use Rattle.sdl_tables.specs.Names.{names_once, add_name, is_in};
 ghost use Rattle.sdl_tables.specs.Scopes.{Marks, repeats, shared};
@@ -8,14 +8,14 @@ use crate::name_table::NameTable;
 use sdl_ast::Identifier;
 use std::alloc::{AllocError, Global};
 
-/// The names of a scope, and the place of an identifier whose name one before it has.
+/// The names of a scope, and the place of the first identifier whose name occurs before it.
 #[derive(Drop)]
 pub(crate) struct Scope {
     pub names: NameTable,
     pub double: Option<u32>,
 }
 
-/// The first of two places.
+/// The lesser of two places, or the only one.
 pub fn earlier(one: Option<u32>, other: Option<u32>) -> Option<u32>
     ensures { (xs ys : List ℕ) → Marks one xs → Marks other ys → Marks result (xs ++ ys) }
 {
@@ -26,7 +26,7 @@ pub fn earlier(one: Option<u32>, other: Option<u32>) -> Option<u32>
     }
 }
 
-/// One identifier more: its place too where its name was there.
+/// The first duplicate after one more identifier. `new` tells whether its name is new.
 pub(crate) fn marked(double: Option<u32>, new: bool, at: u32) -> Option<u32>
     ensures { (xs : List ℕ) → Marks double xs → Marks result (xs ++ (if new then [] else at ∷ [])) }
 {
@@ -37,7 +37,7 @@ pub(crate) fn marked(double: Option<u32>, new: bool, at: u32) -> Option<u32>
     }
 }
 
-/// The names of a scope, in order.
+/// Numbers the names of a scope in order, and finds the first duplicate.
 pub fn index_names(alloc: Global, key: NameKey, ids: &[Identifier]) -> Result<Scope, AllocError>
     ensures names { IfOk result (λ s. s.names ≡ names_once ids.now) }
     ensures double { IfOk result (λ s. Marks s.double (repeats [] ids.now)) }
@@ -51,7 +51,7 @@ pub fn index_names(alloc: Global, key: NameKey, ids: &[Identifier]) -> Result<Sc
     Ok(Scope { names, double })
 }
 
-/// The place of a name that a scope has.
+/// The place of the identifier, if the scope has its name.
 fn present(names: &NameTable, id: Identifier) -> Option<u32>
     ensures { Marks result (if is_in names.now id.name then id.at ∷ [] else []) }
 {
@@ -62,7 +62,7 @@ fn present(names: &NameTable, id: Identifier) -> Option<u32>
     }
 }
 
-/// The first place of a name that a scope has.
+/// The place of the first identifier whose name the scope has.
 pub(crate) fn first_shared(names: &NameTable, ids: &[Identifier]) -> Option<u32>
     ensures { Marks result (shared names.now ids.now) }
 {
@@ -73,7 +73,7 @@ pub(crate) fn first_shared(names: &NameTable, ids: &[Identifier]) -> Option<u32>
     place
 }
 
-/// Adds names, each unless it is there.
+/// Adds names, except those that the table has.
 pub fn add_names(names: &mut NameTable, ids: &[Identifier]) -> Result<(), AllocError>
     ensures { OnOk result (names.new ≡ fold add_name names.old ids.now) }
 {

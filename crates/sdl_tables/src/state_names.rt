@@ -1,4 +1,4 @@
-//! The names that each state of a process takes or saves.
+//! Collects the names that each state of a process consumes or saves.
 ghost use Rattle.std.specs.Prelude.{◌≡◌, ◌++◌, [], ℕ, ◌<◌, ◌==◌, if◌then◌else◌, map, length, IfOk, OnOk, vec_len};
 ghost use Rattle.std.specs.List.{flat_map};
 ghost use Rattle.sdl_ast.specs.Views.{clause_of, state_of, process_of, stimulus_of};
@@ -9,16 +9,16 @@ use crate::name_table::NameTable;
 use sdl_ast::{Identifier, Process, StateClause, StatePart, Stimulus};
 use std::alloc::{AllocError, Global};
 
-/// Which names of a state are meant.
+/// Which names of a state to collect.
 #[derive(Clone, Copy)]
 pub(crate) enum Which {
-    /// Those that it saves.
+    /// The names that it saves.
     Saves,
-    /// Those that it takes or saves.
+    /// The names that it consumes or saves.
     Triggers,
 }
 
-/// Adds names at the end.
+/// Appends names.
 pub(crate) fn push_ids(names: &mut Vec<Identifier>, ids: &[Identifier]) -> Result<(), AllocError>
     ensures { OnOk result (names.new.items ≡ names.old.items ++ ids.now) }
 {
@@ -28,7 +28,7 @@ pub(crate) fn push_ids(names: &mut Vec<Identifier>, ids: &[Identifier]) -> Resul
     Ok(())
 }
 
-/// The names of what an INPUT takes, at the end.
+/// Appends the names of the stimuli of an INPUT.
 fn push_stimuli(names: &mut Vec<Identifier>, stimuli: &[Stimulus]) -> Result<(), AllocError>
     ensures { OnOk result (names.new.items ≡ names.old.items ++ map (λ s. s.name) (map stimulus_of stimuli.now)) }
 {
@@ -38,7 +38,7 @@ fn push_stimuli(names: &mut Vec<Identifier>, stimuli: &[Stimulus]) -> Result<(),
     Ok(())
 }
 
-/// The names of an INPUT or a SAVE that are meant, at the end.
+/// Appends the names of an INPUT or a SAVE that are to be collected.
 fn push_clause(
     names: &mut Vec<Identifier>,
     which: Which,
@@ -53,7 +53,7 @@ fn push_clause(
     }
 }
 
-/// The names of a STATE part that are meant, at the end.
+/// Appends the names of a STATE part that are to be collected.
 fn push_part(names: &mut Vec<Identifier>, which: Which, part: &StatePart) -> Result<(), AllocError>
     ensures { OnOk result (names.new.items ≡ names.old.items ++ part_names which (state_of part.now)) }
 {
@@ -63,7 +63,7 @@ fn push_part(names: &mut Vec<Identifier>, which: Which, part: &StatePart) -> Res
     Ok(())
 }
 
-/// No name for any of so many states.
+/// An empty list of names for each of `count` states.
 fn empty_names(alloc: Global, count: usize) -> Result<Vec<Vec<Identifier>>, AllocError>
     ensures len { IfOk result (λ v. vec_len v ≡ count) }
     ensures empty { IfOk result (λ v. (s : ℕ) → names_at v.items s ≡ []) }
@@ -75,7 +75,7 @@ fn empty_names(alloc: Global, count: usize) -> Result<Vec<Vec<Identifier>>, Allo
     Ok(states)
 }
 
-/// Gives the names of a part to one state.
+/// Appends the names of a part to one state.
 fn push_state(
     states: &mut Vec<Vec<Identifier>>,
     number: usize,
@@ -92,7 +92,7 @@ fn push_state(
     Ok(())
 }
 
-/// Gives the names of a part to each state that it names.
+/// Appends the names of a part to each state that it names.
 fn push_states(
     states: &mut Vec<Vec<Identifier>>,
     ids: &NameTable,
@@ -112,7 +112,7 @@ fn push_states(
     Ok(())
 }
 
-/// The names of each state.
+/// Collects the names of each state, by number.
 pub(crate) fn collect_names(
     alloc: Global,
     process: &Process,
@@ -129,7 +129,7 @@ pub(crate) fn collect_names(
     Ok(states)
 }
 
-/// What a STATE part takes and saves.
+/// The names that a STATE part consumes and saves.
 pub(crate) fn part_triggers(alloc: Global, part: &StatePart) -> Result<Vec<Identifier>, AllocError>
     ensures { IfOk result (λ v. v.items ≡ part_triggers (state_of part.now)) }
 {

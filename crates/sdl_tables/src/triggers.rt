@@ -1,7 +1,7 @@
-//! Names that a state takes or saves twice.
+//! Finds names that a state consumes or saves twice.
 //!
-//! A STATE part may stand for many states, and have many names. So the names of a state aren't written out: each part
-//! has its names once, by number, and each state the numbers of its parts.
+//! A STATE part may apply to many states, and have many names. So the names of each state aren't listed: each part has
+//! its names once, by number, and each state has the numbers of its parts.
 ghost use Rattle.std.specs.Prelude.{◌≡◌, ◌<◌, ◌++◌, ◌∷◌, ◌==◌, [], ℕ, true, List, Some, if◌then◌else◌, map, length, not, IfOk, IfSome, OnOk, vec_len};
 ghost use Rattle.std.specs.List.{flat_map, AllByRecursion};
 ghost use Rattle.sdl_ast.specs.declared.expression.Identifier as the_id;
@@ -18,14 +18,14 @@ use crate::state_names::part_triggers;
 use sdl_ast::{Identifier, Process, StatePart};
 use std::alloc::{AllocError, Global};
 
-/// A name that a part takes or saves, and its number among all those of the process.
+/// A name that a part consumes or saves, and its number among all such names of the process.
 #[derive(Clone, Copy)]
 struct Trigger {
     id: Identifier,
     number: usize,
 }
 
-/// The number of a name, which may be new.
+/// The number of a name, which is added if it is new.
 fn number_in(names: &mut NameTable, id: Identifier) -> Result<usize, AllocError>
     ensures number { IfOk result (λ n. number_of names.new id.name ≡ Some n) }
     ensures keeps { OnOk result (Keeps names.old names.new) }
@@ -40,7 +40,7 @@ fn number_in(names: &mut NameTable, id: Identifier) -> Result<usize, AllocError>
     }
 }
 
-/// Names with their numbers, which may be new.
+/// Numbers names. New names are added.
 fn number_ids(
     alloc: Global,
     names: &mut NameTable,
@@ -58,7 +58,7 @@ fn number_ids(
     Ok(triggers)
 }
 
-/// What a STATE part takes and saves, with the numbers of the names.
+/// Numbers the names that a STATE part consumes and saves.
 fn number_part(
     alloc: Global,
     names: &mut NameTable,
@@ -72,7 +72,7 @@ fn number_part(
     number_ids(alloc, names, &ids)
 }
 
-/// What each part takes and saves.
+/// Numbers the names that each part consumes and saves.
 fn number_parts(
     alloc: Global,
     names: &mut NameTable,
@@ -88,7 +88,7 @@ fn number_parts(
     Ok(rows)
 }
 
-/// No part for any of so many states.
+/// An empty list of parts for each of `count` states.
 fn empty_rows(alloc: Global, count: usize) -> Result<Vec<Vec<usize>>, AllocError>
     ensures len { IfOk result (λ v. vec_len v ≡ count) }
     ensures empty { IfOk result (λ v. (of_part : ℕ → List the_id.Identifier) (s : ℕ) → row_at (taken_in of_part) v.items s ≡ []) }
@@ -100,7 +100,7 @@ fn empty_rows(alloc: Global, count: usize) -> Result<Vec<Vec<usize>>, AllocError
     Ok(rows)
 }
 
-/// Gives a part to one state.
+/// Appends a part to one state.
 fn push_state(rows: &mut Vec<Vec<usize>>, state: usize, part: usize) -> Result<(), AllocError>
     requires { state < vec_len rows.old }
     ensures len { OnOk result (vec_len rows.new ≡ vec_len rows.old) }
@@ -112,7 +112,7 @@ fn push_state(rows: &mut Vec<Vec<usize>>, state: usize, part: usize) -> Result<(
     Ok(())
 }
 
-/// Gives a part to each state that it names.
+/// Appends a part to each state that it names.
 fn push_states(
     rows: &mut Vec<Vec<usize>>,
     states: &NameTable,
@@ -133,7 +133,7 @@ fn push_states(
     Ok(())
 }
 
-/// The parts of each state, by number.
+/// Collects the numbers of the parts of each state.
 fn collect_parts(
     alloc: Global,
     parts: &[StatePart],
@@ -150,7 +150,7 @@ fn collect_parts(
     Ok(rows)
 }
 
-/// Whether a name is new where those before it are stamped. It is stamped too.
+/// Whether a name is new, if those before it have this stamp. It is stamped too.
 fn stamp_one(seen: &mut Vec<usize>, stamp: usize, trigger: &Trigger) -> bool
     ensures new { (names before : List the_id.Identifier) → Stamped names seen.old.items stamp before → IsNumbered names trigger.now
         → result ≡ not (is_in before trigger.now.id.name) }
@@ -168,7 +168,7 @@ fn stamp_one(seen: &mut Vec<usize>, stamp: usize, trigger: &Trigger) -> bool
     }
 }
 
-/// The first name that stands before.
+/// The first name that occurred before. All names are stamped.
 fn stamp_part(seen: &mut Vec<usize>, stamp: usize, triggers: &[Trigger]) -> Option<u32>
     ensures double { (names before : List the_id.Identifier) → Stamped names seen.old.items stamp before → AllByRecursion (IsNumbered names) triggers.now
         → Marks result (repeats before (map (λ t. t.id) triggers.now)) }
@@ -185,7 +185,7 @@ fn stamp_part(seen: &mut Vec<usize>, stamp: usize, triggers: &[Trigger]) -> Opti
     double
 }
 
-/// The first name of the part with a number that stands before; its names are stamped too.
+/// The first name of the part with this number that occurred before. All its names are stamped.
 fn stamp_number(
     seen: &mut Vec<usize>,
     stamp: usize,
@@ -205,7 +205,7 @@ fn stamp_number(
     }
 }
 
-/// The place of the first name.
+/// The place of the first name, if there is one.
 fn first_at(triggers: &[Trigger]) -> Option<u32>
     ensures { Marks result (map (λ t. t.id.at) triggers.now) }
 {
@@ -225,7 +225,7 @@ fn first_of(parts: &[Vec<Trigger>], number: usize) -> Option<u32>
     }
 }
 
-/// The first name of a part that stands before. That is its first name, where the part itself is the last before.
+/// The first name of a part that occurred before. If the preceding part is the same, it is the first name of the part.
 fn stamp_next(
     seen: &mut Vec<usize>,
     stamp: usize,
@@ -273,7 +273,7 @@ fn state_double(
     double
 }
 
-/// The first name that a state has twice, with those before it. A state that has the parts of the one before has its names.
+/// The first duplicate so far, after one more state. A state with the same parts as the preceding one adds nothing.
 fn next_double(
     seen: &mut Vec<usize>,
     stamp: usize,
@@ -295,7 +295,7 @@ fn next_double(
     }
 }
 
-/// No stamp for any of so many names.
+/// No stamp for any of `count` names.
 fn unseen(alloc: Global, count: usize) -> Result<Vec<usize>, AllocError>
     ensures len { IfOk result (λ v. vec_len v ≡ count) }
     ensures below { IfOk result (λ v. AreBelow v.items 1) }
@@ -307,7 +307,7 @@ fn unseen(alloc: Global, count: usize) -> Result<Vec<usize>, AllocError>
     Ok(seen)
 }
 
-/// The first name that a state has twice, where there are so many names.
+/// The first name that a state has twice, given the number of all names.
 fn rows_double(
     alloc: Global,
     count: usize,
@@ -327,7 +327,7 @@ fn rows_double(
     Ok(double)
 }
 
-/// The first place of a name that a state takes or saves, and took or saved before.
+/// The place of the first name that a state consumes or saves twice.
 pub(crate) fn trigger_double(
     alloc: Global,
     key: NameKey,

@@ -13,7 +13,7 @@ use Rattle.sdl_tables.proofs.Numbers.{joined_push, given_as}
 use Rattle.sdl_tables.proofs.triggers.collect_parts.Goals as goal
 use Rattle.plain_laws.proofs.Lists.{mapped_more}
 
--- one part more
+-- One more STATE part.
 part_more : (of_part : ℕ → List Identifier) (parts : List StatePart) (i : ℕ) (part : StatePart) (states : List Identifier) (s : ℕ) (now old : List Identifier)
     → i < length parts → part ≡ get_or parts i part → AreTaken of_part (map state_of parts)
     → now ≡ old ++ given_to (λ _. of_part i) states s (state_of part)

@@ -6,7 +6,7 @@ use Rattle.sdl_tables.specs.Triggers.{taken_by}
 use Rattle.sdl_tables.proofs.triggers.next_double.Goals as goal
 use Rattle.plain_laws.proofs.Lists.{append-nil_right}
 
--- the same places once more
+-- Appending the list of places to itself adds no new place.
 again : (double : Option ℕ) (xs ys : List ℕ) → Marks double (xs ++ ys) → Marks double ((xs ++ ys) ++ ys)
 again None xs ys m = ap (λ l. l ++ ys) m ∙ append-nil_right xs ys m
 again (Some at) xs ys m = Contains-append_left (xs ++ ys) ys at m

@@ -8,7 +8,7 @@ use Rattle.sdl_tables.proofs.Numbers.{joined_push, stamped_fresh}
 use Rattle.sdl_tables.proofs.triggers.rows_double.Goals as goal
 use Rattle.plain_laws.proofs.Lists.{mapped_more}
 
--- one state more
+-- One more state.
 state_more : (told : ℕ → List Identifier) (rows : List (Vec ℕ)) (i : ℕ) (v : Vec ℕ) (numbers : List ℕ) → i < length rows → v ≡ get_or rows i v → numbers ≡ v.items
     → flat_map (repeats []) (map (taken_in told) (take (i + 1) rows))
     ≡ flat_map (repeats []) (map (taken_in told) (take i rows)) ++ repeats [] (flat_map told numbers)

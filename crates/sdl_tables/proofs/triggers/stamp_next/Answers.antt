@@ -6,7 +6,7 @@ use Rattle.sdl_tables.specs.Triggers.{taken_by, Covers}
 use Rattle.sdl_tables.proofs.Numbers.{repeats_covered, stamped_covered}
 use Rattle.sdl_tables.proofs.triggers.stamp_next.Goals as goal
 
--- the part before has the number
+-- The preceding part is the part with this number.
 covers_same : (told : ℕ → List Identifier) (before : List Identifier) (last : Option ℕ) (k n : ℕ) → last ≡ Some k → k ≡ n
     → IfSome last (λ i. Covers before (told i)) → Covers before (told n)
 covers_same told before last k n is same covers =

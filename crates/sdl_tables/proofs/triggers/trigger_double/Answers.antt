@@ -20,14 +20,14 @@ told_by : (o : Option (Vec Trigger)) (xs : List Identifier) → option_map trigg
 told_by None xs e = absurd (none-some xs e)
 told_by (Some v) xs e = same_Some (trigger_ids v) xs e
 
--- each part takes and saves what its row says
+-- Each part consumes and saves the names in its row.
 are_taken : (parts : List (Vec Trigger)) (ps : List PlainState) → map trigger_ids parts ≡ map part_triggers ps → AreTaken (taken_by parts) ps
 are_taken parts ps same k part at =
     told_by (slice_get parts k) (part_triggers part)
     (sym (slice_get-map trigger_ids parts k)
     ∙ (ap (λ l. slice_get l k) same ∙ (slice_get-map part_triggers ps k ∙ ap (option_map part_triggers) at)))
 
--- what each state takes and saves, by the numbers of its parts
+-- The names that each state consumes or saves, found from the numbers of its parts.
 whole : (p : PlainProcess) (states : List Identifier) (parts : List (Vec Trigger)) (tree : List StatePart) (rows : List (Vec ℕ)) → states ≡ states_of p
     → map trigger_ids parts ≡ map part_triggers (map state_of tree) → map state_of tree ≡ p.states → length rows ≡ length states
     → ((of_part : ℕ → List Identifier) → AreTaken of_part (map state_of tree) → (s : ℕ) → s < length states

@@ -12,7 +12,7 @@ use Rattle.sdl_tables.proofs.Repeats.{names_once-distinct}
 use Rattle.sdl_tables.proofs.process_table.ProcessTable.new.Goals as goal
 use Rattle.plain_laws.proofs.Lists.{append-nil_left, append-nil_right}
 
--- a place of a name that is there twice, of either kind
+-- The place of a duplicate name, declared or in a state.
 marked : (p : PlainProcess) (d : Declared) (t : Standing) (place : Option ℕ) → HasDeclared p d → HasStanding p t
     → ((xs ys : List ℕ) → Marks d.double xs → Marks t.double ys → Marks place (xs ++ ys))
     → Marks place (flat_map (repeats []) (process_scopes p))
