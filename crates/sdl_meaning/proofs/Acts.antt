@@ -25,7 +25,7 @@ use Rattle.sdl_meaning.proofs.Follows.{follow_over, leads_on}
 use Rattle.sdl_meaning.proofs.Within.{piece_cost}
 use Rattle.std.proofs.lemmas.Bool.{eqb-true as same_number}
 
--- ---- lists of numbers, each once
+-- ---- lists of numbers, each only once
 
 pub among_by : (ns : List ℕ) (n : ℕ) → list_any (λ m. nat_eq m n) ns ≡ true → Contains ns n
 among_by [] n e = absurd (let k : ⊥ = cc in k)
@@ -35,7 +35,7 @@ among_by (m ∷ ns) n e = by_test (nat_eq m n) refl e (among_by ns n)
     by_test true f e rest = (0, omega arith, same_number m n f)
     by_test false f e rest = let r = rest e in (suc r.0, omega (arith, r.1), r.2)
 
--- a number that is added is there, and those before it stay
+-- The added number is in the list, and so are those before it.
 added_there : (ns : List ℕ) (n : ℕ) → Contains (add_number ns n) n
 added_there ns n = by_test (list_any (λ m. nat_eq m n) ns) refl
   where
@@ -71,13 +71,13 @@ pub contains_flat : (f : ℕ → List ℕ) (ns : List ℕ) (n m : ℕ) → Conta
 contains_flat f ns n m h c = flat_at f ns h.0 n m h.1 h.2 c
 
 module _ (c : Scope) (t : Text) (ns : List ℕ) (placed : ArePlaced c t ns) where
-  -- the connections that the text joins are placed
+  -- The connections that the text joins are placed.
   pub joined_placed : (m : ℕ) → Contains (joined c t) m → Contains ns m
   joined_placed m h =
       let others = flat_map (λ n. joined c (text_at c n)) ns in
       subst (λ l. Contains l m) (sym placed.once) (once_there (joined c t ++ others) m (Contains-append_left (joined c t) others m h))
 
-  -- and those that one of them does
+  -- The connections that a placed one joins are placed.
   pub placed_closed : (n m : ℕ) → Contains ns n → Contains (joined c (text_at c n)) m → Contains ns m
   placed_closed n m there h =
       let others = flat_map (λ n. joined c (text_at c n)) ns in
@@ -95,7 +95,7 @@ tail_contains m ms n e h = by_place h.0 h.1 h.2
         differs g = grind (arith, nat_tests, e, g)
     by_place (suc k) lt f = (k, omega (arith, lt), f)
 
--- the code of each connection stands at its place
+-- The code of each connection is at its place.
 pub connection_stands : (c : Scope) (code : List Instruction) (to : ℕ → ℕ) (ns : List ℕ) (p n : ℕ) → HasAt code p (connections_code c to p ns) → Contains ns n
     → HasAt code (place_in c p ns n) (text_code c to (place_in c p ns n) (text_at c n))
 connection_stands c code to [] p n has h = absurd (omega (arith, h.1))
@@ -112,7 +112,7 @@ connection_stands c code to (m ∷ ms) p n has h =
     by_test true e here there = subst (λ n. HasAt code p (text_code c to p (text_at c n))) (same_number m n e) here
     by_test false e here there = there (tail_contains m ms n e h)
 
--- what is over within n instructions is so in a run of n
+-- A part that is over within n instructions is over in a run of n.
 over_run : (inp : Input) (code : List Instruction) (s : Progress) (n end : ℕ) (o : Outcome (Unit {0})) → s.count ≡ 0 → IsOver o → cost_by o ≤ n → Does inp code 0 [] s end (λ _. []) o → exec code inp n 0 [] s ≡ ran o
 over_run inp code s n end (goes_on x v) zero_at h le d = absurd h
 over_run inp code s n end (over (at_end e) v) zero_at h le d =

@@ -1,4 +1,4 @@
--- The run of a text's instructions is what the text means.
+-- The run of a text's instructions is the meaning of the text.
 use Rattle.std.proofs.Common.{◌≡◌, ℕ, ◌+◌, Bool, true, false, cond, ◌&&◌, ◌||◌, List, [], ◌∷◌, ◌++◌, length, Option, Some, None, refl, sym, ap, ◌∙◌, subst, arith}
 use Rattle.std.specs.Prelude.{ℤ, nat_lt, nat_eq}
 use Rattle.std.proofs.lemmas.Bool.Decides.{nat_tests}
@@ -36,7 +36,7 @@ use Rattle.sdl_meaning.proofs.Choices.{IsOver, over_bind, over_first, are_number
 use Rattle.std.proofs.lemmas.Bool.{or_right as or_true}
 use Rattle.plain_laws.proofs.Truths.{and_second, neither_first as or_left, neither_second as or_right}
 
--- what holds of each JOIN of a text
+-- Each JOIN of a text has property P.
 abbrev pub EachEnd : (tree_join.Join → Type 0) → End → Type 0
 EachEnd P (NextState n) = Unit {0}
 EachEnd P (Stop at) = Unit {0}
@@ -54,13 +54,13 @@ abbrev mutual
   ChoiceJoin P (otherwise body) = EachJoin P body
   ChoiceJoin P (answer at rs body others) = EachJoin P body × ChoiceJoin P others
 
--- a truth value has an answer
+-- Whether a truth value has an answer.
 abbrev pub answers : Bool → Choice → Bool
 answers b nothing_else = false
 answers b (otherwise body) = true
 answers b (answer at rs body others) = list_any (names_truth b) rs || answers b others
 
--- ---- a text that doesn't run off its end comes to its end
+-- ---- a text that doesn't run off its end is over at its end
 
 end_over : (o : Option ℕ) (s : Progress) → IsOver (end_in o s)
 end_over None s = tt
@@ -117,14 +117,14 @@ module _ (c : Scope) (join : List ℕ → Progress → Outcome (Unit {0})) (send
         (over_first (act c join sender body v) (λ _ s. goes_on (tt {0}) (tick s)) (act_over body v (or_left (may_go_on body) (choice_goes_on others) e)))
         (pick_over others b v (or_right (may_go_on body) (choice_goes_on others) e)))
 
--- ---- what the rules ask of answers
+-- ---- what the rules require of answers
 
--- an Integer question has ELSE
+-- An Integer question has ELSE.
 pub integer_answered : (c : Scope) (q : Tree) (choice : Choice) → is_answered (variables_of c.process) q choice ≡ true → is_truth c q ≡ false → has_else choice ≡ true
 integer_answered c q choice h e =
     sym (ap (λ b. cond b (answers_both choice) (has_else choice)) e) ∙ and_second (has_values choice) (cond (is_truth c q) (answers_both choice) (has_else choice)) h
 
--- a truth value that no range names is named no times
+-- A literal that isn't a truth value names it 0 times.
 no_value : (l : Literal) (b : Bool) → is_literal b l ≡ false → is_value b l ≡ 0
 no_value (literals.Integer k) b e = refl
 no_value (literals.Boolean true) true e = absurd (let k : ⊥ = cc in k)
@@ -161,7 +161,7 @@ both_named : (m n : ℕ) (b : Bool) → nat_eq m 1 && nat_eq n 1 ≡ true → co
 both_named m n true e = grind (arith, nat_tests)
 both_named m n false e = grind (arith, nat_tests)
 
--- each truth value has an answer
+-- Each truth value has an answer.
 truth_answered : (c : Scope) (q : Tree) (choice : Choice) (b : Bool) → is_answered (variables_of c.process) q choice ≡ true → is_truth c q ≡ true → answers b choice ≡ true
 truth_answered c q choice b h e = by_else (has_else choice) refl (sym (ap (λ b. cond b (answers_both choice) (has_else choice)) e) ∙ and_second (has_values choice) (cond (is_truth c q) (answers_both choice) (has_else choice)) h)
   where
@@ -182,7 +182,7 @@ truth_answered c q choice b h e = by_else (has_else choice) refl (sym (ap (λ b.
 
 module _ (inp : Input) (code : List Instruction) (c : Scope) (from : Option Identifier) (is_sent : IsSentTo c from inp.sender)
     (to : ℕ → ℕ) (join : List ℕ → Progress → Outcome (Unit {0})) (joins_over : (x : List ℕ) (s : Progress) → IsOver (join x s)) where
-  -- what a JOIN leads to does what it means
+  -- The code to which a JOIN leads does what the JOIN means.
   abbrev pub Leads : tree_join.Join → Type 0
   Leads j = (os : List Value) (s : Progress) (end : ℕ) → Does inp code (to (number_or_zero (connector_at c j.connector))) os s end (λ _. os) (join j.connector.name s)
 
@@ -244,7 +244,7 @@ module _ (inp : Input) (code : List Instruction) (c : Scope) (from : Option Iden
         refl (integer_answered c q choice named.0.answered g) g named.1 sends.0 leads.0)))
         (λ _ w. text_does rest after end os w (has_back code m x y after len_x has_m) len_y named.2 sends.1 leads.1))
 
-    -- the answers to an Integer question: their tests at m, the body of ELSE at f, theirs from a on
+    -- The answers to an Integer question: tests at m, the body of ELSE at f, the bodies of the answers from a on.
     choose_does : (choice : Choice) (q : Tree) (z : ℤ) (m f a after : ℕ) (os : List Value) (s : Progress) → HasAt code m (tests_code c a choice) → HasAt code f (else_code c to f after choice) → HasAt code a (answers_code c to a after choice)
         → m + tests_size choice ≡ f → has_else choice ≡ true → is_truth c q ≡ false → NamedChoice c q choice → ChoiceAnswers c from choice → ChoiceJoin Leads choice
         → Does inp code m (Int z ∷ os) s after (λ _. os) (choose c join inp.sender choice z s)
@@ -275,7 +275,7 @@ module _ (inp : Input) (code : List Instruction) (c : Scope) (from : Option Iden
         (λ u. choose_does others q z m2 f b after os u (has_back code m (ranges_code a rs) (tests_code c b others) m2 len_r tests) else_has
         (has_back code mid (leave_code after body) y b len_y has_mid) (omega (arith, e)) there g named.2 sends.1 leads.1)
 
-    -- those to a Boolean one, whose bodies stand from n on
+    -- The answers to a Boolean question, whose bodies start at n.
     pick_does : (choice : Choice) (q : Tree) (b : Bool) (n after : ℕ) (os : List Value) (s : Progress) → HasAt code n (bodies_code c to n after choice) → answers b choice ≡ true → is_truth c q ≡ true
         → NamedChoice c q choice → ChoiceAnswers c from choice → ChoiceJoin Leads choice → Does inp code (picked c n choice b) os s after (λ _. os) (pick c join inp.sender choice b s)
     pick_does nothing_else q b n after os s has there g named sends leads = absurd (let k : ⊥ = cc in k)

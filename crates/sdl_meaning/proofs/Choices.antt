@@ -29,7 +29,7 @@ use Rattle.sdl_meaning.proofs.Runs.{Does, bind, stepped, one}
 use Rattle.sdl_meaning.proofs.RunParts.{HasAt, has_front}
 use Rattle.plain_laws.proofs.Truths.{and_second as both_right, and_first as both_left}
 
--- a choice is over or goes on
+-- A part is over.
 abbrev pub IsOver : {A : Type 0} → Outcome A → Type 0
 IsOver (goes_on x v) = ⊥
 IsOver (over e v) = Unit {0}
@@ -42,7 +42,7 @@ pub over_first : {A B : Type 0} (o : Outcome A) (f : A → Progress → Outcome 
 over_first (goes_on x v) f h = absurd h
 over_first (over e v) f h = tt
 
--- ranges of Integers
+-- Ranges of Integers.
 abbrev pub AreNumbers : List Range → Type 0
 AreNumbers [] = Unit {0}
 AreNumbers (r ∷ rs) = (answers_number r ≡ true) × AreNumbers rs
@@ -51,7 +51,7 @@ abbrev pub AreTruths : List Range → Type 0
 AreTruths [] = Unit {0}
 AreTruths (r ∷ rs) = (answers_truth r ≡ true) × AreTruths rs
 
--- by the sort of the question, which is known
+-- The ranges have the sort of the question.
 pub are_numbers : (c : Scope) (q : Tree) (rs : List Range) → is_truth c q ≡ false → AnswerTo c q rs → AreNumbers rs
 are_numbers c q [] e h = tt
 are_numbers c q (r ∷ rs) e h = (sym (ap (λ b. cond b (answers_truth r) (answers_number r)) e) ∙ h.0, are_numbers c q rs e h.1)
@@ -60,12 +60,12 @@ pub are_truths : (c : Scope) (q : Tree) (rs : List Range) → is_truth c q ≡ t
 are_truths c q [] e h = tt
 are_truths c q (r ∷ rs) e h = (sym (ap (λ b. cond b (answers_truth r) (answers_number r)) e) ∙ h.0, are_truths c q rs e h.1)
 
--- what a constant of an Integer is
+-- The constant of an Integer.
 number_in : (l : Literal) (at : ℕ) → is_constant Integer (record { at = at; value = l }) ≡ true → Some (constant_or_zero (integer_in l)) ≡ integer_in l
 number_in (literals.Integer k) at h = refl
 number_in (literals.Boolean b) at h = absurd (let k : ⊥ = cc in k)
 
--- whether a range of Integers holds
+-- Whether a range of Integers holds a value.
 abbrev pub passes : Range → ℤ → Bool
 passes (IsValue k) x = holds relations.Equal x (constant_or_zero (integer_in k.value))
 passes (Compared at r k) x = holds (relation_of r) x (constant_or_zero (integer_in k.value))
@@ -80,22 +80,22 @@ covered (Between low high) x h =
     ap (λ o. between x o (integer_in high.value)) (sym a) ∙ ap (between x (Some (constant_or_zero (integer_in low.value)))) (sym b)
 
 module _ (inp : Input) (code : List Instruction) where
-  -- what is over may end anywhere
+  -- A part that is over fits any end place.
   pub over_anywhere : {A : Type 0} (pc end end2 : ℕ) (os : List Value) (s : Progress) (left : A → List Value) (o : Outcome A) → IsOver o → Does inp code pc os s end left o → Does inp code pc os s end2 left o
   over_anywhere pc end end2 os s left (goes_on x v) h d = absurd h
   over_anywhere pc end end2 os s left (over e v) h d = d
 
-  -- one instruction, and then what is done from the place where it leads
+  -- One instruction, and then what follows at the place to which it leads.
   pub after_one : {A : Type 0} (pc n end : ℕ) (os os2 : List Value) (s : Progress) (left : A → List Value) (x : Instruction) (o : Outcome A) → slice_get code pc ≡ Some x → run.act x inp (pc + 1) os (tick s) ≡ goes n os2 (tick s) → Does inp code n os2 (tick s) end left o → Does inp code pc os s end left o
   after_one pc n end os os2 s left x (goes_on y v) at e d = λ k. let h = d k in (suc h.0, omega (arith, h.1), stepped inp code pc os s x (goes n os2 (tick s)) at e h.0 ∙ h.2)
   after_one pc n end os os2 s left x (over t v) at e d = λ k. let h = d k in (suc h.0, omega (arith, h.1), stepped inp code pc os s x (goes n os2 (tick s)) at e h.0 ∙ h.2)
 
-  -- what is over leaves out what would follow
+  -- A part that is over leaves out what would follow.
   over_then : {A B : Type 0} (pc end end2 : ℕ) (os : List Value) (s : Progress) (left : A → List Value) (left2 : B → List Value) (o : Outcome A) (f : A → Progress → Outcome B) → IsOver o → Does inp code pc os s end left o → Does inp code pc os s end2 left2 (then_do o f)
   over_then pc end end2 os s left left2 (goes_on x v) f h d = absurd h
   over_then pc end end2 os s left left2 (over e v) f h d = d
 
-  -- a body and, where it goes on, the jump behind it
+  -- A body and, if it goes on, the jump after it.
   pub body_leaves : (body : Text) (n mid after : ℕ) (os : List Value) (s : Progress) (o : Outcome (Unit {0})) → HasAt code mid (leave_code after body) → (may_go_on body ≡ false → IsOver o) → Does inp code n os s mid (λ _. os) o → Does inp code n os s after (λ _. os) (leave o)
   body_leaves body n mid after os s o has ends d = by_test (may_go_on body) refl has
     where
@@ -112,7 +112,7 @@ module _ (inp : Input) (code : List Instruction) where
   range_runs (Compared at r k) x a m os s b e = ap (λ b. cond b (goes a os (tick s)) (goes (m + 1) (Int x ∷ os) (tick s))) e
   range_runs (Between low high) x a m os s b e = ap (λ b. cond b (goes a os (tick s)) (goes (m + 1) (Int x ∷ os) (tick s))) e
 
-  -- the ranges of an answer whose body stands at a
+  -- The ranges of an answer whose body starts at a.
   pub tries_do : (rs : List Range) (x : ℤ) (m m2 a after : ℕ) (os : List Value) (s : Progress) (f g : Progress → Outcome (Unit {0})) → AreNumbers rs → HasAt code m (ranges_code a rs) → m + length rs ≡ m2
       → ((u : Progress) → Does inp code a os u after (λ _. os) (f u)) → ((u : Progress) → Does inp code m2 (Int x ∷ os) u after (λ _. os) (g u))
       → Does inp code m (Int x ∷ os) s after (λ _. os) (then_do (try_ranges rs x s) (λ b s. cond b (f s) (g s)))
@@ -133,14 +133,14 @@ module _ (inp : Input) (code : List Instruction) where
   range_stuck (Compared p r k) b a m after os s at = one inp code {A = Unit {0}} m after (Truth b ∷ os) s (λ _. os) (range_code a (Compared p r k)) (over (in_trouble WrongSort) (tick s)) at (refl, refl)
   range_stuck (Between low high) b a m after os s at = one inp code {A = Unit {0}} m after (Truth b ∷ os) s (λ _. os) (range_code a (Between low high)) (over (in_trouble WrongSort) (tick s)) at (refl, refl)
 
-  -- a truth value is no answer to it
+  -- A truth value has no answer there.
   tests_stuck : (c : Scope) (choice : Choice) (b : Bool) (n m after : ℕ) (os : List Value) (s : Progress) → has_else choice ≡ true → HasAt code m (tests_code c n choice) → Does inp code {A = Unit {0}} m (Truth b ∷ os) s after (λ _. os) (over (in_trouble WrongSort) (tick s))
   tests_stuck c nothing_else b n m after os s e has = absurd (let k : ⊥ = cc in k)
   tests_stuck c (otherwise body) b n m after os s e has = one inp code {A = Unit {0}} m after (Truth b ∷ os) s (λ _. os) i.Drop (over (in_trouble WrongSort) (tick s)) has.0 (refl, refl)
   tests_stuck c (answer at [] body others) b n m after os s e has = tests_stuck c others b (n + body_size c body) m after os s e has
   tests_stuck c (answer at (r ∷ rs) body others) b n m after os s e has = range_stuck r b n m after os s has.0
 
-  -- ---- what is chosen
+  -- ---- the choice
 
   pick_runs : (c : Scope) (n : ℕ) (choice : Choice) (b : Bool) (m : ℕ) (os : List Value) (s : Progress) → run.act (pick_code c n choice) inp (m + 1) (Truth b ∷ os) (tick s) ≡ goes (picked c n choice b) os (tick s)
   pick_runs c n choice true m os s = refl

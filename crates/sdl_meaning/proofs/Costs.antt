@@ -1,4 +1,4 @@
--- The run of a transition's instructions is what the transition means.
+-- The cost of each part of a transition.
 use Rattle.std.proofs.Common.{ℕ, ◌+◌, ◌≤◌, Bool, true, false, cond, List, [], ◌∷◌, Option, Some, None, arith}
 use Rattle.std.specs.Prelude.{slice_get, ℤ, pos, int_lt}
 use Rattle.std.specs.List.{sum_by}
@@ -18,7 +18,7 @@ use Rattle.sdl_sound.specs.Longest.{is_division, cost_of, assignment_cost, assig
 use Rattle.sdl_meaning.specs.Act.{slot, read, written, write, Working, reckons, compares, joins, working, is_truth, apply_one, apply_two, divisor_of, quotient, divide, value_of, values_of, receiver_of, assign, put_out, send, send_all, start_timer, stop_timer, perform, pass, take_places}
 use Rattle.sdl_meaning.specs.Outcomes.{Scope, variable_at, timer_at, signal_at, in_trouble, Outcome, goes_on, over, then_do}
 
--- what a part has cost by its end
+-- The cost of the walk at the end of a part.
 abbrev pub cost_by : {A : Type 0} → Outcome A → ℕ
 cost_by (goes_on x v) = v.count
 cost_by (over e v) = v.count

@@ -1,4 +1,4 @@
--- The code of a piece has as many instructions as its text says, with each connection to which it comes once.
+-- The code of a piece has as many instructions as its text counts, with each connection that it leads to once.
 use Rattle.std.proofs.Common.{◌≡◌, ℕ, zero, suc, ◌+◌, ◌<◌, ◌≤◌, Bool, true, false, cond, ◌||◌, List, [], ◌∷◌, ◌++◌, length, Some, refl, sym, ap, ◌∙◌, subst, arith, length-append}
 use Rattle.std.specs.Prelude.{slice_get, get_or, Contains, fold, nat_eq}
 use Rattle.std.specs.List.{list_any, sum_by, filter, flat_map}
@@ -24,7 +24,7 @@ use Rattle.plain_laws.proofs.Truths.{neither_first as or_left, neither_second as
 abbrev pub is_among : List ℕ → ℕ → Bool
 is_among ns n = list_any (λ m. nat_eq m n) ns
 
--- each number once
+-- Each number occurs only once.
 abbrev pub Once : List ℕ → Type 0
 Once [] = Unit {0}
 Once (n ∷ ns) = (is_among ns n ≡ false) × Once ns
@@ -59,10 +59,10 @@ once_folded (x ∷ xs) acc h = once_folded xs (add_number acc x) (once_added acc
 pub numbers_are_once : (xs : List ℕ) → Once (numbers_once xs)
 numbers_are_once xs = once_folded xs [] tt
 
--- ---- sums over numbers, and over what they are the numbers of
+-- ---- sums over numbers, and over the items with these numbers
 
 module _ {A : Type 0} (g : A → ℕ) where
-  -- of the items from place i on, those whose places are among these numbers
+  -- The sum over the items from place i on whose places are among these numbers.
   abbrev picked_from : ℕ → List A → List ℕ → ℕ
   picked_from i [] ns = 0
   picked_from i (x ∷ xs) ns = cond (is_among ns i) (g x) 0 + picked_from (i + 1) xs ns
@@ -94,7 +94,7 @@ module _ {A : Type 0} (g : A → ℕ) where
       let a = cond (is_among ns i) (g y) 0 in
       ap (λ b. cond (b || is_among ns i) (g y) 0 + picked_from (i + 1) xs (n ∷ ns)) first ∙ omega (arith, h)
 
-  -- where each number is that of an item, once
+  -- Each number is that of an item, and occurs only once.
   sum_picked : (f : ℕ → ℕ) (xs : List A) (ns : List ℕ) → Once ns → ((n : ℕ) → is_among ns n ≡ true → (x : A) × (slice_get xs n ≡ Some x) × (f n ≡ g x)) → sum_by f ns ≡ picked_from 0 xs ns
   sum_picked f xs [] once there = sym (picked_none xs 0)
   sum_picked f xs (n ∷ ns) once there =
@@ -111,7 +111,7 @@ module _ {A : Type 0} (g : A → ℕ) where
       or_there true b e = refl
       or_there false b e = e
 
-  -- and a test tells whose numbers are there
+  -- A test decides whose numbers are there.
   picked_kept : (test : A → Bool) (xs : List A) (i : ℕ) (ns : List ℕ) → ((d : ℕ) (x : A) → slice_get xs d ≡ Some x → is_among ns (i + d) ≡ test x) → picked_from i xs ns ≡ sum_by g (filter test xs)
   picked_kept test [] i ns same = refl
   picked_kept test (x ∷ xs) i ns same =
@@ -153,7 +153,7 @@ module _ (c : Scope) (q : Piece) (named : NamedPiece c q) (ns : List ℕ) (place
       ∙ same_tests (is_among ns d) (test k) (λ t. placed_reached c named.connections q.text named.text.text ns placed d k (among_by ns d t) e)
       (λ t. among_there ns d (reached_placed c named.connections q.text named.text.text ns placed d k e t)))
 
-  -- as many instructions as the text says
+  -- The code has as many instructions as the text counts.
   pub size_is : (code : List Instruction) → code ≡ piece_code c q ns → length code ≡ piece_size c.process q
   size_is code is =
       let r = connections_place c q in
@@ -163,6 +163,6 @@ module _ (c : Scope) (q : Piece) (named : NamedPiece c q) (ns : List ℕ) (place
       let d = connections_code c to r ns in
       omega (arith, ap length is, length-append a (b ++ d), length-append b d, places_size c 0 q.places, text_size_is c to (text_place q) q.text, connections_size c to r ns, others_size)
 
-  -- and the text with its connections is within the limit of a piece
+  -- The text with its connections is within the limit of a piece.
   pub size_fits : piece_size c.process q ≤ 512 → connections_place c q + sum_by (size_at c) ns ≤ 512
   size_fits h = omega (arith, h, others_size)

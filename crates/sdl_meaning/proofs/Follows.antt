@@ -1,4 +1,4 @@
--- The run of a whole piece is its meaning, with the connections to which it comes.
+-- The run of a whole piece is its meaning, with the connections to which it leads.
 use Rattle.std.proofs.Common.{◌≡◌, ℕ, zero, suc, ◌+◌, ◌<◌, List, length, Option, Some, None, refl, sym, ap, subst, arith}
 use Rattle.std.specs.Prelude.{slice_get, Contains}
 use Rattle.std.specs.Option.{option_map_or}
@@ -44,7 +44,7 @@ module _ (inp : Input) (code : List Instruction) (c : Scope) (from : Option Iden
   closed_does pc mid end os s (goes_on x v) h d = absurd h
   closed_does pc mid end os s (over e v) h d = d
 
-  -- a connection, where more JOINs are followed than there are steps from it on
+  -- A connection, if more JOINs are followed than it has steps.
   pub follow_does : (fuel n : ℕ) (x : List ℕ) (k : PlainConnection) → slice_get c.process.connections n ≡ Some k → connection_named c.process x ≡ Some k → Contains ns n → connections.steps n < fuel
       → (os : List Value) (s : Progress) (end : ℕ) → Does inp code (to n) os s end (λ _. os) (follow c inp.sender fuel x s)
   follow_does zero n x k at named placed few os s end = absurd (omega (arith, few))
@@ -66,7 +66,7 @@ module _ (inp : Input) (code : List Instruction) (c : Scope) (from : Option Iden
       (act_over c join inp.sender (follow_over c inp.sender f) k.text s w.ended)
       (text_does inp code c from is_sent to join (follow_over c inp.sender f) k.text (to n) mid os s has refl w.text well leads))
 
-  -- each JOIN of a text leads where it means, if its connection is placed
+  -- Each JOIN of a text leads where it means, if its connection is placed.
   pub leads_on : (fuel : ℕ) (t : Text) → NamedText c t → ((m : ℕ) → Contains (joined c t) m → Contains ns m) → ((m : ℕ) → m < length c.process.connections → connections.steps m < fuel)
       → EachJoin (Leads inp code c from is_sent to (follow c inp.sender fuel) (follow_over c inp.sender fuel)) t
   leads_on fuel t named h few =

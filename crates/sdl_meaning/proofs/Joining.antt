@@ -1,4 +1,4 @@
--- The JOINs of a text: each has a connection, and stands in both lists of JOINs.
+-- The JOINs of a text: each has a connection, and is in both lists of JOINs.
 use Rattle.std.proofs.Common.{◌≡◌, ℕ, zero, suc, ◌⊎◌, inl, inr, ◌<◌, Bool, true, false, cond, List, [], ◌∷◌, ◌++◌, length, map, Option, Some, None, IsSome, refl, sym, ap, ◌∙◌, subst, arith}
 use Rattle.std.specs.Prelude.{slice_get, get_or, Contains}
 use Rattle.std.specs.List.{flat_map}
@@ -28,7 +28,7 @@ get_or_at f (y ∷ xs) (suc k) x h e = let r = get_or_at f xs k x (omega arith) 
 pub contains_map : {A B : Type 0} (f : A → B) (xs : List A) (x : A) → Contains xs x → Contains (map f xs) (f x)
 contains_map f xs x h = get_or_at f xs h.0 x h.1 h.2
 
--- the connection that a JOIN leads to
+-- The connection to which a JOIN leads.
 pub record HasConnection (c : Scope) (id : Identifier) : Type 0 where
   pub connection : PlainConnection
   pub there : slice_get c.process.connections (number_or_zero (connector_at c id)) ≡ Some connection
@@ -66,7 +66,7 @@ has_connection c id some =
       number = some_number (connector_at c id) some;
     }
 
--- ---- what holds of the JOINs in both lists holds of each
+-- ---- what holds of the JOINs that are in both lists holds of each
 
 module _ (c : Scope) (P : tree_join.Join → Type 0) where
   abbrev Both : List tree_join.Join → List tree_join.Join → Type 0
@@ -85,7 +85,7 @@ module _ (c : Scope) (P : tree_join.Join → Type 0) where
   in_second a b j h =
       subst (λ l. Contains l j) (sym (flat_map-append statement_joins a b)) (Contains-append_right (flat_map statement_joins a) (flat_map statement_joins b) j h)
 
-  -- which lists the bodies stand in: those of a Boolean DECISION, or of an Integer one
+  -- The list with the JOINs of the bodies: that of a Boolean or of an Integer DECISION.
   abbrev choice_joins : Bool → Choice → List tree_join.Join
   choice_joins b choice = cond b (bodies_joins c choice) (else_joins c choice ++ answers_joins c choice)
 

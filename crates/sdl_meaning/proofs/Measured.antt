@@ -1,4 +1,4 @@
--- What a connection measures: that of its text, where a JOIN in it measures what the connection does to which it leads.
+-- The measure of a connection is that of its text, in which a JOIN has the measure of the connection it leads to.
 use Rattle.std.proofs.Common.{◌≡◌, ℕ, zero, suc, ◌+◌, ◌<◌, ◌≤◌, max, ⊎_elim, Bool, true, false, cond, ◌||◌, List, [], ◌∷◌, ◌++◌, length, map, take, Option, Some, IsSome, refl, sym, ap, ◌∙◌, subst, arith}
 use Rattle.std.specs.Prelude.{slice_get, get_or, nat_lt, Contains}
 use Rattle.std.proofs.lemmas.Bool.Decides.{nat_tests}
@@ -26,7 +26,7 @@ use Rattle.sdl_meaning.proofs.Joining.{has_connection, each_join}
 use Rattle.turn_code.proofs.Lists.{first_of as contains_first, within as none_past}
 use Rattle.plain_laws.proofs.Truths.{and_second, and_first}
 
--- ---- what a JOIN counts is part of what the text does
+-- ---- the count of a JOIN is part of the count of the text
 
 in_tests : (rs : List Range) (x y : ℕ) → y ≤ tests_budget rs x y
 in_tests [] x y = omega arith
@@ -56,7 +56,7 @@ mutual
   choice_more P Q (otherwise body) f h = each_more P Q body f h
   choice_more P Q (answer at rs body others) f h = (each_more P Q body f h.0, choice_more P Q others f h.1)
 
--- what holds of each JOIN holds of those in the order of the code
+-- What holds of each JOIN holds of the JOINs in the order of the code.
 end_each : (P : tree_join.Join → Type 0) (e : End) (j : tree_join.Join) → EachEnd P e → Contains (end_joins e) j → P j
 end_each P (NextState n) j h at = absurd (omega (arith, at.1))
 end_each P (Stop at) j h there = absurd (omega (arith, there.1))
@@ -106,7 +106,7 @@ module _ (c : Scope) (P : tree_join.Join → Type 0) where
     answers_of (answer k rs body others) j h at =
         ⊎_elim (λ at. each_of body j h.0 at) (λ at. answers_of others j h.1 at) (Contains-append_cases (code_joins c body) (answers_joins c others) j at)
 
--- each JOIN of a named text leads to a connection
+-- Each JOIN of a named text leads to a connection.
 abbrev HasNumber : Scope → tree_join.Join → Type 0
 HasNumber c j = IsSome (connector_at c j.connector)
 
@@ -127,7 +127,7 @@ mutual
   choice_named c q (otherwise body) h = each_named c body h
   choice_named c q (answer at rs body others) h = (each_named c body h.1, choice_named c q others h.2)
 
--- ---- what a JOIN counts is within what the text counts
+-- ---- the count of a JOIN is within the count of the text
 
 module _ (c : Scope) (join : List ℕ → ℕ) where
   abbrev pub Below : ℕ → tree_join.Join → Type 0
@@ -146,7 +146,7 @@ module _ (c : Scope) (join : List ℕ → ℕ) where
   sorts_within false x y n b h k le = omega (arith, k, le)
 
   mutual
-    -- what goes on counts what follows
+    -- A text that goes on counts what follows it.
     budget_through : (t : Text) (k : ℕ) → NamedText c t → may_go_on t ≡ true → k ≤ budget vs join t k
     budget_through falls k named e = omega arith
     budget_through (ends x) k named e = absurd (let h : ⊥ = cc in h)
@@ -271,7 +271,7 @@ module _ (c : Scope) (join : List ℕ → ℕ) where
     choice_depth_below (otherwise body) b le = depth_below body b le
     choice_depth_below (answer at rs body others) b le = (depth_below body b (omega (arith, le)), choice_depth_below others b (omega (arith, le)))
 
--- ---- a connection measures what its text does
+-- ---- a connection has the measure of its text
 
 module _ (c : Scope) (connections : NamedConnections c) (measure : List Variable → (List ℕ → ℕ) → Text → ℕ)
     (same : (f g : List ℕ → ℕ) (t : Text) → EachJoin (λ (j : tree_join.Join). f j.connector.name ≡ g j.connector.name) t → measure (variables_of c.process) f t ≡ measure (variables_of c.process) g t) where
@@ -281,7 +281,7 @@ module _ (c : Scope) (connections : NamedConnections c) (measure : List Variable
   abbrev of_text : ℕ → Option PlainConnection → ℕ
   of_text n o = option_map_or (λ (k : PlainConnection). measure (variables_of c.process) (by n) k.text) o 0
 
-  -- more JOINs than there are steps make no difference
+  -- More JOINs than the connection has steps make no difference.
   stable : (f g n : ℕ) (x : List ℕ) (k : PlainConnection) → slice_get c.process.connections n ≡ Some k → connection_named c.process x ≡ Some k → connections.steps n < f → connections.steps n < g → by f x ≡ by g x
   stable zero g n x k at named lt lt2 = absurd (omega (arith, lt))
   stable (suc f) zero n x k at named lt lt2 = absurd (omega (arith, lt2))
@@ -301,7 +301,7 @@ module _ (c : Scope) (connections : NamedConnections c) (measure : List Variable
       let few = connections.few n (none_past c.process.connections n k at) in
       stable l (suc l) n x k at named few (omega (arith, few)) ∙ ap (of_text l) named
 
--- ---- what holds of what a text joins, and of what that joins, holds of all that is placed
+-- ---- what holds of the connections that a text joins, and of those that they join, holds of all that are placed
 
 pub mapped_from : {A B : Type 0} (f : A → B) (xs : List A) (y : B) → Contains (map f xs) y → (x : A) × Contains xs x × (f x ≡ y)
 mapped_from f xs y h = by_list xs h.0 h.1 h.2
@@ -312,7 +312,7 @@ mapped_from f xs y h = by_list xs h.0 h.1 h.2
     by_list (x ∷ xs) (suc k) lt e = let r = by_list xs k (omega (arith, lt)) e in (r.0, contains_later x xs r.0 r.1, r.2)
 
 module _ {A : Type 0} (f : ℕ → List A) where
-  -- an item of lists one behind another stands in one of them
+  -- An item of joined lists is in one of them.
   pub flat_from : (ns : List ℕ) (y : A) → Contains (flat_map f ns) y → (i : ℕ) × (n : ℕ) × (slice_get ns i ≡ Some n) × Contains (f n) y
   flat_from [] y h = none_in y h
   flat_from (n ∷ ns) y h =

@@ -1,4 +1,4 @@
--- The numbers of names: each of the names that differ has the number of its place.
+-- The numbers of names: if names differ, each has the number of its place.
 use Rattle.std.proofs.Common.{◌≡◌, ℕ, zero, suc, ◌+◌, ◌<◌, Bool, true, false, not, cond, ◌||◌, List, [], ◌∷◌, ◌++◌, length, get_or, take, Some, None, refl, sym, ap, ◌∙◌, arith, append_assoc, nat_lt}
 use Rattle.std.specs.Prelude.{slice_get}
 use Rattle.std.specs.List.{list_any, position, position_or_len, prefix_len}
@@ -13,7 +13,7 @@ use Rattle.plain_laws.proofs.Lists.{append-nil_left as nil_front, append-nil_rig
 pub use Rattle.sdl_sound.proofs.Numbers.{same_self}
 pub use Rattle.sdl_sound.proofs.Numbered.{number_alike, same_back as same_other_way}
 
--- the number of a name is the place of an identifier that has it
+-- The number of a name is the place of an identifier with that name.
 pub record HasNumber (ids : List Identifier) (x : List ℕ) (v : ℕ) : Type 0 where
   pub id : Identifier
   pub there : slice_get ids v ≡ Some id
@@ -26,7 +26,7 @@ number_there ids x v e =
     let h = position-Some (λ (id : Identifier). same_name x id.name) ids v d e in
     record { id = get_or ids v d; there = slice_get-get_or ids v d h.0; within = h.0; same = h.1 }
 
--- the first item that passes is at the place before which none passes
+-- The first item that passes a test is the one before which none passes.
 first_at : {A : Type 0} (p : A → Bool) (xs : List A) (v : ℕ) (x : A) → list_any p (take v xs) ≡ false → slice_get xs v ≡ Some x → p x ≡ true → (prefix_len (λ x. not (p x)) xs ≡ v) × (v < length xs)
 first_at p [] v x none at h = absurd (let k : ⊥ = cc in k)
 first_at p (y ∷ xs) zero x none at h =
@@ -54,7 +54,7 @@ pub not_marked : (b : Bool) (at : ℕ) → cond b (at ∷ []) [] ≡ [] → b �
 not_marked true at e = absurd (let k : ⊥ = cc in k)
 not_marked false at e = refl
 
--- where no name repeats, none before an identifier has its name
+-- If no name repeats, no identifier before this one has its name.
 none_before : (before ids : List Identifier) (v : ℕ) (id : Identifier) → repeats before ids ≡ [] → slice_get ids v ≡ Some id → is_in (before ++ take v ids) id.name ≡ false
 none_before before [] v id h at = absurd (let k : ⊥ = cc in k)
 none_before before (x ∷ ids) zero id h at =
@@ -65,7 +65,7 @@ none_before before (x ∷ ids) (suc v) id h at =
     let rest = nil_back (cond (is_in before x.name) (x.at ∷ []) []) (repeats (before ++ x ∷ []) ids) h in
     ap (λ l. is_in l id.name) (sym (append_assoc before (x ∷ []) (take v ids))) ∙ none_before (before ++ x ∷ []) ids v id rest at
 
--- where no name repeats, each identifier has the number of its place
+-- If no name repeats, the number of each identifier is its place.
 abbrev pub AreNumbered : List Identifier → Type 0
 AreNumbered ids = (v : ℕ) (id : Identifier) → slice_get ids v ≡ Some id → number_of ids id.name ≡ Some v
 

@@ -1,4 +1,4 @@
--- Each connection that is placed behind a text is one to which the text comes.
+-- The text leads to each connection that is placed after it.
 use Rattle.std.proofs.Common.{◌≡◌, ℕ, zero, suc, ◌≤◌, Bool, true, false, cond, ◌||◌, List, [], ◌∷◌, ◌++◌, length, Option, Some, None, IsSome, refl, sym, ap, ◌∙◌, subst, arith}
 use Rattle.std.specs.Prelude.{slice_get, Contains}
 use Rattle.std.specs.List.{list_any, flat_map}
@@ -38,7 +38,7 @@ each_itself : {A : Type 0} (xs : List A) → Each (Contains xs) xs
 each_itself [] = tt
 each_itself (x ∷ xs) = ((0, omega arith, refl), each_holds (Contains xs) (Contains (x ∷ xs)) xs (each_itself xs) (λ y h. later_there x xs y h))
 
--- some item passes: one that passes more widely does too
+-- If some item passes a test, it also passes a wider one.
 any_wider : {A : Type 0} (p q : A → Bool) (xs : List A) → Each (λ x. p x ≡ true → q x ≡ true) xs → list_any p xs ≡ true → list_any q xs ≡ true
 any_wider p q [] h e = e
 any_wider p q (x ∷ xs) h e = or_split (p x) (list_any p xs) e (λ f. or_one (q x) (list_any q xs) (h.0 f)) (λ f. or_other (q x) (list_any q xs) (any_wider p q xs h.1 f))
@@ -64,7 +64,7 @@ module _ (c : Scope) where
     both_joins a b h k = subst (Each P) (sym (flat_map-append statement_joins a b)) (each_append P (flat_map statement_joins a) (flat_map statement_joins b) h k)
 
     mutual
-      -- what holds of the JOINs of a text holds of those of its code
+      -- What holds of the JOINs of a text holds of those of its code.
       code_each : (t : Text) → Each P (joins_of t) → Each P (code_joins c t)
       code_each falls h = tt
       code_each (ends (NextState n)) h = tt
@@ -98,7 +98,7 @@ module _ (c : Scope) where
       answers_each (answer at rs body others) q h =
           each_append P (code_joins c body) (answers_joins c others) (code_each body (first_joins (statements_of body) (choice_statements q others) h)) (answers_each others q (other_joins (statements_of body) (choice_statements q others) h))
 
-    -- and the other way
+    -- What holds of the JOINs of the code of a text holds of those of the text.
     from_sort : (t : Bool) (x y z : List tree_join.Join) {A : Type 0} → Each P (cond t x (y ++ z)) → (Each P x → A) → (Each P y → Each P z → A) → A
     from_sort true x y z h f g = f h
     from_sort false x y z h f g = g (each_front P y z h) (each_back P y z h)
@@ -152,7 +152,7 @@ module _ (c : Scope) where
   join_in_code t j h = each_at_member (Contains (code_joins c t)) (joins_of t) j (join_each (Contains (code_joins c t)) t (each_itself (code_joins c t))) h
 
   module _ (connections : NamedConnections c) where
-    -- the connection to which a JOIN leads has its name
+    -- The connection to which a JOIN leads has the name in the JOIN.
     named_so : (j : tree_join.Join) (k : PlainConnection) → HasNumber j → slice_get p.connections (number_or_zero (connector_at c j.connector)) ≡ Some k → same_name k.name.name j.connector.name ≡ true
     named_so j k some at =
         let r = has_connection c j.connector some in
@@ -162,7 +162,7 @@ module _ (c : Scope) where
         let same : h.id ≡ k.name = cc in
         same_other_way j.connector.name k.name.name (subst (λ (id : Identifier). same_name j.connector.name id.name ≡ true) same h.same)
 
-    -- a name by which a connection is called leads to it
+    -- Each spelling of the name of a connection leads to it.
     called : (n : ℕ) (k : PlainConnection) (y : List ℕ) → slice_get p.connections n ≡ Some k → same_name k.name.name y ≡ true → connection_named p y ≡ Some k
     called n k y at same =
         let same_number : connector_at c (record { name = y; at = 0 }) ≡ Some n = sym (number_alike (connector_names p) k.name.name y same) ∙ connections.numbered n k at in
@@ -173,7 +173,7 @@ module _ (c : Scope) where
     joins_called : (y : List ℕ) (k : PlainConnection) → connection_named p y ≡ Some k → joins_at p y ≡ joins_of k.text
     joins_called y k e = ap (λ o. option_map_or (λ (k : PlainConnection). joins_of k.text) o []) e
 
-    -- one JOIN more
+    -- One more JOIN.
     module _ (m : ℕ) (k : PlainConnection) (j : tree_join.Join) (x : List ℕ) (at : slice_get p.connections m ≡ Some k) (there : Contains (joins_of k.text) j) (same : same_name x j.connector.name ≡ true) where
       at_once : (f : ℕ) → comes_by p f j.connector.name x ≡ true
       at_once zero = same
@@ -196,7 +196,7 @@ module _ (c : Scope) where
     has_number : (n : ℕ) (k : PlainConnection) (j : tree_join.Join) → slice_get p.connections n ≡ Some k → Contains (joins_of k.text) j → HasNumber j
     has_number n k j at there = each_at_member HasNumber (joins_of k.text) j (named_joins k.text (connections.texts n k at).text) there
 
-    -- no more JOINs are needed than there are steps
+    -- No more JOINs are needed than the connection has steps.
     enough : (f g n : ℕ) (k : PlainConnection) (y x : List ℕ) → slice_get p.connections n ≡ Some k → connection_named p y ≡ Some k → connections.steps n ≤ g → comes_by p f y x ≡ true → comes_by p g y x ≡ true
     enough zero zero n k y x at named less e = e
     enough zero (suc g) n k y x at named less e = or_one (same_name x y) (list_any (λ j. comes_by p g j.connector.name x) (joins_at p y)) e
@@ -220,9 +220,9 @@ module _ (c : Scope) where
         (subst (λ js. list_any (λ (j : tree_join.Join). comes_by p g j.connector.name x) js ≡ true) (sym (joins_called y k named))
         (wider (subst (λ js. list_any (λ (j : tree_join.Join). comes_by p f j.connector.name x) js ≡ true) (joins_called y k named) s))))
 
-    -- ---- what is placed
+    -- ---- the connections that are placed
 
-    -- by so many JOINs after one of the text
+    -- The text leads to the connection by one of its JOINs and `fuel` more.
     record Comes (t : Text) (k : PlainConnection) : Type 0 where
       join : tree_join.Join
       there : Contains (joins_of t) join
@@ -251,7 +251,7 @@ module _ (c : Scope) where
               let r = q m e in
               record { join = r.join; there = r.there; fuel = suc r.fuel; comes_there = one_more n m j k.name.name e there (named_so j k (has_number n m j e there) at) r.fuel r.join.connector.name r.comes_there }
 
-      -- a connection that is placed is one to which the text comes
+      -- The text leads to each connection that is placed.
       pub placed_reached : (n : ℕ) (k : PlainConnection) → Contains ns n → slice_get p.connections n ≡ Some k → reaches p t k.name.name ≡ true
       placed_reached n k h at =
           let r = all_placed c t ns placed Q first_comes later_comes n h k at in
@@ -265,7 +265,7 @@ module _ (c : Scope) where
       abbrev t0 : Text
       t0 = t
 
-      -- each that is placed is there
+      -- Each connection that is placed exists.
       pub record Stands (n : ℕ) : Type 0 where
         pub connection : PlainConnection
         pub there : slice_get p.connections n ≡ Some connection
@@ -285,7 +285,7 @@ module _ (c : Scope) where
       pub placed_stands : (n : ℕ) → Contains ns n → Stands n
       placed_stands n h = all_placed c t ns placed Stands stands_first stands_later n h
 
-      -- from a connection that is placed one comes to none but those that are
+      -- A placed connection leads only to placed ones.
       comes_placed : (f m n : ℕ) (k z : PlainConnection) (y : List ℕ) → Contains ns m → slice_get p.connections m ≡ Some z → connection_named p y ≡ Some z → number_of (connector_names p) y ≡ Some m
           → slice_get p.connections n ≡ Some k → comes_by p f y k.name.name ≡ true → Contains ns n
       comes_placed zero m n k z y there at is number here e =
@@ -306,7 +306,7 @@ module _ (c : Scope) where
           comes_placed f o n k r.connection j.connector.name next r.there r.named r.number here t))
           (subst (λ js. list_any (λ (j : tree_join.Join). comes_by p f j.connector.name k.name.name) js ≡ true) (joins_called y z is) s))
 
-      -- what a text comes to is placed
+      -- Each connection to which a text leads is placed.
       pub reached_placed : (n : ℕ) (k : PlainConnection) → slice_get p.connections n ≡ Some k → reaches p t0 k.name.name ≡ true → Contains ns n
       reached_placed n k here e =
           any_then (λ (j : tree_join.Join). comes p j.connector.name k.name.name) (joins_of t0)

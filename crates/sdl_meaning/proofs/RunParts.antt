@@ -1,4 +1,4 @@
--- Where instructions stand in the code, how a run is over, and what holds of what a part gives.
+-- Where instructions are in the code, how a run ends, and what holds of the value of a part.
 use Rattle.std.proofs.Common.{◌≡◌, ℕ, suc, ◌+◌, ◌<◌, true, cond, List, [], ◌∷◌, ◌++◌, length, take, drop, reverse, Some, refl, sym, ap, ◌∙◌, subst, arith, append_assoc, length-append}
 use Rattle.std.specs.Prelude.{slice_get, nat_le}
 use Rattle.std.proofs.Math.Seq.{get_or-append_seam, take-append_seam, drop-append_seam}
@@ -14,7 +14,7 @@ use Rattle.turn_code.specs.Run.{Progress, on_operands, After, stuck, Ran, ended,
 use Rattle.sdl_meaning.specs.Act.{value_of, values_of}
 use Rattle.sdl_meaning.specs.Outcomes.{Scope, Ending, at_end, in_trouble, Outcome, goes_on, over, then_do}
 
--- the instructions stand in the code at this place
+-- The instructions are in the code from this place on.
 abbrev pub HasAt : List Instruction → ℕ → List Instruction → Type 0
 HasAt code pc [] = Unit {0}
 HasAt code pc (x ∷ is) = (slice_get code pc ≡ Some x) × HasAt code (pc + 1) is
@@ -37,17 +37,17 @@ has_all (x ∷ is) pre =
     let rest' = subst (λ l. HasAt l (length (pre ++ x ∷ [])) is) (append_assoc pre (x ∷ []) is) rest in
     (here, subst (λ m. HasAt (pre ++ x ∷ is) m is) n rest')
 
--- how a run is over
+-- The end of a run.
 abbrev pub over_as : Ending → Progress → Ran
 over_as (at_end e) s = ended e s
 over_as (in_trouble t) s = got_stuck t
 
--- values put on the operands one after another
+-- Values pushed on the operands one after another.
 abbrev pub pushed : List Value → List Value → List Value
 pushed [] os = os
 pushed (x ∷ xs) os = pushed xs (x ∷ os)
 
--- what holds of what a part gives
+-- P holds of the value of a part, if it goes on.
 abbrev pub Gives : {A : Type 0} → (A → Type 0) → Outcome A → Type 0
 Gives P (goes_on x s) = P x
 Gives P (over e s) = Unit {0}
@@ -64,7 +64,7 @@ pub gives_nothing : {A : Type 0} (o : Outcome A) → Gives (λ _. Unit {0}) o
 gives_nothing (goes_on x v) = tt
 gives_nothing (over e v) = tt
 
--- as many values as expressions
+-- There are as many values as expressions.
 pub values_length : (c : Scope) (ts : List Tree) (s : Progress) → Gives (λ xs. length xs ≡ length ts) (values_of c ts s)
 values_length c [] s = refl
 values_length c (t ∷ ts) s =
@@ -77,7 +77,7 @@ pushed_is [] os = refl
 pushed_is (x ∷ xs) os =
     pushed_is xs (x ∷ os) ∙ sym (append_assoc (reverse xs) (x ∷ []) os) ∙ ap (λ l. l ++ os) (sym (reverse_onto xs x []))
 
--- they are taken as they were put there
+-- The operands are taken in the order in which they were pushed.
 pub operands_are : (xs os : List Value) (n : ℕ) (go : List Value → List Value → After) → n ≡ length xs → on_operands n (pushed xs os) go ≡ go xs os
 operands_are xs os n go e =
     let ys = reverse xs in

@@ -1,4 +1,4 @@
--- The run of the instructions of expressions and actions is what they mean.
+-- The run of the instructions of expressions and actions is their meaning.
 use Rattle.std.proofs.Common.{◌≡◌, ℕ, suc, ◌+◌, Bool, true, false, cond, List, [], ◌∷◌, ◌++◌, length, Option, Some, None, IsSome, refl, sym, ap, ◌∙◌, subst, arith, length-append}
 use Rattle.std.specs.Prelude.{slice_get, slice_set, ℤ, pos, int_lt}
 use Rattle.sdl_sound.specs.sdl_ast_types.expression.Identifier.{Identifier}
@@ -34,13 +34,13 @@ use Rattle.sdl_meaning.specs.Code.{number_or_zero, load, store, next, set_to, re
 use Rattle.sdl_meaning.proofs.RunParts.{HasAt, has_front, has_back, over_as, pushed, Gives, gives_nothing, values_length, operands_are}
 
 module _ (inp : Input) (code : List Instruction) where
-  -- the run from a place does what the outcome says: it comes to the end place, or is over.
-  -- What is left of the steps and what is taken has one sum.
+  -- The run from a place does what the outcome says: it comes to the end place, or is over. The sum of the steps left
+  -- and the steps taken stays the same.
   abbrev pub Does : {A : Type 0} → ℕ → List Value → Progress → ℕ → (A → List Value) → Outcome A → Type 0
   Does pc os s end left (goes_on x v) = (k : ℕ) → (j : ℕ) × (j + s.count ≡ k + v.count) × (exec code inp j pc os s ≡ exec code inp k end (left x) v)
   Does pc os s end left (over e v) = (k : ℕ) → (j : ℕ) × (j + s.count ≡ k + v.count) × (exec code inp j pc os s ≡ over_as e v)
 
-  -- one outcome after another
+  -- One outcome after another.
   pub bind_with : {A B : Type 0} (P : A → Type 0) (pc mid end : ℕ) (os : List Value) (s : Progress) (left : A → List Value) (left2 : B → List Value) (o : Outcome A) (f : A → Progress → Outcome B) → Gives P o → Does pc os s mid left o → ((x : A) (v : Progress) → P x → Does mid (left x) v end left2 (f x v)) → Does pc os s end left2 (then_do o f)
   bind_with P pc mid end os s left left2 (goes_on x v) f g a b = joins_up (f x v) (b x v g)
     where
@@ -52,7 +52,7 @@ module _ (inp : Input) (code : List Instruction) where
   pub bind : {A B : Type 0} (pc mid end : ℕ) (os : List Value) (s : Progress) (left : A → List Value) (left2 : B → List Value) (o : Outcome A) (f : A → Progress → Outcome B) → Does pc os s mid left o → ((x : A) (v : Progress) → Does mid (left x) v end left2 (f x v)) → Does pc os s end left2 (then_do o f)
   bind pc mid end os s left left2 o f a b = bind_with (λ _. Unit {0}) pc mid end os s left left2 o f (gives_nothing o) a (λ x v _. b x v)
 
-  -- what one instruction does is what the outcome says
+  -- One instruction does what the outcome says.
   abbrev pub Fits : {A : Type 0} → After → Progress → ℕ → (A → List Value) → Outcome A → Type 0
   Fits st s end left (goes_on x v) = (st ≡ goes end (left x) v) × (v.count ≡ s.count + 1)
   Fits st s end left (over (at_end e) v) = (st ≡ run.ends e v) × (v.count ≡ s.count + 1)
@@ -66,7 +66,7 @@ module _ (inp : Input) (code : List Instruction) where
   one pc end os s left x (over (at_end e) v) at f = λ k. (suc k, omega (arith, f.1), stepped pc os s x _ at f.0 k)
   one pc end os s left x (over (in_trouble e) v) at f = λ k. (suc k, omega (arith, f.1), stepped pc os s x _ at f.0 k)
 
-  -- one value is put on the operands
+  -- One value is pushed on the operands.
   value_fits : (pc end : ℕ) (os : List Value) (s : Progress) (x : Value) → pc + 1 ≡ end → Fits (goes (pc + 1) (x ∷ os) (tick s)) s end (λ v. v ∷ os) (goes_on x (tick s))
   value_fits pc end os s x e = (ap (λ n. goes n (x ∷ os) (tick s)) e, refl)
 
@@ -170,7 +170,7 @@ module _ (inp : Input) (code : List Instruction) where
   reset_does None pc end os s named at e = absurd (let h : ⊥ = cc in h)
   reset_does (Some t) pc end os s named at e = one {A = Unit {0}} pc end os s (λ _. os) (reset t) (stop_timer (Some t) (tick s)) at (ap (λ n. goes n os (with_effect (tick s) (effects.Reset (record { 0 = t })))) e, refl)
 
-  -- an expression's code puts its value on the operands
+  -- The code of an expression pushes its value on the operands.
   pub tree_does : (c : Scope) (t : Tree) (pc end : ℕ) (os : List Value) (s : Progress) → HasAt code pc (tree_code c t) → pc + length (tree_code c t) ≡ end → NamedTree c t → Does pc os s end (λ v. v ∷ os) (value_of c t s)
   tree_does c (number at k) pc end os s has e named = one pc end os s (λ v. v ∷ os) (i.Int (wrap (pos k))) (goes_on (Int (wrap (pos k))) (tick s)) has.0 (value_fits pc end os s (Int (wrap (pos k))) e)
   tree_does c (truth at b) pc end os s has e named = one pc end os s (λ v. v ∷ os) (i.Bool b) (goes_on (Truth b) (tick s)) has.0 (value_fits pc end os s (Truth b) e)
@@ -212,11 +212,11 @@ module _ (inp : Input) (code : List Instruction) where
           (right m n (x ∷ os) v (has_front code m b last after_a) refl)
           (λ y v. one n end (y ∷ x ∷ os) v (λ v. v ∷ os) (binary_code (is_truth c t) op) (apply_two (working (is_truth c t) op) x y (tick v)) (has_back code m b last n refl after_a).0 (binary_fits (is_truth c t) op x y n end os v f len)))
 
-  -- nothing is done
+  -- Nothing is done.
   pub stays : {A : Type 0} (pc end : ℕ) (os : List Value) (s : Progress) (left : A → List Value) (x : A) → pc ≡ end → left x ≡ os → Does pc os s end left (goes_on x s)
   stays pc end os s left x e f = λ k. (k, refl, ap (λ n. exec code inp k n os s) e ∙ ap (λ l. exec code inp k end l s) (sym f))
 
-  -- expressions put their values there one after another
+  -- The code of expressions pushes their values one after another.
   trees_do : (c : Scope) (ts : List Tree) (pc end : ℕ) (os : List Value) (s : Progress) → HasAt code pc (trees_code c ts) → pc + length (trees_code c ts) ≡ end → NamedTrees c ts → Does pc os s end (λ xs. pushed xs os) (values_of c ts s)
   trees_do c [] pc end os s has e named = stays pc end os s (λ xs. pushed xs os) [] (omega (arith, e)) refl
   trees_do c (t ∷ ts) pc end os s has e named =
@@ -230,7 +230,7 @@ module _ (inp : Input) (code : List Instruction) where
       (trees_do c ts m end (x ∷ os) v (has_back code pc a b m refl has) len named.1)
       (λ xs u. stays end end (pushed xs (x ∷ os)) u (λ xs. pushed xs os) (x ∷ xs) refl refl))
 
-  -- assignments
+  -- Assignments.
   tasks_do : (c : Scope) (ts : List PlainAssignment) (pc end : ℕ) (os : List Value) (s : Progress) → HasAt code pc (tasks_code c ts) → pc + length (tasks_code c ts) ≡ end → NamedTasks c ts → Does pc os s end (λ _. os) (assign c ts s)
   tasks_do c [] pc end os s has e named = stays pc end os s (λ _. os) (tt {0}) (omega (arith, e)) refl
   tasks_do c (t ∷ ts) pc end os s has e named =
@@ -247,13 +247,13 @@ module _ (inp : Input) (code : List Instruction) where
       (store_does o x m (m + 1) os u named.1 after_a.0 refl)
       (λ _ u. tasks_do c ts (m + 1) end os u after_a.1 len named.2))
 
-  -- ---- signals that go out
+  -- ---- signals that are sent
 
   some_is : (o : Option Party) → IsSome (addressed o) → Some (run.of_party (party_or_environment o)) ≡ addressed o
   some_is None h = absurd (let k : ⊥ = cc in k)
   some_is (Some p) h = refl
 
-  -- the party in the code is the receiver
+  -- The party in the code is the receiver.
   carried_is : (b : Bool) (o : Option Party) → IsSome (addressed (cond b o None)) → Some (run.of_party (party_or_environment o)) ≡ addressed (cond b o None)
   carried_is true o h = some_is o h
   carried_is false o h = absurd (let k : ⊥ = cc in k)
@@ -320,7 +320,7 @@ module _ (inp : Input) (code : List Instruction) where
         (send_does to x xs pc m (m + 1) os s (has_front code pc a (last ∷ rest) has) refl after_a.0 refl named.0 answers)
         (λ _ u. sendings_do to xs (m + 1) end os u after_a.1 len named.1 (answers_rest to x xs answers))
 
-    -- one action
+    -- One action.
     pub action_does : (a : PlainAction) (pc end : ℕ) (os : List Value) (s : Progress) → HasAt code pc (action_code c a) → pc + length (action_code c a) ≡ end → NamedAction c a → AnswersAction c from a → Does pc os s end (λ _. os) (perform c inp.sender a s)
     action_does (task at ts) pc end os s has e named answers = tasks_do c ts pc end os s has e named
     action_does (output at xs to) pc end os s has e named answers = sendings_do to xs pc end os s has e named answers

@@ -1,4 +1,4 @@
--- The measures of a text depend on what its JOINs measure alone.
+-- The measures of a text depend only on the measures of its JOINs.
 use Rattle.std.proofs.Common.{◌≡◌, ℕ, ◌+◌, max, Bool, true, false, cond, List, refl, ap, ◌∙◌, arith}
 use Rattle.sdl_sound.specs.sdl_ast_types.tree.Join as tree_join
 use Rattle.sdl_sound.specs.sdl_ast_types.tree.Range.{Range}
@@ -10,7 +10,7 @@ use Rattle.sdl_sound.specs.Sorts.{is_truth as in_truth}
 use Rattle.sdl_sound.specs.Longest.{action_cost, action_depth, action_effects, cost_of, end_cost, end_count, tests_budget, budget, case_budget, pick_budget, depth, choice_depth, effects, choice_effects}
 use Rattle.sdl_meaning.proofs.Branches.{EachEnd, EachJoin, ChoiceJoin}
 
--- ---- the measures depend on the JOINs of a text alone
+-- ---- the measures depend only on the JOINs of a text
 
 same_end : (f g : List ℕ → ℕ) (e : End) → EachEnd (λ (j : tree_join.Join). f j.connector.name ≡ g j.connector.name) e → end_count f e ≡ end_count g e
 same_end f g (NextState n) h = refl

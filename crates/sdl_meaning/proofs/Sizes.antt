@@ -91,7 +91,7 @@ body_then : (c : Scope) (to : ℕ → ℕ) (n after : ℕ) (body : Text) (rest :
 body_then c to n after body rest h =
     omega (arith, h, leave_size after body, length-append (text_code c to n body) (leave_code after body ++ rest), length-append (leave_code after body) rest)
 
--- a DECISION behind its question
+-- A DECISION after its question.
 pub decision_is : (c : Scope) (to : ℕ → ℕ) (b : Bool) (m a1 e a after1 after2 : ℕ) (choice : Choice)
     → length (bodies_code c to a1 after1 choice) ≡ bodies_size (variables_of c.process) choice
     → length (else_code c to e after2 choice) + length (answers_code c to a after2 choice) ≡ bodies_size (variables_of c.process) choice
@@ -143,7 +143,7 @@ mutual
       let k = answers_size_is c to e (n + body_size c body) after others in
       omega (arith, h, k)
 
--- the body of ELSE alone
+-- Only the body of ELSE.
 pub else_size_is : (c : Scope) (to : ℕ → ℕ) (e after : ℕ) (choice : Choice) → length (else_code c to e after choice) ≡ else_size c choice
 else_size_is c to e after nothing_else = refl
 else_size_is c to e after (otherwise body) = body_is c to e after body (text_size_is c to e body)

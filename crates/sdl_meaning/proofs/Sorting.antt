@@ -22,7 +22,7 @@ use Rattle.sdl_meaning.specs.Named.{NamedTree}
 use Rattle.sdl_meaning.specs.Declarations.{sort_of_tree, drafted, drafted_signal, drafted_signals, parameters_by}
 use Rattle.std.proofs.lemmas.Option.{slice_get-map as slice_map}
 
--- the number of a name that is there is its place
+-- The number of a name that exists is its place.
 pub first_of_some : {A : Type 0} (p : A → Bool) (xs : List A) → IsSome (position p xs) → number_or_zero (position p xs) ≡ position_or_len p xs
 first_of_some p xs h = by_test (nat_lt (position_or_len p xs) (length xs)) h
   where
@@ -37,7 +37,7 @@ number_small p xs h = by_test (nat_lt (position_or_len p xs) (length xs)) refl h
     by_test true e h = grind (arith, nat_tests)
     by_test false e h = absurd (let k : ⊥ = cc in k)
 
--- what is found is at its place
+-- An item that is found is at its place.
 module _ {A : Type 0} (name : A → Identifier) (x : List ℕ) where
   abbrev pub IsOf : A → Bool
   IsOf a = same_name x (name a).name
@@ -73,7 +73,7 @@ some_below [] k h = absurd (omega arith)
 some_below (x ∷ xs) zero h = refl
 some_below (x ∷ xs) (suc k) h = some_below xs k (omega arith)
 
--- a variable that is there has a sort
+-- A variable that exists has a sort.
 pub record HasSort (o : Option tree_sort.Sort) : Type 0 where
   pub sort : tree_sort.Sort
   pub is : o ≡ Some sort
@@ -89,7 +89,7 @@ variable_has_sort vs x some =
     by_found None e h = absurd (let k : ⊥ = cc in k)
     by_found (Some v) e h = record { sort = v.sort; is = ap (option_map (λ (v : Variable). v.sort)) e }
 
--- an expression whose names are there has a sort
+-- An expression with known names has a sort.
 pub tree_has_sort : (c : Scope) (t : Tree) → NamedTree c t → HasSort (sort_in (variables_of c.process) t)
 tree_has_sort c (number at k) named = record { sort = tree_sorts.Integer; is = refl }
 tree_has_sort c (truth at b) named = record { sort = tree_sorts.Boolean; is = refl }
@@ -123,7 +123,7 @@ no_number : (b : Bool) (k : ℕ) → cond b (Some k) None ≡ None → b ≡ fal
 no_number true k e = absurd (let k : ⊥ = cc in k)
 no_number false k e = refl
 
--- what is no signal has no parameters
+-- A name that is no signal has no parameters.
 pub unsigned_sorts : (b : PlainBlock) (x : List ℕ) → number_of (signal_names b) x ≡ None → parameter_sorts b x ≡ []
 unsigned_sorts b x none =
     let ss = signals_of b in
@@ -156,6 +156,6 @@ pub passed : (b : Bool) (at : ℕ) → cond b [] (at ∷ []) ≡ [] → b ≡ tr
 passed true at e = refl
 passed false at e = absurd (let k : ⊥ = cc in k)
 
--- an expression that isn't misplaced has the sort that is wanted
+-- An expression that isn't misplaced has the required sort.
 pub fits : (vs : List Variable) (s : tree_sort.Sort) (t : Tree) → misfit vs (Some s) t ≡ [] → sort_in vs t ≡ Some s
 fits vs s t e = has_this s (sort_in vs t) (passed (have_one_sort (Some s) (sort_in vs t)) (place_of t) e)

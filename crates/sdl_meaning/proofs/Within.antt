@@ -25,7 +25,7 @@ use Rattle.sdl_meaning.proofs.Follows.{follow_over}
 use Rattle.sdl_meaning.proofs.Sorting.{found_at}
 use Rattle.sdl_meaning.proofs.Joining.{connection_name}
 
--- what is over has cost so much at most, and what goes on leaves k of it
+-- A part that is over has cost at most b; a part that goes on has cost at most b with k more.
 abbrev pub Within : {A : Type 0} → ℕ → ℕ → Outcome A → Type 0
 Within b k (goes_on x v) = v.count + k ≤ b
 Within b k (over e v) = v.count ≤ b
@@ -56,7 +56,7 @@ decide_within true (Int z) s f g b k le h j = omega (arith, le)
 decide_within false (Int z) s f g b k le h j = h refl z
 decide_within false (Truth u) s f g b k le h j = omega (arith, le)
 
--- the tests of an answer, whose body costs d and whose other answers cost e
+-- The tests of an answer, whose body costs d and whose other answers cost e.
 tries_within : (rs : List Range) (z : ℤ) (s : Progress) (f g : Progress → Outcome (Unit {0})) (d e k : ℕ) → ((u : Progress) → Within (u.count + d) k (f u)) → ((u : Progress) → Within (u.count + e) k (g u))
     → Within (s.count + tests_budget rs d e) k (then_do (try_ranges rs z s) (λ t s. cond t (f s) (g s)))
 tries_within [] z s f g d e k first others = others s
@@ -92,7 +92,7 @@ module _ (c : Scope) (join : List ℕ → Progress → Outcome (Unit {0})) (send
       let h = joins_cost x (tick s) in
       within_over (s.count + (1 + most x)) k (join x (tick s)) (joins_over x (tick s)) (omega (arith, h))
 
-  -- an Integer DECISION with ELSE costs something behind its question
+  -- An Integer DECISION with ELSE costs at least 1 after its question.
   case_some : (choice : Choice) (k : ℕ) → has_else choice ≡ true → 1 ≤ case_budget (variables_of c.process) most choice k
   case_some nothing_else k e = absurd (let h : ⊥ = cc in h)
   case_some (otherwise body) k e = omega arith
@@ -163,7 +163,7 @@ closed_cost b (goes_on x v) h = omega (arith, h)
 closed_cost b (over e v) h = h
 
 module _ (c : Scope) (sender : Option Address) (connections : NamedConnections c) where
-  -- the longest path from a connection on, where at most n JOINs are followed
+  -- The longest path from a connection on, if at most n JOINs are followed.
   abbrev pub most_by : ℕ → List ℕ → ℕ
   most_by n x = joined_by (λ vs join text. budget vs join text 0) c.process n x
 
@@ -180,7 +180,7 @@ module _ (c : Scope) (sender : Option Address) (connections : NamedConnections c
           closed_cost (s.count + budget (variables_of c.process) (most_by n) k.text 0) (act c (follow c sender n) sender k.text s)
           (act_within c (follow c sender n) sender (most_by n) (λ x s. follow_over c sender n x s) less k.text s 0 w.text)
 
-  -- a whole piece
+  -- A whole piece.
   pub piece_cost : (q : Piece) (ps : List Value) (s : Progress) → NamedPiece c q → cost_by (then_do (take_places c ps 0 q.places s) (λ _ s. act c (join_in c sender) sender q.text s)) ≤ s.count + piece_budget c.process q
   piece_cost q ps s named =
       let n = length c.process.connections in

@@ -1,5 +1,5 @@
--- What a transition does, said on its tree (Z.100, transitions, with the arithmetic of 32 bits that
--- wraps).
+-- What a transition does, defined on its tree (Z.100, transitions, with 32-bit arithmetic that
+-- wraps around).
 use Rattle.std.specs.Prelude.{ℕ, zero, suc, ◌+◌, ℤ, pos, ◌+ℤ◌, ◌-ℤ◌, ◌*ℤ◌, neg_ℤ, int_lt, int_div}
 use Rattle.std.specs.Prelude.{int_rem, Bool, true, false, not, ◌||◌, ◌&&◌, if◌then◌else◌, List, []}
 use Rattle.std.specs.Prelude.{◌∷◌, length, Option, Some, None, slice_get, slice_set}
@@ -58,7 +58,7 @@ use Rattle.sdl_meaning.specs.Outcomes.{variable_at, state_at, timer_at, signal_a
 
 -- ---- variables
 
--- what is known of variable v: nothing where there is no such variable, no value where it isn't set
+-- Variable v: `None` if there is no such variable, `Some None` if it isn't set.
 abbrev pub slot : Option ℕ → Progress → Option (Option Value)
 slot None s = None
 slot (Some v) s = slice_get s.variables v
@@ -69,7 +69,7 @@ read None s = over (in_trouble Unset) s
 read (Some None) s = over (in_trouble Unset) s
 read (Some (Some x)) s = goes_on x s
 
--- variable v is x from here on
+-- Sets variable v to x.
 abbrev pub written : Option (Option Value) → ℕ → Value → Progress → Outcome (Unit {0})
 written None v x s = over (in_trouble Unset) s
 written (Some old) v x s = goes_on (tt {0}) (with_variables s (slice_set s.variables v (Some x)))
@@ -80,19 +80,19 @@ write (Some v) x s = written (slice_get s.variables v) v x (tick s)
 
 -- ---- expressions
 
--- whether the text makes a Boolean of an expression
+-- Whether an expression is a Boolean by its text.
 abbrev pub is_truth : Scope → Tree → Bool
 is_truth c t = has_sort Boolean (sort_in (variables_of c.process) t)
 
--- What an operator makes of two operands: of two Integers an Integer, cut to 32 bits, or whether
--- they stand so to each other; of two Booleans a Boolean.
+-- What an operator does with two operands: it computes an Integer, cut to 32 bits, from two
+-- Integers; it compares two Integers; or it combines two Booleans.
 pub data Working : Type 0 where
   reckons : (ℤ → ℤ → ℤ) → Working
   compares : Relation → Working
   joins : (Bool → Bool → Bool) → Working
 
--- `=` and `/=` are two operators each, one of Integers and one of Booleans: the sort of the left
--- operand says which one the text means
+-- `=` and `/=` are two operators each, one of Integers and one of Booleans. The sort of the left
+-- operand decides which one the text means.
 abbrev pub working : Bool → BinaryOperator → Working
 working b Or = joins (λ x y. x || y)
 working b Xor = joins differ
@@ -112,7 +112,7 @@ working b Divide = reckons int_div
 working b Modulo = reckons int_rem_euclid
 working b Remainder = reckons int_rem
 
--- an operand of the wrong sort has no meaning
+-- An operand of the wrong sort has no meaning.
 abbrev pub apply_one : UnaryOperator → Value → Progress → Outcome Value
 apply_one Negate (Int x) s = goes_on (Int (wrap (neg_ℤ x))) s
 apply_one Negate (Truth b) s = over (in_trouble WrongSort) s
@@ -130,7 +130,7 @@ apply_two (joins f) (Truth x) (Truth y) s = goes_on (Truth (f x y)) s
 apply_two (joins f) (Truth x) (Int y) s = over (in_trouble WrongSort) s
 apply_two (joins f) (Int x) y s = over (in_trouble WrongSort) s
 
--- what may stand right of a division: the number itself, and 0 for all else
+-- The divisor that an expression is: its value for a number, else 0.
 abbrev pub divisor_of : Tree → ℤ
 divisor_of (number at k) = wrap (pos k)
 divisor_of (truth at b) = pos 0
@@ -138,20 +138,20 @@ divisor_of (variable at n) = pos 0
 divisor_of (unary at op t) = pos 0
 divisor_of (binary at op t u) = pos 0
 
--- `/` cuts towards zero, MOD gives 0 to one less than the divisor, REM has the sign of the number
--- that is divided
+-- `/` cuts towards zero, MOD returns 0 to one less than the divisor, and the result of REM has the
+-- sign of the dividend.
 abbrev pub quotient : BinaryOperator → ℤ → ℤ → ℤ
 quotient Divide x k = int_div x k
 quotient Modulo x k = int_rem_euclid x k
 quotient op x k = int_rem x k
 
--- a divisor is 1 or more, else the division has no meaning
+-- A divisor is 1 or more; else the division has no meaning.
 abbrev pub divide : BinaryOperator → ℤ → Value → Progress → Outcome Value
 divide op k (Int x) s =
     if int_lt (pos 0) k then goes_on (Int (quotient op x k)) s else over (in_trouble WrongSort) s
 divide op k (Truth b) s = over (in_trouble WrongSort) s
 
--- an expression, its operands from left to right; both operands of AND, OR and XOR are read
+-- The value of an expression, operands from left to right. AND, OR and XOR read both operands.
 abbrev pub value_of : Scope → Tree → Progress → Outcome Value
 value_of c (number at k) s = goes_on (Int (wrap (pos k))) (tick s)
 value_of c (truth at b) s = goes_on (Truth b) (tick s)
@@ -162,7 +162,7 @@ value_of c (binary at op t u) s =
     if is_division op then divide op (divisor_of u) x (tick s)
     else then_do (value_of c u s) (λ y s. apply_two (working (is_truth c t) op) x y (tick s)))
 
--- expressions from left to right
+-- The values of expressions, from left to right.
 abbrev pub values_of : Scope → List Tree → Progress → Outcome (List Value)
 values_of c [] s = goes_on [] s
 values_of c (t ∷ ts) s =
@@ -170,23 +170,23 @@ values_of c (t ∷ ts) s =
 
 -- ---- receivers
 
--- a party that the text names, by its number
+-- The number of a party that the text names.
 abbrev pub numbered : Scope → tree_party.Party → Option Party
 numbered c tree_parties.Environment = Some Environment
 numbered c (tree_parties.Process id) =
     option_map (λ k. Process (record { 0 = k })) (number_of (process_names c.block) id.name)
 
--- a party as the text names it
+-- The party with a number, as the text names it.
 abbrev pub named : Scope → Party → Option tree_party.Party
 named c Environment = Some tree_parties.Environment
 named c (Process k) =
     option_map (λ id. tree_parties.Process id) (slice_get (process_names c.block) k.0)
 
--- whether a route carries the signal from this process there
+-- Whether a route carries the signal from this process to the party.
 abbrev pub is_carried : Scope → Identifier → tree_party.Party → Bool
 is_carried c n to = carries c.block (party_of c.process) to n.name
 
--- where all routes that carry it lead to one party, that party
+-- The only party to which routes carry the signal; `None` if there is no such party.
 abbrev pub the_one : Scope → List tree_party.Party → Option Party
 the_one c [] = None
 the_one c (q ∷ []) = numbered c q
@@ -196,18 +196,18 @@ abbrev pub if_named : Scope → Identifier → Option tree_party.Party → Addre
 if_named c n None p = None
 if_named c n (Some q) p = if is_carried c n q then Some p else None
 
--- the sender, if there is one and it can get the signal
+-- The sender, if there is one and a route carries the signal to it.
 abbrev pub to_sender : Scope → Identifier → Option Address → Option Address
 to_sender c n None = None
 to_sender c n (Some p) = if_named c n (named c p.party) p
 
--- a party, with no word of its instance
+-- A party, without the number of an instance.
 abbrev pub addressed : Option Party → Option Address
 addressed None = None
 addressed (Some p) = Some (of_party p)
 
--- who gets a signal that goes out: whom TO names, if a route carries it there; else the one to whom
--- routes carry it
+-- The receiver of a signal: the party that TO names, if a route carries the signal there; without
+-- TO the only party to which routes carry it.
 abbrev pub receiver_of : Scope → Option Address → Option Destination → Identifier → Option Address
 receiver_of c sender None n = addressed (the_one c (receivers c.block (party_of c.process) n.name))
 receiver_of c sender (Some (address.Process id)) n =
@@ -217,14 +217,14 @@ receiver_of c sender (Some (address.Sender at)) n = to_sender c n sender
 
 -- ---- actions
 
--- the assignments of a TASK, one after another
+-- The assignments of a TASK, one after another.
 abbrev pub assign : Scope → List PlainAssignment → Progress → Outcome (Unit {0})
 assign c [] s = goes_on (tt {0}) s
 assign c (a ∷ rest) s =
     then_do (value_of c a.value s)
     (λ x s. then_do (write (variable_at c a.variable) x s) (λ _ s. assign c rest s))
 
--- a signal goes out with its parameters, where there is such a signal and somebody gets it
+-- Sends a signal with its parameters, if there is such a signal and it has a receiver.
 abbrev pub put_out : Option ℕ → Option Address → List Value → Progress → Outcome (Unit {0})
 put_out None to xs s = over (in_trouble NoReceiver) s
 put_out (Some n) None xs s = over (in_trouble NoReceiver) s
@@ -236,25 +236,25 @@ send c sender to x s =
     then_do (values_of c x.parameters s)
     (λ xs s. put_out (signal_at c x.signal) (receiver_of c sender to x.signal) xs (tick s))
 
--- the signals of an OUTPUT, one after another
+-- The signals of an OUTPUT, one after another.
 abbrev pub send_all :
     Scope → Option Address → Option Destination → List PlainSending → Progress → Outcome (Unit {0})
 send_all c sender to [] s = goes_on (tt {0}) s
 send_all c sender to (x ∷ rest) s =
     then_do (send c sender to x s) (λ _ s. send_all c sender to rest s)
 
--- a timer is set to so long after now
+-- Sets a timer to a delay from now.
 abbrev pub start_timer : Option ℕ → Value → Progress → Outcome (Unit {0})
 start_timer None x s = over (in_trouble Unset) s
 start_timer (Some t) (Int z) s = goes_on (tt {0}) (with_effect s (effects.Set (record { 0 = t }) z))
 start_timer (Some t) (Truth b) s = over (in_trouble WrongSort) s
 
--- a timer is stopped
+-- Stops a timer.
 abbrev pub stop_timer : Option ℕ → Progress → Outcome (Unit {0})
 stop_timer None s = over (in_trouble Unset) s
 stop_timer (Some t) s = goes_on (tt {0}) (with_effect s (effects.Reset (record { 0 = t })))
 
--- one action, where the signal of the transition came from this sender
+-- One action of a transition whose signal came from this sender.
 abbrev pub perform : Scope → Option Address → PlainAction → Progress → Outcome (Unit {0})
 perform c sender (task at ts) s = assign c ts s
 perform c sender (output at xs to) s = send_all c sender to xs s
@@ -262,12 +262,12 @@ perform c sender (set_timer at t n) s =
     then_do (value_of c t s) (λ x s. start_timer (timer_at c n) x (tick s))
 perform c sender (reset_timer at n) s = stop_timer (timer_at c n) (tick s)
 
--- a next state has to be there
+-- The next state has to exist.
 abbrev pub end_in : Option ℕ → Progress → Outcome (Unit {0})
 end_in None s = over (in_trouble NoState) (tick s)
 end_in (Some q) s = over (at_end (code_ends.State (record { 0 = q }))) (tick s)
 
--- `join` says what a JOIN to the connection with a name goes on with
+-- `join` is what a JOIN to the connection with a name goes on with.
 abbrev pub end_with :
     Scope → (List ℕ → Progress → Outcome (Unit {0})) → End → Progress → Outcome (Unit {0})
 end_with c join (NextState n) s = end_in (state_at c n.state) s
@@ -284,23 +284,23 @@ relation_of signs.LessEqual = relations.LessEqual
 relation_of signs.Greater = relations.Greater
 relation_of signs.GreaterEqual = relations.GreaterEqual
 
--- the Integer that a constant is, if it is one
+-- The Integer that a constant is, if it is one.
 abbrev pub integer_in : literal.Literal → Option ℤ
 integer_in (literals.Integer k) = Some k
 integer_in (literals.Boolean b) = None
 
--- whether a value stands so to a constant
+-- Whether a value has this relation to a constant.
 abbrev pub compared : Relation → ℤ → Option ℤ → Option Bool
 compared r x None = None
 compared r x (Some k) = Some (holds r x k)
 
--- whether it is from one constant to another, both included
+-- Whether a value is between two constants, both included.
 abbrev pub between : ℤ → Option ℤ → Option ℤ → Option Bool
 between x None high = None
 between x (Some low) None = None
 between x (Some low) (Some high) = Some (is_between low high x)
 
--- whether a range holds of an Integer; nothing where its constants are of another sort
+-- Whether a range holds an Integer; `None` if its constants have another sort.
 abbrev pub covers_integer : Range → ℤ → Option Bool
 covers_integer (ranges.Value k) x = compared relations.Equal x (integer_in k.value)
 covers_integer (ranges.Compared at r k) x = compared (relation_of r) x (integer_in k.value)
@@ -311,38 +311,38 @@ abbrev pub is_literal : literal.Literal → Bool → Option Bool
 is_literal (literals.Integer k) b = None
 is_literal (literals.Boolean k) b = Some (not (differ k b))
 
--- whether a range holds of a truth value: it is that value, and nothing else has the sort
+-- Whether a range holds a truth value: only that value itself has the right sort.
 abbrev pub covers_truth : Range → Bool → Option Bool
 covers_truth (ranges.Value k) b = is_literal k.value b
 covers_truth (ranges.Compared at r k) b = None
 covers_truth (ranges.Between low high) b = None
 
--- what a test says; a range of the wrong sort has no meaning
+-- The result of a test. A range of the wrong sort has no meaning.
 abbrev pub told : Option Bool → Progress → Outcome Bool
 told None s = over (in_trouble WrongSort) s
 told (Some b) s = goes_on b s
 
--- whether one of the ranges of an answer holds of an Integer: they are tried one after another, up
--- to the first that holds
+-- Whether one of the ranges of an answer holds an Integer. They are tried one after another, up to
+-- the first that does.
 abbrev pub try_ranges : List Range → ℤ → Progress → Outcome Bool
 try_ranges [] x s = goes_on false s
 try_ranges (r ∷ rs) x s =
     then_do (told (covers_integer r x) (tick s)) (λ b s. if b then goes_on true s
     else try_ranges rs x s)
 
--- the same for a truth value, which costs nothing
+-- As `try_ranges`, for a truth value, which costs nothing.
 abbrev pub find_truth : List Range → Bool → Progress → Outcome Bool
 find_truth [] b s = goes_on false s
 find_truth (r ∷ rs) b s =
     then_do (told (covers_truth r b) s) (λ found s. if found then goes_on true s
     else find_truth rs b s)
 
--- a body that goes on does so behind its DECISION
+-- A body that goes on continues after its DECISION.
 abbrev pub leave : Outcome (Unit {0}) → Outcome (Unit {0})
 leave o = then_do o (λ _ s. goes_on (tt {0}) (tick s))
 
--- what is chosen for the value of a question, which has to have the question's sort; the choice by
--- a truth value costs 1
+-- The choice for the value of a question, which has to have the question's sort. The choice by a
+-- truth value costs 1.
 abbrev pub decide :
     Bool → Value → Progress → (ℤ → Outcome (Unit {0})) → (Bool → Outcome (Unit {0}))
     → Outcome (Unit {0})
@@ -352,7 +352,7 @@ decide false (Int x) s by_integer by_truth = by_integer x
 decide false (Truth b) s by_integer by_truth = over (in_trouble WrongSort) (tick s)
 
 abbrev mutual
-  -- a transition from some statement on
+  -- A transition from some statement on.
   pub act : Scope → (List ℕ → Progress → Outcome (Unit {0})) → Option Address → Text → Progress
       → Outcome (Unit {0})
   act c join sender falls s = goes_on (tt {0}) s
@@ -365,8 +365,8 @@ abbrev mutual
       (λ b. pick c join sender choice b (tick s))) (λ _ s.
       act c join sender rest s))
 
-  -- the answers to an Integer question from some answer on: the first range that holds tells the
-  -- body; ELSE is for what is left
+  -- The answers to an Integer question from some answer on. The first range that holds decides the
+  -- body; ELSE takes all other values.
   pub choose :
       Scope → (List ℕ → Progress → Outcome (Unit {0})) → Option Address → Choice → ℤ → Progress
       → Outcome (Unit {0})
@@ -376,7 +376,7 @@ abbrev mutual
       then_do (try_ranges rs x s) (λ found s. if found then leave (act c join sender body s)
       else choose c join sender others x s)
 
-  -- the answers to a Boolean question
+  -- The answers to a Boolean question.
   pub pick : Scope → (List ℕ → Progress → Outcome (Unit {0})) → Option Address → Choice → Bool
       → Progress → Outcome (Unit {0})
   pick c join sender nothing_else b s = over (in_trouble NoAnswer) s
@@ -387,35 +387,35 @@ abbrev mutual
 
 -- ---- connections
 
--- a text that is run over is stuck
+-- A text that runs off its end is stuck.
 abbrev pub closed : Outcome (Unit {0}) → Outcome (Unit {0})
 closed (goes_on x s) = over (in_trouble Outside) s
 closed (over e s) = over e s
 
--- a connection's text, if there is one
+-- The text of a connection, if there is one.
 abbrev pub entered :
     Option PlainConnection → Progress → (Text → Outcome (Unit {0})) → Outcome (Unit {0})
 entered None s go = over (in_trouble Outside) s
 entered (Some k) s go = go k.text
 
--- what a JOIN to the connection with a name goes on with, where at most so many JOINs are followed
+-- What a JOIN to the connection with a name goes on with, if at most n JOINs are followed.
 abbrev pub follow : Scope → Option Address → ℕ → List ℕ → Progress → Outcome (Unit {0})
 follow c sender zero x s = over (in_trouble Outside) s
 follow c sender (suc n) x s =
     entered (connection_named c.process x) s (λ t. closed (act c (follow c sender n) sender t s))
 
--- as many JOINs are followed as there are connections
+-- As many JOINs are followed as there are connections.
 abbrev pub join_in : Scope → Option Address → List ℕ → Progress → Outcome (Unit {0})
 join_in c sender = follow c sender (length c.process.connections)
 
 -- ---- transitions
 
--- a parameter goes to a variable
+-- Stores a parameter in a variable.
 abbrev pub pass : Option Value → Option ℕ → Progress → Outcome (Unit {0})
 pass None v s = over (in_trouble Underflow) (tick s)
 pass (Some x) v s = write v x (tick s)
 
--- the places of INPUT from place j on: each that has a name gets the parameter at its place
+-- The places of INPUT from place j on: each with a name stores the parameter at its place.
 abbrev pub take_places :
     Scope → List Value → ℕ → List (Option Identifier) → Progress → Outcome (Unit {0})
 take_places c ps j [] s = goes_on (tt {0}) s
@@ -423,13 +423,13 @@ take_places c ps j (None ∷ places) s = take_places c ps (j + 1) places s
 take_places c ps j (Some n ∷ places) s =
     then_do (pass (slice_get ps j) (variable_at c n) s) (λ _ s. take_places c ps (j + 1) places s)
 
--- a text that is run over is stuck
+-- A text that runs off its end is stuck.
 abbrev pub ran : Outcome (Unit {0}) → Ran
 ran (goes_on x s) = got_stuck Outside
 ran (over (at_end e) s) = ended e s
 ran (over (in_trouble t) s) = got_stuck t
 
--- The meaning of a transition on an input: INPUT's places (START has none), and then its text.
+-- The meaning of a transition on an input: the places of INPUT (START has none), and then its text.
 abbrev pub Act : Scope → Piece → Input → Ran
 Act c q x =
     ran (then_do (take_places c x.parameters.items 0 q.places (begun x))

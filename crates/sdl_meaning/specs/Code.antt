@@ -47,12 +47,12 @@ use Rattle.sdl_meaning.specs.Act.{is_truth, divisor_of, relation_of, integer_in,
 use Rattle.sdl_meaning.specs.Outcomes.{Scope, variable_at, state_at, timer_at, connector_at}
 use Rattle.sdl_meaning.specs.Outcomes.{signal_at}
 
--- the number of a name; its instructions are made only where it has one
+-- The number of a name. An instruction uses it only if the name has a number.
 abbrev pub number_or_zero : Option ℕ → ℕ
 number_or_zero None = 0
 number_or_zero (Some v) = v
 
--- an Integer; a test is made only where it is one
+-- The Integer of a constant. A test uses it only if the constant is an Integer.
 abbrev pub constant_or_zero : Option ℤ → ℤ
 constant_or_zero None = pos 0
 constant_or_zero (Some z) = z
@@ -79,7 +79,7 @@ abbrev pub unary_code : UnaryOperator → Instruction
 unary_code Negate = i.Neg
 unary_code Not = i.Not
 
--- an operator whose left operand is a Boolean, or is none
+-- The code of an operator; the Boolean says whether its left operand is a Boolean.
 abbrev pub binary_code : Bool → BinaryOperator → Instruction
 binary_code b Or = i.Or
 binary_code b Xor = i.Xor
@@ -99,7 +99,7 @@ binary_code b Divide = i.Div (pos 0)
 binary_code b Modulo = i.Mod (pos 0)
 binary_code b Remainder = i.Rem (pos 0)
 
--- a division has its divisor in itself
+-- A division holds its divisor in the instruction.
 abbrev pub division_code : BinaryOperator → ℤ → Instruction
 division_code Divide k = i.Div k
 division_code Modulo k = i.Mod k
@@ -123,7 +123,7 @@ tasks_code c [] = []
 tasks_code c (a ∷ rest) =
     tree_code c a.value ++ store (number_or_zero (variable_at c a.variable)) ∷ tasks_code c rest
 
--- a receiver; an instruction is made only where there is one
+-- A receiver. An instruction uses it only if there is one.
 abbrev pub party_or_environment : Option Party → Party
 party_or_environment None = Environment
 party_or_environment (Some p) = p
@@ -135,7 +135,7 @@ receiver_code c (Some (address.Process id)) n =
     to_whom.Party (party_or_environment (numbered c (tree_parties.Process id)))
 receiver_code c (Some (address.Sender at)) n = to_whom.Sender
 
--- the parameters, and the signal with so many of them
+-- For each signal its parameters, and the OUTPUT with their number.
 abbrev pub sendings_code : Scope → Option Destination → List PlainSending → List Instruction
 sendings_code c to [] = []
 sendings_code c to (x ∷ rest) =
@@ -149,8 +149,8 @@ action_code c (output at xs to) = sendings_code c to xs
 action_code c (set_timer at t n) = tree_code c t ++ set_to (number_or_zero (timer_at c n)) ∷ []
 action_code c (reset_timer at n) = reset (number_or_zero (timer_at c n)) ∷ []
 
--- ---- with answers and JOINs: each part has its own place, and targets are places in the whole
--- code. `to` says at which place the code of the connection with a number stands.
+-- ---- with answers and JOINs: each part has a place, and targets are places in the whole code.
+-- `to` is the place of the code of the connection with a number.
 
 abbrev pub jump : ℕ → Instruction
 jump n = i.Jump (record { 0 = n })
@@ -160,15 +160,15 @@ end_code c to (NextState n) = next (number_or_zero (state_at c n.state)) ∷ []
 end_code c to (Stop at) = i.Stop ∷ []
 end_code c to (Join j) = jump (to (number_or_zero (connector_at c j.connector))) ∷ []
 
--- a body that goes on jumps to what follows its DECISION
+-- A body that goes on jumps to what follows its DECISION.
 abbrev pub leave_code : ℕ → Text → List Instruction
 leave_code after body = if goes_on body then jump after ∷ [] else []
 
--- how many instructions a body has
+-- How many instructions a body has, with its jump.
 abbrev pub body_size : Scope → Text → ℕ
 body_size c body = size (variables_of c.process) body + jump_size body
 
--- a range, where the body of its answer stands at a place
+-- The test of a range, if the body of its answer starts at place n.
 abbrev pub range_code : ℕ → Range → Instruction
 range_code n (ranges.Value k) =
     i.Case relations.Equal (constant_or_zero (integer_in k.value)) (record { 0 = n })
@@ -181,20 +181,20 @@ range_code n (ranges.Between low high) =
 abbrev pub ranges_code : ℕ → List Range → List Instruction
 ranges_code n rs = map (range_code n) rs
 
--- the tests of an Integer DECISION whose bodies stand from a place on, and the drop before ELSE
+-- The tests of an Integer DECISION whose bodies start at place n, and the drop before ELSE.
 abbrev pub tests_code : Scope → ℕ → Choice → List Instruction
 tests_code c n nothing_else = []
 tests_code c n (otherwise body) = i.Drop ∷ []
 tests_code c n (answer at rs body others) =
     ranges_code n rs ++ tests_code c (n + body_size c body) others
 
--- how many instructions the body of ELSE has
+-- How many instructions the body of ELSE has.
 abbrev pub else_size : Scope → Choice → ℕ
 else_size c nothing_else = 0
 else_size c (otherwise body) = body_size c body
 else_size c (answer at rs body others) = else_size c others
 
--- and those of the answers
+-- How many instructions the bodies of the answers have.
 abbrev pub answers_size : Scope → Choice → ℕ
 answers_size c nothing_else = 0
 answers_size c (otherwise body) = 0
@@ -211,21 +211,20 @@ names_truth b (ranges.Value k) = is_literal b k.value
 names_truth b (ranges.Compared at r k) = false
 names_truth b (ranges.Between low high) = false
 
--- where the body for a truth value stands, if the bodies stand from a place on in the order of the
--- text
+-- The place of the body for a truth value, if the bodies start at place n in the order of the text.
 abbrev pub picked : Scope → ℕ → Choice → Bool → ℕ
 picked c n nothing_else b = n
 picked c n (otherwise body) b = n
 picked c n (answer at rs body others) b =
     if list_any (names_truth b) rs then n else picked c (n + body_size c body) others b
 
--- a Boolean DECISION goes on at one place where its question is FALSE, at another where it is TRUE
+-- A Boolean DECISION goes on at one place if its question is FALSE, at another if it is TRUE.
 abbrev pub pick_code : Scope → ℕ → Choice → Instruction
 pick_code c n choice =
     i.Pick (record { 0 = picked c n choice false }) (record { 0 = picked c n choice true })
 
--- Of a DECISION whose question ends at a place: the place of the bodies of a Boolean one; those of
--- ELSE and of the answers of an Integer one; and that of what follows.
+-- Places after the question of a DECISION, which ends at place n: the bodies of a Boolean one; ELSE
+-- and the answers of an Integer one; and what follows the DECISION.
 abbrev pub bodies_place : ℕ → ℕ
 bodies_place n = n + 1
 
@@ -260,13 +259,13 @@ abbrev mutual
       (after_choice c false (n + cost_of q) choice) choice))
       ++ text_code c to (after_choice c (is_truth c q) (n + cost_of q) choice) rest)
 
-  -- the body of ELSE at a place; what follows the DECISION stands at the second one
+  -- The body of ELSE at place n; `after` is the place of what follows the DECISION.
   pub else_code : Scope → (ℕ → ℕ) → ℕ → ℕ → Choice → List Instruction
   else_code c to n after nothing_else = []
   else_code c to n after (otherwise body) = text_code c to n body ++ leave_code after body
   else_code c to n after (answer at rs body others) = else_code c to n after others
 
-  -- the bodies of the answers, one behind another
+  -- The bodies of the answers, one after another.
   pub answers_code : Scope → (ℕ → ℕ) → ℕ → ℕ → Choice → List Instruction
   answers_code c to n after nothing_else = []
   answers_code c to n after (otherwise body) = []
@@ -274,7 +273,7 @@ abbrev mutual
       text_code c to n body
       ++ (leave_code after body ++ answers_code c to (n + body_size c body) after others)
 
-  -- these and then that of ELSE
+  -- The bodies of the answers, and then that of ELSE.
   pub bodies_code : Scope → (ℕ → ℕ) → ℕ → ℕ → Choice → List Instruction
   bodies_code c to n after nothing_else = []
   bodies_code c to n after (otherwise body) = text_code c to n body ++ leave_code after body
@@ -288,7 +287,7 @@ places_code c j (None ∷ rest) = places_code c (j + 1) rest
 places_code c j (Some n ∷ rest) =
     i.Param j ∷ store (number_or_zero (variable_at c n)) ∷ places_code c (j + 1) rest
 
--- a DECISION behind its question, which ends at a place: a Boolean one, and an Integer one
+-- A DECISION after its question, which ends at place n: a Boolean one, and an Integer one.
 abbrev pub truth_code : Scope → (ℕ → ℕ) → ℕ → Choice → List Instruction
 truth_code c to n choice =
     pick_code c (bodies_place n) choice
@@ -302,11 +301,11 @@ integer_code c to n choice =
 
 -- ---- the connections of a piece
 
--- the text of the connection with a number
+-- The text of the connection with a number.
 abbrev pub text_at : Scope → ℕ → Text
 text_at c n = option_map_or (λ k. k.text) (slice_get c.process.connections n) falls
 
--- how many instructions it has
+-- How many instructions this text has.
 abbrev pub size_at : Scope → ℕ → ℕ
 size_at c n = size (variables_of c.process) (text_at c n)
 
@@ -339,24 +338,24 @@ abbrev mutual
 abbrev pub joined : Scope → Text → List ℕ
 joined c t = map (λ j. number_or_zero (connector_at c j.connector)) (code_joins c t)
 
--- one number more, unless it is there
+-- Adds a number, unless it is there.
 abbrev pub add_number : List ℕ → ℕ → List ℕ
 add_number ns n = if list_any (λ m. m == n) ns then ns else ns ++ n ∷ []
 
--- each number once, where it stands first
+-- Each number only once, at its first place.
 abbrev pub numbers_once : List ℕ → List ℕ
 numbers_once ns = fold add_number [] ns
 
--- The connections whose code stands behind that of a text: those that the text joins or one of them
--- does, each once, in the order in which the code joins them first.
+-- The connections whose code follows that of a text: those that the text or one of them joins. Each
+-- is there only once, in the order in which the code first joins them.
 pub record ArePlaced (c : Scope) (t : Text) (ns : List ℕ) : Type 0 where
   pub once : ns ≡ numbers_once (joined c t ++ flat_map (λ n. joined c (text_at c n)) ns)
   pub before :
       (k n : ℕ) → slice_get ns k ≡ Some n
       → Contains (joined c t ++ flat_map (λ m. joined c (text_at c m)) (take k ns)) n
 
--- the place of the connection with a number, where those of these stand one behind another from a
--- place on
+-- The place of the connection with a number, if these connections follow one another from place p
+-- on.
 abbrev pub place_in : Scope → ℕ → List ℕ → ℕ → ℕ
 place_in c p [] n = 0
 place_in c p (m ∷ ms) n = if m == n then p else place_in c (p + size_at c m) ms n
@@ -366,14 +365,14 @@ connections_code c to p [] = []
 connections_code c to p (n ∷ ns) =
     text_code c to p (text_at c n) ++ connections_code c to (p + size_at c n) ns
 
--- where the text of a piece begins, and where its connections do
+-- The places where the text of a piece and its connections begin.
 abbrev pub text_place : Piece → ℕ
 text_place q = places_cost q.places
 
 abbrev pub connections_place : Scope → Piece → ℕ
 connections_place c q = places_cost q.places + size (variables_of c.process) q.text
 
--- a piece with these connections
+-- The code of a piece with these connections.
 abbrev pub piece_code : Scope → Piece → List ℕ → List Instruction
 piece_code c q ns =
     places_code c 0 q.places

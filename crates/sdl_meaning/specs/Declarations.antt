@@ -1,4 +1,4 @@
--- What a draft says of what a text declares.
+-- What a draft has for the declarations of a text.
 use Rattle.std.specs.Prelude.{ℕ, List, [], map, Option, None, Some, option_map, slice_get}
 use Rattle.sdl_sound.specs.sdl_ast_types.expression.Identifier.{Identifier}
 use Rattle.sdl_sound.specs.sdl_ast_types.tree.Constant.{Constant}
@@ -33,7 +33,7 @@ literal_value (literals.Boolean b) = Bool b
 abbrev pub constant_value : Constant → Value
 constant_value k = literal_value k.value
 
--- a variable with its sort and its initial value
+-- A variable with its sort and its initial value.
 abbrev pub drafted : Variable → DraftVariable
 drafted v =
     record {
@@ -42,33 +42,33 @@ drafted v =
       initial = option_map constant_value v.initial;
     }
 
--- a signal with the sorts of its parameters
+-- A signal with the sorts of its parameters.
 abbrev pub drafted_signal : PlainSignal → DraftSignal
 drafted_signal s = record { name = s.name.name; parameters = map sort_of_tree s.parameters }
 
--- the variables of a process, and the signals of a block
+-- The variables of a process, and the signals of a block.
 abbrev pub drafted_variables : PlainProcess → List DraftVariable
 drafted_variables p = map drafted (variables_of p)
 
 abbrev pub drafted_signals : PlainBlock → List DraftSignal
 drafted_signals b = map drafted_signal (signals_of b)
 
--- the signal with this number, else the timer with that one
+-- The signal with the first number, or else the timer with the second.
 abbrev pub trigger_with : Option ℕ → ℕ → Trigger
 trigger_with None t = Timer (record { 0 = t })
 trigger_with (Some n) t = Signal (record { 0 = n })
 
--- what a name stands for in an INPUT or a SAVE: a signal, else a timer of the process
+-- What a name in an INPUT or a SAVE stands for: a signal, or else a timer of the process.
 abbrev pub trigger_of : Scope → Identifier → Trigger
 trigger_of c id =
     trigger_with (number_of (signal_names c.block) id.name)
     (number_or_zero (number_of (timers_of c.process) id.name))
 
--- the sorts of the parameters of the signal with this number, if it has one
+-- The sorts of the parameters of the signal with this number, if there is one.
 abbrev pub parameters_by : List DraftSignal → Option ℕ → List Sort
 parameters_by ss None = []
 parameters_by ss (Some n) = parameters_of (slice_get ss n)
 
--- the sorts of the parameters that come with what a name stands for: none with a timer
+-- The sorts of the parameters of the signal with this name; a timer has none.
 abbrev pub trigger_sorts : Scope → Identifier → List Sort
 trigger_sorts c id = map sort_of_tree (parameter_sorts c.block id.name)

@@ -1,5 +1,5 @@
--- Texts all of whose names are declared, whose signals have receivers, and whose questions are
--- answered.
+-- Texts with declared names only, a receiver for each signal, and an answer for each value of a
+-- question.
 use Rattle.std.specs.Prelude.{◌≡◌, ℕ, ◌<◌, ◌≤◌, true, false, List, [], ◌∷◌, length, All, Contains}
 use Rattle.std.specs.Prelude.{Option, None, Some, IsSome, slice_get}
 use Rattle.sdl_sound.specs.sdl_ast_types.expression.Identifier.{Identifier}
@@ -45,14 +45,14 @@ NamedTasks c [] = Unit {0}
 NamedTasks c (a ∷ rest) =
     NamedTree c a.value × IsSome (variable_at c a.variable) × NamedTasks c rest
 
--- somebody gets the signal; who sent is known only as the transition runs
+-- The signal has a receiver. The sender is known only as the transition runs.
 abbrev pub HasReceiver : Scope → Option Destination → Identifier → Type 0
 HasReceiver c None n = IsSome (receiver_of c None None n)
 HasReceiver c (Some (address.Process id)) n =
     IsSome (receiver_of c None (Some (address.Process id)) n)
 HasReceiver c (Some (address.Sender at)) n = Unit {0}
 
--- a signal that goes out, with as many parameters as a signal may have
+-- A signal that a text sends, with at most as many parameters as a signal may have.
 pub record NamedSending (c : Scope) (to : Option Destination) (x : PlainSending) : Type 0 where
   pub parameters : NamedTrees c x.parameters
   pub few : length x.parameters ≤ MOST_PARAMETERS
@@ -74,13 +74,13 @@ NamedEnd c (NextState n) = IsSome (state_at c n.state)
 NamedEnd c (Stop at) = Unit {0}
 NamedEnd c (Join j) = IsSome (connector_at c j.connector)
 
--- ranges of the sort of a question
+-- Ranges of the sort of a question.
 abbrev pub AnswerTo : Scope → Tree → List Range → Type 0
 AnswerTo c q [] = Unit {0}
 AnswerTo c q (r ∷ rs) = (answers_question (variables_of c.process) q r ≡ true) × AnswerTo c q rs
 
--- A DECISION: its question's names, an answer for each value that it may have, and nothing behind
--- it where no body goes on.
+-- A DECISION: its question has known names, each value of it has an answer, and nothing follows the
+-- DECISION if no body goes on.
 pub record NamedDecision (c : Scope) (q : Tree) (choice : Choice) (rest : Text) : Type 0 where
   pub question : NamedTree c q
   pub answered : is_answered (variables_of c.process) q choice ≡ true
@@ -94,24 +94,24 @@ abbrev mutual
   NamedText c (decides at q choice rest) =
       NamedDecision c q choice rest × NamedChoice c q choice × NamedText c rest
 
-  -- the answers to a question, which have its sort
+  -- The answers to a question, which have its sort.
   pub NamedChoice : Scope → Tree → Choice → Type 0
   NamedChoice c q nothing_else = Unit {0}
   NamedChoice c q (otherwise body) = NamedText c body
   NamedChoice c q (answer at rs body others) =
       AnswerTo c q rs × NamedText c body × NamedChoice c q others
 
--- the operands, values, parameters and answers of a text have their sorts
+-- The operands, values, parameters and answers of a text have the right sorts.
 abbrev pub AreSorted : Scope → Text → Type 0
 AreSorted c t = flat_map (wrong_statement c.block (variables_of c.process)) (statements_of t) ≡ []
 
--- a text that doesn't run off its end
+-- A text that doesn't run off its end.
 pub record NamedWhole (c : Scope) (t : Text) : Type 0 where
   pub text : NamedText c t
   pub ended : goes_on t ≡ false
 
--- the connections of a process, no two with one name, and so many steps that each JOIN in one of
--- them leads to one with fewer steps
+-- The connections of a process, no two with the same name. Each has a number of steps, and each
+-- JOIN in it leads to a connection with fewer steps.
 pub record NamedConnections (c : Scope) : Type 0 where
   pub texts :
       (n : ℕ) (k : PlainConnection) → slice_get c.process.connections n ≡ Some k
@@ -139,26 +139,26 @@ pub record NamedPiece (c : Scope) (q : Piece) : Type 0 where
   pub text : NamedWhole c q.text
   pub connections : NamedConnections c
 
--- ---- who sends what a transition waits for
+-- ---- the senders of what a transition waits for
 
--- there is a sender, from whom a route carries the signal to this process
+-- There is a sender, and a route carries the signal from it to this process.
 abbrev pub IsBroughtBy : Scope → Identifier → Option Address → Type 0
 IsBroughtBy c n None = ⊥
 IsBroughtBy c n (Some p) =
     (q : tree_party.Party) × (named c p.party ≡ Some q)
     × (carries c.block q (party_of c.process) n.name ≡ true)
 
--- for a signal; a timer's comes from anybody
+-- For a signal, a route carries it from the sender; for a timer, any sender will do.
 abbrev pub IsSentIf : Scope → Identifier → Option ℕ → Option Address → Type 0
 IsSentIf c n None sender = Unit {0}
 IsSentIf c n (Some k) sender = IsBroughtBy c n sender
 
--- who may have sent what a transition waits for: START waits for nothing
+-- The possible senders of what starts a transition. Nothing starts that of START.
 abbrev pub IsSentTo : Scope → Option Identifier → Option Address → Type 0
 IsSentTo c None sender = Unit {0}
 IsSentTo c (Some n) sender = IsSentIf c n (signal_at c n) sender
 
--- each of the signals, sent back to whoever may have sent that signal, gets there
+-- Each of the signals reaches every possible sender of the signal that starts the transition.
 abbrev pub AnswerAll : Scope → Option Identifier → List PlainSending → Type 0
 AnswerAll c from [] = Unit {0}
 AnswerAll c from (x ∷ rest) =
@@ -176,7 +176,7 @@ AnswersAction c from (output at xs to) = AnswersTo c from to xs
 AnswersAction c from (set_timer at t n) = Unit {0}
 AnswersAction c from (reset_timer at n) = Unit {0}
 
--- what a text sends to the sender gets there, whoever that is
+-- Each signal that a text sends TO SENDER arrives, for every possible sender.
 abbrev mutual
   pub AnswersSenders : Scope → Option Identifier → Text → Type 0
   AnswersSenders c from falls = Unit {0}
@@ -191,7 +191,7 @@ abbrev mutual
   ChoiceAnswers c from (answer at rs body others) =
       AnswersSenders c from body × ChoiceAnswers c from others
 
--- the same for a transition, with the connections to which it comes
+-- As `AnswersSenders`, for a transition and the connections to which it leads.
 pub record AnswersAll (c : Scope) (from : Option Identifier) (t : Text) : Type 0 where
   pub text : AnswersSenders c from t
   pub connections :

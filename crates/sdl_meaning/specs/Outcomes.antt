@@ -1,4 +1,4 @@
--- Where a transition stands, how a walk is over, what a part of a transition does, and its names
+-- The scope of a transition, the end of a walk, the outcome of a part of a transition, and names
 -- (Z.100, transitions).
 use Rattle.std.specs.Prelude.{ℕ, Option}
 use Rattle.sdl_sound.specs.sdl_ast_types.expression.Identifier.{Identifier}
@@ -9,23 +9,23 @@ use Rattle.turn_code.specs.Run.{Progress}
 use Rattle.sdl_sound.specs.TableNames.{number_of, variable_names, states_of, timers_of}
 use Rattle.sdl_sound.specs.TableNames.{connector_names, signal_names}
 
--- Where a transition stands: its names are those of its process and of its block, and their numbers
+-- The scope of a transition: its names are those of its process and of its block, and their numbers
 -- are the places there.
 pub record Scope : Type 0 where
   pub block : PlainBlock
   pub process : PlainProcess
 
--- How a walk is over: at the transition's end, or stuck.
+-- The end of a walk: the end of the transition, or trouble that leaves it stuck.
 pub data Ending : Type 0 where
   at_end : code_end.End → Ending
   in_trouble : Trouble → Ending
 
--- What a part of a transition does: the walk goes on with something, or is over. What was done so
--- far comes with it; its count is the cost of the walk, where each number, truth value, variable,
--- operator, assignment, signal that goes out, SET and RESET costs 1 (a divisor nothing), each place
--- of INPUT 2 and the end 1. A DECISION costs its question and what is asked of it: for an Integer
--- one each range up to the first that holds, or all and 1 for ELSE; for a Boolean one 1. Then come
--- the body, and 1 where it goes on.
+-- The outcome of a part of a transition: the walk goes on with a value, or is over. It carries what
+-- was done so far. Its count is the cost of the walk. Each number, truth value, variable, operator,
+-- assignment, signal sent, SET and RESET costs 1; a divisor costs nothing; each place of INPUT
+-- costs 2; the end costs 1. A DECISION costs its question and its tests, then its body, and 1 if
+-- the body goes on. An Integer one tests each range up to the first that holds, or all and 1 for
+-- ELSE; the test of a Boolean one costs 1.
 pub data Outcome (A : Type 0) : Type 0 where
   goes_on : A → Progress → Outcome A
   over : Ending → Progress → Outcome A

@@ -1,3 +1,3 @@
-//! What a transition means on an input, the code of a transition, and laws: code of this shape does what the transition means,
-//! and its places are as far apart as the definitions count.
+//! What a transition means on an input, the code of a transition, and laws. Code of this shape does what the transition
+//! means, and its places are as far apart as the definitions count.
 #![tactic(auto)]

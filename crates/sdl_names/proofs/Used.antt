@@ -1,4 +1,4 @@
--- What names stand for, as it is kept: a slot more, a name more, and the one that is asked for.
+-- The table of uses: one more slot, one more name, and the name that is looked up.
 use Rattle.std.proofs.Common.{◌≡◌, ℕ, zero, suc, List, [], ◌∷◌, ◌++◌, Option, Some, None, true, subst}
 use Rattle.std.specs.Prelude.{slice_get, slice_set, bytes_eq}
 use Rattle.std.proofs.lemmas.Slice.Eq.{bytes_eq-Decides}

@@ -1,4 +1,4 @@
-//! What the names in the transitions of a process stand for: their numbers, and who gets what is sent.
+//! The meaning of the names in the transitions of a process: their numbers, and the receivers of signals.
 #![tactic(auto)]
 
 mod names;

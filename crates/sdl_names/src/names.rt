@@ -1,4 +1,4 @@
-//! The names that a transition may use, with their numbers, and who gets what it sends.
+//! The names that a transition may use, with their numbers; and the receivers of the signals it sends.
 ghost use Rattle.std.specs.Prelude.{◌≡◌, ◌≤◌, length, IsSome};
 ghost use Rattle.std.proofs.Props.{props};
 ghost use Rattle.sdl_ast.specs.Views.{tree_of, block_of, process_of};
@@ -37,7 +37,7 @@ pub struct Names<'a> {
 impl Names<'_> {
     ghost use Rattle.sdl_names.specs.Scopes.{scope_in};
 
-    /// The number of a variable that is declared.
+    /// The number of a declared variable.
     pub fn variable(&self, id: &Identifier) -> VariableNumber
         requires { IsSome (variable_at (scope_in self.now) id.now) }
         ensures { result.0 ≡ number_or_zero (variable_at (scope_in self.now) id.now) }
@@ -51,7 +51,7 @@ impl Names<'_> {
         }
     }
 
-    /// The number of a state that is there.
+    /// The number of a state of the process.
     pub fn state(&self, id: &Identifier) -> StateNumber
         requires { IsSome (state_at (scope_in self.now) id.now) }
         ensures { result.0 ≡ number_or_zero (state_at (scope_in self.now) id.now) }
@@ -62,7 +62,7 @@ impl Names<'_> {
         }
     }
 
-    /// The number of a timer that is declared.
+    /// The number of a declared timer.
     pub fn timer(&self, id: &Identifier) -> TimerNumber
         requires { IsSome (timer_at (scope_in self.now) id.now) }
         ensures { result.0 ≡ number_or_zero (timer_at (scope_in self.now) id.now) }
@@ -73,7 +73,7 @@ impl Names<'_> {
         }
     }
 
-    /// The number of a connection that is there.
+    /// The number of a connection of the process.
     pub fn connector(&self, id: &Identifier) -> usize
         requires { IsSome (connector_at (scope_in self.now) id.now) }
         ensures { result ≡ number_or_zero (connector_at (scope_in self.now) id.now) }
@@ -87,7 +87,7 @@ impl Names<'_> {
         }
     }
 
-    /// The number of a signal that is declared.
+    /// The number of a declared signal.
     pub fn signal(&self, id: &Identifier) -> SignalNumber
         requires { IsSome (signal_at (scope_in self.now) id.now) }
         ensures { result.0 ≡ number_or_zero (signal_at (scope_in self.now) id.now) }
@@ -101,7 +101,7 @@ impl Names<'_> {
         }
     }
 
-    /// Whether the text makes a Boolean of an expression.
+    /// Whether an expression is a Boolean by its text.
     pub fn is_truth(&self, expression: &Expression) -> bool
         ensures { result ≡ is_truth (scope_in self.now) (tree_of expression.now) }
     {
@@ -111,7 +111,7 @@ impl Names<'_> {
         }
     }
 
-    /// The number of a process that is there.
+    /// The number of a process of the block.
     fn receiving(&self, id: &Identifier) -> ProcessNumber
         requires { IsSome (number_of (process_names (block_of self.now.block.now)) id.now.name) }
         ensures { result.0 ≡ number_or_zero (number_of (process_names (block_of self.now.block.now)) id.now.name) }
@@ -125,7 +125,7 @@ impl Names<'_> {
         }
     }
 
-    /// A party that is there, by its number.
+    /// A party of the block, by its number.
     fn party(&self, party: &sdl_ast::Party) -> Party
         requires { IsSome (numbered (scope_in self.now) party.now) }
         ensures { result ≡ party_or_environment (numbered (scope_in self.now) party.now) }
@@ -136,7 +136,7 @@ impl Names<'_> {
         }
     }
 
-    /// Who gets a signal that goes to nobody in particular.
+    /// The receiver of a signal that is sent without TO.
     fn recipient(&self, signal: &Identifier) -> Party
         requires { HasReceiver (scope_in self.now) None signal.now }
         ensures { result ≡ party_or_environment (the_one (scope_in self.now) (receivers (block_of self.now.block.now) (party_of (process_of self.now.process.now)) signal.now.name)) }
@@ -152,7 +152,7 @@ impl Names<'_> {
         }
     }
 
-    /// Who gets a signal.
+    /// The receiver of a signal that is sent with this TO, or without TO.
     pub fn receiver(&self, to: &Option<Destination>, signal: &Identifier) -> Receiver
         requires { HasReceiver (scope_in self.now) to.now signal.now }
         ensures { result ≡ receiver_code (scope_in self.now) to.now signal.now }

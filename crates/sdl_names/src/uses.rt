@@ -1,4 +1,4 @@
-//! What the names in the transitions of a process stand for.
+//! The meanings of the names in the transitions of a process.
 ghost use Rattle.std.specs.Prelude.{◌≡◌, ◌<◌, length, Some, OnOk, IfOk, IfSome};
 ghost use Rattle.sdl_ast.specs.Views.{block_of, process_of};
 ghost use Rattle.sdl_sound.specs.Receivers.{party_of, receivers};
@@ -18,43 +18,43 @@ use sdl_scopes::{Recipients, find_receivers};
 use std::alloc::{AllocError, Global};
 use turn_code::{Party, ProcessNumber, SignalNumber, VariableNumber};
 
-/// What a name stands for.
+/// The meaning of a name.
 #[derive(Clone, Copy)]
 pub(crate) enum Meant {
     /// A connection, by its number.
     Connection(usize),
     /// A variable.
     Variable(VariableNumber),
-    /// A process that is sent to.
+    /// A process that TO names.
     Process(ProcessNumber),
-    /// A signal, and who gets it where it goes to nobody in particular, if one party does.
+    /// A signal and, if it has only one receiver without TO, this receiver.
     Signal(SignalNumber, Option<Party>),
 }
 
-/// A name where it is used, and what it stands for.
+/// A name at a place in the text, and its meaning.
 #[derive(Clone, Copy)]
 pub(crate) struct Use {
     id: Identifier,
     meant: Meant,
 }
 
-/// What is kept, each name in the slot of its place.
+/// The uses, each name in the slot of its place.
 type Uses = Vec<Option<Use>>;
 
-/// What the names in the transitions of a process stand for. Each is looked up once, and from then on by where it stands in
-/// the text.
+/// The meanings of the names in the transitions of a process. Each name is looked up once, and afterwards found by its
+/// place in the text.
 #[derive(Drop)]
 pub struct UseTable {
     uses: Uses,
 }
 
-/// Two names stand further apart than one octet, so each has a slot of its own.
+/// The slot of a name. Two names are more than one octet apart, so each has a slot to itself.
 fn slot(id: &Identifier) -> usize {
     (id.at / 2) as usize
 }
 
 impl UseTable {
-    /// Where nothing is known.
+    /// A table without names.
     pub fn empty(alloc: Global) -> UseTable
         ensures { (c : Scope) → IsUseTable c result }
     {
@@ -63,7 +63,7 @@ impl UseTable {
         }
     }
 
-    /// What a name stands for, where it is known.
+    /// The meaning of a name, if it is known.
     fn look_up(&self, id: &Identifier) -> Option<Meant>
         ensures { (c : Scope) → IsUseTable c self.now → IfSome result (IsUse c id.now.name) }
     {
@@ -73,7 +73,7 @@ impl UseTable {
         }
     }
 
-    /// The number of the connection that a JOIN names, where it is known.
+    /// The number of the connection that a JOIN names, if it is known.
     pub(crate) fn connection(&self, id: &Identifier) -> Option<usize>
         ensures { (c : Scope) → IsUseTable c self.now → IfSome result (λ n. number_of (connector_names c.process) id.now.name ≡ Some n) }
     {
@@ -83,7 +83,7 @@ impl UseTable {
         }
     }
 
-    /// The variable that a name stands for, where it is known.
+    /// The variable that a name stands for, if it is known.
     pub(crate) fn variable(&self, id: &Identifier) -> Option<VariableNumber>
         ensures { (c : Scope) → IsUseTable c self.now → IfSome result (λ n. number_of (variable_names c.process) id.now.name ≡ Some n.0) }
     {
@@ -93,7 +93,7 @@ impl UseTable {
         }
     }
 
-    /// The process that a name stands for, where it is known.
+    /// The process that a name stands for, if it is known.
     pub(crate) fn process(&self, id: &Identifier) -> Option<ProcessNumber>
         ensures { (c : Scope) → IsUseTable c self.now → IfSome result (λ n. number_of (process_names c.block) id.now.name ≡ Some n.0) }
     {
@@ -103,7 +103,7 @@ impl UseTable {
         }
     }
 
-    /// The signal that a name stands for, where it is known.
+    /// The signal that a name stands for, if it is known.
     pub(crate) fn signal(&self, id: &Identifier) -> Option<SignalNumber>
         ensures { (c : Scope) → IsUseTable c self.now → IfSome result (λ n. number_of (signal_names c.block) id.now.name ≡ Some n.0) }
     {
@@ -113,7 +113,7 @@ impl UseTable {
         }
     }
 
-    /// Who gets a signal that goes to nobody in particular, where it is known.
+    /// The receiver of a signal that is sent without TO, if it is known.
     pub(crate) fn recipient(&self, id: &Identifier) -> Option<Party>
         ensures { (c : Scope) → IsUseTable c self.now → IfSome result (λ q. the_one c (receivers c.block (party_of c.process) id.now.name) ≡ Some q) }
     {
@@ -124,7 +124,7 @@ impl UseTable {
     }
 }
 
-/// Slots up to this one.
+/// Adds empty slots up to `last`.
 fn grow(uses: &mut Uses, last: usize) -> Result<(), AllocError>
     ensures kept { (c : Scope) → AreUses c uses.old.items → OnOk result (AreUses c uses.new.items) }
     ensures there { OnOk result (last < length uses.new.items) }
@@ -135,7 +135,7 @@ fn grow(uses: &mut Uses, last: usize) -> Result<(), AllocError>
     Ok(())
 }
 
-/// One name more. A tree made by hand may have places past the end of each text: nothing is kept past `MAX_TEXT` slots.
+/// Adds a name, unless its slot is at `MAX_TEXT` or later. A tree made by hand may have places past any text.
 fn add_use(uses: &mut Uses, names: &Names, id: &Identifier, meant: Meant) -> Result<(), AllocError>
     requires known { AreUses (scope_in names.now) uses.old.items }
     requires is { IsUse (scope_in names.now) id.now.name meant }
@@ -149,7 +149,7 @@ fn add_use(uses: &mut Uses, names: &Names, id: &Identifier, meant: Meant) -> Res
     Ok(())
 }
 
-/// The name of a connection.
+/// Adds the name of a connection.
 fn add_connection(uses: &mut Uses, names: &Names, id: &Identifier) -> Result<(), AllocError>
     requires { AreUses (scope_in names.now) uses.old.items }
     ensures { OnOk result (AreUses (scope_in names.now) uses.new.items) }
@@ -160,7 +160,7 @@ fn add_connection(uses: &mut Uses, names: &Names, id: &Identifier) -> Result<(),
     }
 }
 
-/// The name of a variable.
+/// Adds the name of a variable.
 fn add_variable(uses: &mut Uses, names: &Names, id: &Identifier) -> Result<(), AllocError>
     requires { AreUses (scope_in names.now) uses.old.items }
     ensures { OnOk result (AreUses (scope_in names.now) uses.new.items) }
@@ -174,7 +174,7 @@ fn add_variable(uses: &mut Uses, names: &Names, id: &Identifier) -> Result<(), A
     }
 }
 
-/// The name of a process that is sent to.
+/// Adds the name of a process that TO names.
 fn add_process(uses: &mut Uses, names: &Names, id: &Identifier) -> Result<(), AllocError>
     requires { AreUses (scope_in names.now) uses.old.items }
     ensures { OnOk result (AreUses (scope_in names.now) uses.new.items) }
@@ -188,7 +188,7 @@ fn add_process(uses: &mut Uses, names: &Names, id: &Identifier) -> Result<(), Al
     }
 }
 
-/// A party by its number, if it is there.
+/// A party by its number, if the block has it.
 fn party_at(names: &Names, party: &sdl_ast::Party) -> Option<Party>
     ensures { result ≡ numbered (scope_in names.now) party.now }
 {
@@ -201,7 +201,7 @@ fn party_at(names: &Names, party: &sdl_ast::Party) -> Option<Party>
     }
 }
 
-/// Who gets a signal that goes to nobody in particular, if one party does.
+/// The receiver of a signal that is sent without TO, if there is only one.
 fn only_recipient(names: &Names, signal: &Identifier) -> Option<Party>
     ensures { IfSome result (λ q. the_one (scope_in names.now) (receivers (block_of names.now.block.now) (party_of (process_of names.now.process.now)) signal.now.name) ≡ Some q) }
 {
@@ -212,7 +212,7 @@ fn only_recipient(names: &Names, signal: &Identifier) -> Option<Party>
     }
 }
 
-/// The name of a signal that goes out.
+/// Adds the name of a signal that is sent.
 fn add_signal(uses: &mut Uses, names: &Names, id: &Identifier) -> Result<(), AllocError>
     requires { AreUses (scope_in names.now) uses.old.items }
     ensures { OnOk result (AreUses (scope_in names.now) uses.new.items) }
@@ -227,7 +227,7 @@ fn add_signal(uses: &mut Uses, names: &Names, id: &Identifier) -> Result<(), All
     }
 }
 
-/// The variables in an expression.
+/// Adds the variables of an expression.
 fn add_expression(uses: &mut Uses, names: &Names, expression: &Expression) -> Result<(), AllocError>
     requires { AreUses (scope_in names.now) uses.old.items }
     ensures { OnOk result (AreUses (scope_in names.now) uses.new.items) }
@@ -243,7 +243,7 @@ fn add_expression(uses: &mut Uses, names: &Names, expression: &Expression) -> Re
     }
 }
 
-/// The variables in some expressions.
+/// Adds the variables of some expressions.
 fn add_expressions(
     uses: &mut Uses,
     names: &Names,
@@ -258,7 +258,7 @@ fn add_expressions(
     Ok(())
 }
 
-/// The variables in assignments.
+/// Adds the variables of assignments.
 fn add_assignments(
     uses: &mut Uses,
     names: &Names,
@@ -274,7 +274,7 @@ fn add_assignments(
     Ok(())
 }
 
-/// The signals of an OUTPUT, and the variables in their parameters.
+/// Adds the signals of an OUTPUT, and the variables of their parameters.
 fn add_sendings(uses: &mut Uses, names: &Names, sendings: &[Sending]) -> Result<(), AllocError>
     requires { AreUses (scope_in names.now) uses.old.items }
     ensures { OnOk result (AreUses (scope_in names.now) uses.new.items) }
@@ -286,7 +286,7 @@ fn add_sendings(uses: &mut Uses, names: &Names, sendings: &[Sending]) -> Result<
     Ok(())
 }
 
-/// The process that an OUTPUT names, if it does.
+/// Adds the process that TO names, if it names one.
 fn add_recipient(uses: &mut Uses, names: &Names, to: &Option<Destination>) -> Result<(), AllocError>
     requires { AreUses (scope_in names.now) uses.old.items }
     ensures { OnOk result (AreUses (scope_in names.now) uses.new.items) }
@@ -297,7 +297,7 @@ fn add_recipient(uses: &mut Uses, names: &Names, to: &Option<Destination>) -> Re
     }
 }
 
-/// The names in an OUTPUT.
+/// Adds the names in an OUTPUT.
 fn add_output(uses: &mut Uses, names: &Names, output: &Output) -> Result<(), AllocError>
     requires { AreUses (scope_in names.now) uses.old.items }
     ensures { OnOk result (AreUses (scope_in names.now) uses.new.items) }
@@ -306,7 +306,7 @@ fn add_output(uses: &mut Uses, names: &Names, output: &Output) -> Result<(), All
     add_sendings(uses, names, &output.sendings)
 }
 
-/// The names in an action, but for those of timers, of which there are few.
+/// Adds the names in an action, except those of timers, which are few.
 fn add_action(uses: &mut Uses, names: &Names, action: &Action) -> Result<(), AllocError>
     requires { AreUses (scope_in names.now) uses.old.items }
     ensures { OnOk result (AreUses (scope_in names.now) uses.new.items) }
@@ -319,7 +319,7 @@ fn add_action(uses: &mut Uses, names: &Names, action: &Action) -> Result<(), All
     }
 }
 
-/// The names in a DECISION.
+/// Adds the names in a DECISION.
 #[cycle(uses)]
 fn add_decision(uses: &mut Uses, names: &Names, decision: &Decision) -> Result<(), AllocError>
     requires { AreUses (scope_in names.now) uses.old.items }
@@ -335,7 +335,7 @@ fn add_decision(uses: &mut Uses, names: &Names, decision: &Decision) -> Result<(
     }
 }
 
-/// The names in a statement.
+/// Adds the names in a statement.
 #[cycle(uses)]
 fn add_statement(uses: &mut Uses, names: &Names, statement: &Statement) -> Result<(), AllocError>
     requires { AreUses (scope_in names.now) uses.old.items }
@@ -347,7 +347,7 @@ fn add_statement(uses: &mut Uses, names: &Names, statement: &Statement) -> Resul
     }
 }
 
-/// The names in a transition.
+/// Adds the names in a transition.
 #[cycle(uses)]
 fn add_transition(uses: &mut Uses, names: &Names, transition: &Transition) -> Result<(), AllocError>
     requires { AreUses (scope_in names.now) uses.old.items }
@@ -362,7 +362,7 @@ fn add_transition(uses: &mut Uses, names: &Names, transition: &Transition) -> Re
     Ok(())
 }
 
-/// The names in the transition of an INPUT.
+/// Adds the names in the transition of an INPUT.
 fn add_clause(uses: &mut Uses, names: &Names, clause: &StateClause) -> Result<(), AllocError>
     requires { AreUses (scope_in names.now) uses.old.items }
     ensures { OnOk result (AreUses (scope_in names.now) uses.new.items) }
@@ -373,7 +373,7 @@ fn add_clause(uses: &mut Uses, names: &Names, clause: &StateClause) -> Result<()
     }
 }
 
-/// The names in the transitions of a STATE part.
+/// Adds the names in the transitions of a STATE part.
 fn add_clauses(uses: &mut Uses, names: &Names, clauses: &[StateClause]) -> Result<(), AllocError>
     requires { AreUses (scope_in names.now) uses.old.items }
     ensures { OnOk result (AreUses (scope_in names.now) uses.new.items) }
@@ -384,7 +384,7 @@ fn add_clauses(uses: &mut Uses, names: &Names, clauses: &[StateClause]) -> Resul
     Ok(())
 }
 
-/// The names in the transitions of a process, but for START: that has one piece, so its names are looked up as they come.
+/// The table of the names in all transitions except that of START, whose names are looked up as they are used.
 pub fn find_uses(alloc: Global, names: &Names) -> Result<UseTable, AllocError>
     ensures { IfOk result (IsUseTable (scope_in names.now)) }
 {

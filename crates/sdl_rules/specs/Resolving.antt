@@ -1,4 +1,4 @@
--- What a resolved block keeps.
+-- The contents of a resolved block.
 use Rattle.sdl_ast.specs.Views.{block_of}
 use Rattle.sdl_tables.specs.Names.{processes_of}
 use Rattle.sdl_measures.specs.Measures.{AllMeasures}
@@ -7,7 +7,7 @@ use Rattle.sdl_sound.specs.Sound.{Sound}
 use Rattle.sdl_unset.specs.Surveys.{AllSettled}
 use Rattle.sdl_rules.specs.declared.resolved.Resolved.TheInside.{Inside}
 
--- it is sound, and the sets, the orders and what is measured are those of its processes
+-- The block is sound; the sets, the orders and the measures are those of its processes.
 pub record IsResolved (r : Inside) : Type 0 where
   pub sound : Sound (block_of r.table)
   pub sets : AllSettled (processes_of (block_of r.table)) r.sets.items

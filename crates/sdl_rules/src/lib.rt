@@ -1,5 +1,5 @@
-//! From a block to the same block with its tables, known to be sound: all rules, one after another, as the crates below decide
-//! them.
+//! From a block to the same block with its tables, known to be sound. This crate runs all rules one after another, as
+//! the crates below decide them.
 #![tactic(auto)]
 
 mod resolved;

@@ -21,8 +21,8 @@ use sdl_unset::{Unset, settle};
 use std::alloc::Global;
 use std::marker::Model;
 
-/// A sound block with its tables; for each process variables that are set in each of its states, an order of its
-/// connections, and what is measured of each. Contracts see the block.
+/// A sound block with its tables. For each process it has the variables that are set in each state, an order of the
+/// connections, and the measures of each connection. Contracts see it as the block.
 #[derive(Drop)]
 pub struct Resolved<'a> {
     table: BlockTable<'a>,
@@ -69,7 +69,7 @@ fn check_names(alloc: Global, block: &BlockTable) -> Result<(), RuleFault>
     Ok(())
 }
 
-/// The rule on JOINs: an order of the connections of each process.
+/// The rule on JOINs, which finds an order of the connections of each process.
 fn check_joins(alloc: Global, block: &BlockTable) -> Result<Vec<Vec<usize>>, RuleFault>
     requires { IsSingle (block_of block.now) }
     ensures kept { IfOk result (λ orders. IsJoined (block_of block.now)) }
@@ -97,7 +97,7 @@ fn check_answers(alloc: Global, block: &BlockTable) -> Result<(), RuleFault>
     Ok(())
 }
 
-/// The limits: what is measured of the connections of each process.
+/// The limits, which need the measures of the connections of each process.
 fn check_limits(
     alloc: Global,
     block: &BlockTable,
@@ -116,7 +116,7 @@ fn check_limits(
     }
 }
 
-/// What is found of a sound block.
+/// What the rules find out about a sound block.
 #[derive(Drop)]
 struct Findings {
     sets: Vec<Vec<u32>>,
@@ -147,15 +147,15 @@ fn check_rules(alloc: Global, block: &BlockTable) -> Result<Findings, RuleFault>
     }
 }
 
-/// Gives a block its tables if it is sound, and else says which rule it breaks and where.
+/// Returns a block with its tables if it is sound, or else the rule that it breaks and where.
 ///
-/// Of several broken rules the least is named, by the number in its code. Without memory the answer is
-/// [`RuleFault::NoMemory`], in place of any other. Of several control paths that read a variable before it is set one
-/// with the fewest transitions is named, over all processes and variables, of several processes with one the first in the
-/// text, and of several such paths of that process the first by the order of its transitions in the text (START, then the
-/// inputs of each state, states in the order of their first STATE). Shown by tests alone: of several places of one rule the
-/// first in the text is named; of several variables with that path the one with the least place in the text where a walk
-/// of the last transition reads it unset.
+/// Of several broken rules it names the one whose code has the least number. If memory runs out it returns
+/// [`RuleFault::NoMemory`] instead of any other fault. If control paths read a variable before it is set, it names one
+/// with the fewest transitions, over all processes and variables. Of several processes with such a path it takes the
+/// first in the text. Of several such paths of this process it takes the first in the order of its transitions in the
+/// text (START, then the inputs of each state, states in the order of their first STATE). Only tests show the rest. Of
+/// several places of one rule it names the first in the text. Of several variables with that path it names the one that
+/// a walk of the last transition reads unset first in the text.
 pub fn resolve<'a>(alloc: Global, block: &'a Block) -> Result<Resolved<'a>, RuleFault>
     ensures block { IfOk result (λ r. r ≡ block.now) }
     ensures sound { IfOk result (λ r. Sound (block_of block.now)) }
@@ -230,22 +230,22 @@ impl<'a> Resolved<'a> {
         self.table.routes()
     }
 
-    /// For each process, by number, variables that are set whenever it is in a state: a number for each state, in
-    /// which bit v stands for variable v.
+    /// For each process, by number: the variables that are set whenever it is in a state. There is a number for each
+    /// state, in which bit v stands for variable v.
     pub fn sets(&self) -> &[Vec<u32>]
         ensures { AllSettled (processes_of (block_of self.now)) result.now }
     {
         &self.sets
     }
 
-    /// For each process, by number, an order of its connections, by number: each stands behind all that its JOINs lead to.
+    /// For each process, by number: an order of its connections. Each comes after all that its JOINs lead to.
     pub fn orders(&self) -> &[Vec<usize>]
         ensures { AreOrders (processes_of (block_of self.now)) result.now }
     {
         &self.orders
     }
 
-    /// For each process, by number, what is measured of its connections, by number.
+    /// For each process, by number: the measures of its connections, by number.
     pub fn measures(&self) -> &[Vec<Measure>]
         ensures { AllMeasures (processes_of (block_of self.now)) result.now }
     {

@@ -26,7 +26,7 @@ act_trimmed (output at xs to) more rest t e = ap (does (output at xs to)) e
 act_trimmed (set_timer at x n) more rest t e = ap (does (set_timer at x n)) e
 act_trimmed (reset_timer at n) more rest t e = ap (does (reset_timer at n)) e
 
--- what stands in front of a rest
+-- Statements before a rest.
 all_trimmed : (ss : List PlainStatement) (rest : Text) → all_before (flat_map trimmed_statement ss) (trimmed rest) ≡ trimmed (all_before ss rest)
 all_trimmed [] rest = refl
 all_trimmed (act a ∷ ss) rest = act_trimmed a (flat_map trimmed_statement ss) (trimmed rest) (trimmed (all_before ss rest)) (all_trimmed ss rest)
@@ -36,7 +36,7 @@ answers_trimmed : (xs : List PlainAnswer) (others : Choice) → all_answers (map
 answers_trimmed [] others = refl
 answers_trimmed (x ∷ xs) others = ap (answer x.at x.ranges (trimmed x.text)) (answers_trimmed xs others)
 
--- the whole of a transition
+-- A whole transition.
 pub transition_trimmed : (given copy : Transition) (list : List Statement) → given.statements.items ≡ list
     → map plain_statement copy.statements.items ≡ flat_map trimmed_statement (map plain_statement list) → copy.end ≡ given.end → text_of copy ≡ trimmed (text_of given)
 transition_trimmed given copy list is made end =

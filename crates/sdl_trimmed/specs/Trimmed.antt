@@ -1,4 +1,4 @@
--- A text without what has neither an effect nor an instruction: TASKs in which all is quoted.
+-- A text without TASKs that hold only quoted text: these have neither effects nor instructions.
 use Rattle.std.specs.Prelude.{◌≡◌, map, Option, None, Some, Bool, true, false, List, [], ◌∷◌}
 use Rattle.std.specs.Prelude.{if◌then◌else◌}
 use Rattle.sdl_ast.specs.Plain.{PlainAction, task, output, set_timer, reset_timer, Text, falls}
@@ -8,7 +8,7 @@ use Rattle.sdl_ast.specs.declared.tree.Transition.{Transition}
 use Rattle.sdl_ast.specs.declared.tree.Statement.{Statement}
 use Rattle.sdl_ast.specs.Views.{text_of, plain_statement}
 
--- an action in front of a text, unless it is such a TASK
+-- An action before a text, unless it is such a TASK.
 abbrev pub kept : PlainAction → Text → Text
 kept (task at []) t = t
 kept (task at (a ∷ rest)) t = does (task at (a ∷ rest)) t
@@ -28,9 +28,9 @@ abbrev mutual
   trimmed_choice (otherwise body) = otherwise (trimmed body)
   trimmed_choice (answer at rs body others) = answer at rs (trimmed body) (trimmed_choice others)
 
--- ---- the same of what stands in a text alone
+-- ---- the same for statements without a rest
 
--- whether all is quoted in an action
+-- Whether an action is a TASK that holds only quoted text.
 abbrev pub is_quoted : PlainAction → Bool
 is_quoted (task at []) = true
 is_quoted (task at (a ∷ rest)) = false
@@ -46,7 +46,7 @@ abbrev pub trimmed_statement : PlainStatement → List PlainStatement
 trimmed_statement (act a) = if is_quoted a then [] else act a ∷ []
 trimmed_statement (decide at q choice) = decide at q (trimmed_choice choice) ∷ []
 
--- a statement, if it is kept
+-- A statement, if it is kept.
 abbrev pub kept_statement : Option Statement → List PlainStatement
 kept_statement None = []
 kept_statement (Some s) = plain_statement s ∷ []
@@ -54,7 +54,7 @@ kept_statement (Some s) = plain_statement s ∷ []
 abbrev pub trimmed_answer : PlainAnswer → PlainAnswer
 trimmed_answer a = record { at = a.at; ranges = a.ranges; text = trimmed a.text }
 
--- these are the texts of connections so
+-- The copies are the trimmed texts of the connections.
 abbrev pub AreTrimmed : List PlainConnection → List Transition → Type 0
 AreTrimmed connections copies =
     map text_of copies ≡ map (λ (c : PlainConnection). trimmed c.text) connections

@@ -1,4 +1,4 @@
-//! Copies of transitions without TASKs in which all is quoted: those have neither an effect nor an instruction.
+//! Copies of transitions without the TASKs that hold only quoted text, which have neither an effect nor an instruction.
 #![tactic(auto)]
 
 mod copies;

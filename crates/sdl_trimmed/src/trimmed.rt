@@ -1,4 +1,4 @@
-//! Transitions without what has neither an effect nor an instruction: TASKs in which all is quoted.
+//! Transitions without the TASKs that hold only quoted text, which have neither an effect nor an instruction.
 ghost use Rattle.std.specs.Prelude.{◌≡◌, ◌++◌, [], true, map, IfOk, OnOk};
 ghost use Rattle.std.specs.List.{flat_map};
 ghost use Rattle.sdl_ast.specs.Views.{action_of, plain_statement, plain_decision, plain_answer, text_of, else_choice, connection_of};
@@ -8,7 +8,7 @@ use crate::copies::{copy_action, copy_expression};
 use sdl_ast::{Action, Answer, Connection, Decision, Range, Statement, Transition};
 use std::alloc::{AllocError, Global};
 
-/// Whether all is quoted in an action.
+/// Whether an action is a TASK that holds only quoted text.
 fn is_quoted(action: &Action) -> bool
     ensures { result ≡ is_quoted (action_of action.now) }
 {
@@ -30,7 +30,7 @@ fn copy_ranges(alloc: Global, given: &[Range]) -> Result<Vec<Range>, AllocError>
     Ok(copies)
 }
 
-/// Whether a statement is such a TASK, of which nothing is copied.
+/// Whether a statement is such a TASK, which is left out.
 fn is_left_out(statement: &Statement) -> bool
     ensures { result ≡ true → trimmed_statement (plain_statement statement.now) ≡ [] }
 {
@@ -40,7 +40,7 @@ fn is_left_out(statement: &Statement) -> bool
     }
 }
 
-/// A statement more, if it is kept.
+/// Adds a statement, if it is kept.
 fn push_kept(statements: &mut Vec<Statement>, kept: Option<Statement>) -> Result<(), AllocError>
     ensures { OnOk result (map plain_statement statements.new.items ≡ map plain_statement statements.old.items ++ kept_statement kept) }
 {
@@ -53,7 +53,7 @@ fn push_kept(statements: &mut Vec<Statement>, kept: Option<Statement>) -> Result
     }
 }
 
-/// A transition without TASKs in which all is quoted.
+/// A copy of a transition without the TASKs that hold only quoted text. Fails only if memory runs out.
 #[cycle(trimming)]
 pub fn trim_transition(alloc: Global, given: &Transition) -> Result<Transition, AllocError>
     ensures { IfOk result (λ copy. text_of copy ≡ trimmed (text_of given.now)) }
@@ -71,7 +71,7 @@ pub fn trim_transition(alloc: Global, given: &Transition) -> Result<Transition, 
     })
 }
 
-/// A statement alone: none where it is such a TASK.
+/// A copy of a statement, or `None` for such a TASK.
 #[cycle(trimming)]
 fn trim_statement(alloc: Global, given: &Statement) -> Result<Option<Statement>, AllocError>
     ensures { IfOk result (λ kept. kept_statement kept ≡ trimmed_statement (plain_statement given.now)) }
@@ -130,7 +130,7 @@ fn trim_else(alloc: Global, given: &Option<Transition>) -> Result<Option<Transit
     }
 }
 
-/// Copies of the transitions of connections, in their order.
+/// Copies of the transitions of connections, trimmed and in their order. Fails only if memory runs out.
 pub fn trim_connections(alloc: Global, given: &[Connection]) -> Result<Vec<Transition>, AllocError>
     ensures { IfOk result (λ copies. AreTrimmed (map connection_of given.now) copies.items) }
 {
