@@ -1,4 +1,4 @@
--- The turn that an actor has out once it has begun.
+-- The turn that an actor has out once it has begun one.
 use Rattle.std.proofs.Common.{◌≡◌, ℕ, zero, suc, List, [], ◌∷◌, Option, Some, None, refl, sym, ap, ◌∙◌, subst}
 use Rattle.std.specs.Prelude.{slice_get, slice_set}
 use Rattle.turn_code.specs.Transitions.{Transition, transition_at}

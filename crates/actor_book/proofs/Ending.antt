@@ -1,4 +1,4 @@
--- The turn that an actor has out, and what its end makes of the link.
+-- The turn that an actor has out, and the link after its end.
 use Rattle.std.proofs.Common.{◌≡◌, ℕ, ◌+◌, ◌*◌, ◌^◌, ◌≤◌, ◌<◌, Bool, true, cond, get_or, zero, suc, List, [], ◌∷◌, length, Option, Some, None, refl, sym, ap, ◌∙◌, subst, arith}
 use Rattle.std.specs.Prelude.{slice_get, option_map, count_by, Result, Ok}
 use Rattle.std.proofs.lemmas.List.Sums.{get_or-le-sum_by}
@@ -100,7 +100,7 @@ ends_with b n me t o called h k =
     turn_finish b.set n (state_of b) (slice_get (state_of b).actors n) me t o
     (sym (slice_get-map (λ (x : Actor). x.name) (state_of b).actors n) ∙ called) h k
 
--- ---- what is known of an actor with a turn out
+-- ---- an actor with a turn out
 
 pub record IsOut (b : Ledger) (n : ℕ) (t : Turn) : Type 0 where
   pub actor : Actor

@@ -1,4 +1,4 @@
--- Lists of events, one after another.
+-- Lists of events, in order.
 use Rattle.std.proofs.Common.{◌≡◌, ℕ, List, [], ◌∷◌, ◌++◌, map, ap, ◌∙◌, ◌+◌, ◌≤◌, ◌<◌, length, append_assoc, length-append, arith}
 use Rattle.std.proofs.lemmas.List.{map-append}
 use Rattle.turn_code.specs.declared.draft.Draft.{Draft}
@@ -10,12 +10,12 @@ use Rattle.actor_machine.specs.declared.event.Event.{Event}
 use Rattle.actor_machine.specs.declared.reply.Reply.{Reply}
 
 module _ (d : Draft) (b : Ledger) (same : b.set ≡ d) (e : Event) (es : List Event) where
-  -- the book afterwards
+  -- the book after one event
   pub after_one : (next : Ledger) → next ≡ (ask b e).book → after_by (runs d) next es ≡ after_by (runs d) b (e ∷ es)
   after_one next h =
       ap (λ (x : Ledger). after_by (runs d) x es) h ∙ ap (λ (x : Draft). after_by (runs d) (ask_by (runs x) b e).book es) same
 
-  -- the answers so far
+  -- the answers after one event
   pub answers_one : (rs : List Reply) (r : Reply) (next : Ledger) → next ≡ (ask b e).book → Says r ≡ (ask b e).answer
       → map Says (rs ++ r ∷ []) ++ answers_by (runs d) next es ≡ map Says rs ++ answers_by (runs d) b (e ∷ es)
   answers_one rs r next h k =

@@ -1,4 +1,4 @@
--- The least actor that can, and runs of turns.
+-- The least actor that can have a turn, and runs of turns.
 use Rattle.std.proofs.Common.{◌≡◌, ℕ, ◌+◌, ◌-◌, ◌<◌, ◌≤◌, zero, suc, Option, Some, None, refl, sym, ap, ◌∙◌, subst, ◌⊎◌, inl, inr, add-zero, arith}
 use Rattle.std.proofs.Math.Nat.{eq-or-lt_of_le}
 use Rattle.std.specs.Prelude.{◌≢◌}
@@ -11,7 +11,7 @@ use Rattle.actor_book.specs.declared.turn.Turn.TheVariants.{Made, Blocked, Idle}
 use Rattle.actor_book.specs.Turns.{Tried, stays, turn_refused, refusal_in, skips_by, by_refusal, begins_by, tried, actors_in, first_that, first_from, least_turn, Rested, goes_on, rests}
 use Rattle.actor_book.specs.Laws.{IsLeast, IsTurn, of_least, of_none, TurnLaw, IsRun, spent, none_can, blocked, goes, RestLaw}
 
--- ---- a try that comes to nothing leaves the book as it is
+-- ---- a try that isn't Made leaves the book as it is
 
 is_same : Ledger → Tried → Turn → Type 0
 is_same b t Made = Unit {0}
@@ -85,7 +85,7 @@ lesser_next : (b : Ledger) (n : ℕ) → ((m : ℕ) → m < n → (tried m b).tu
     → (tried m b).turn ≡ Idle
 lesser_next b n before h m less = lesser_by b m n (eq-or-lt_of_le (at_most m n less)) before h
 
--- what the turn of actor n makes of the search, where the rest of it is known
+-- the search's result with the turn of actor n, if the rest of the search is known
 by_turn : (b : Ledger) (n : ℕ) (u : Tried) (t : Turn) → n < actors_in b → ((m : ℕ) → m < n → (tried m b).turn ≡ Idle)
     → (tried n b).turn ≡ t → ((tried n b).turn ≡ Idle → IsTurn b u) → IsTurn b (first_that (tried n b) u t)
 by_turn b n u Made there before e rest =
@@ -134,7 +134,7 @@ rest_law (suc k) b = run_from k b (least_turn b) (rests k (least_turn b).book) (
 
 -- ---- the two loops
 
--- the search so far came to nothing
+-- the search so far found no turn
 first_step : (k m n : ℕ) (b : Ledger) (t : Turn) → k ≡ suc m → (tried n b).turn ≡ t → first_from k n b ≡ first_that (tried n b) (first_from m (n + 1) b) t
 unfolding first_from
 first_step k m n b t h e =
@@ -153,7 +153,7 @@ is_found total n b r h e t =
     ∙ sym (first_step (total - n) (total - (n + 1)) n b (tried n b).turn (left_over total n h) refl)
     ∙ e
 
--- `first` is the book as the search began, `b` as actor n was tried, and `after` what that left
+-- `first` is the book before the search, `b` the book before actor n's try, and `after` the book after it
 pub search_ends : (first b after : Ledger) (n : ℕ) (t : Turn) → b ≡ first → n < actors_in first
     → first_from (actors_in first - n) n first ≡ least_turn first → t ≡ (tried n b).turn → t ≢ Idle → after ≡ (tried n b).book
     → (t ≡ (least_turn first).turn) × (after ≡ (least_turn first).book)
@@ -204,7 +204,7 @@ zero_more n k m h e = omega (arith, h, e)
 one_more_turn : (n k j m : ℕ) → k + n ≡ m → k ≡ j + 1 → j + (n + 1) ≡ m
 one_more_turn n k j m h e = omega (arith, h, e)
 
--- after n of so many turns, with the book b: what is left of them comes to `r`
+-- after n of these turns, with the book b: the remaining turns lead to `r`
 pub record Rests (total n : ℕ) (b : Ledger) (r : Rested) : Type 0 where
   pub book : (rests (total - n) b).book ≡ r.book
   pub turns : (rests (total - n) b).turns + n ≡ r.turns

@@ -1,4 +1,4 @@
--- What events come to by anything that the set means.
+-- Events by any meaning of the set.
 use Rattle.std.proofs.Common.{◌≡◌, ℕ, List, [], ◌∷◌, sym, ap, ◌∙◌, subst}
 use Rattle.turn_code.specs.Outcome.{Meaning, Means}
 use Rattle.turn_code.specs.declared.draft.Draft.{Draft}
@@ -17,7 +17,7 @@ use Rattle.actor_book.specs.Whole.{begun_book, turned}
 first_same : (x y : Answer) (xs ys : List Answer) → x ∷ xs ≡ y ∷ ys → x ≡ y
 first_same x y xs ys h = cc
 
--- what an event comes to by the set's own code it comes to by anything that the set means
+-- an event has the same result by any meaning of the set as by the set's own code
 comes_to : TextLaw → (act : Meaning) (b : Ledger) (e : Event) (answer : Answer) (after : Ledger) → IsKept b → Means act b.set
     → after ≡ (ask b e).book → (ask b e).answer ≡ answer → ComesTo act (ask_by act b e) answer after
 comes_to text act b e answer after kept means book says =
@@ -34,7 +34,7 @@ pub finishes_by_text : TextLaw → (b : Ledger) (n : ℕ) (report : Report) (aft
 finishes_by_text text b n report after kept book says = λ act means.
     comes_to text act b (Finish n) (Says (reply.Finished report)) after kept means book says
 
--- the book in which the turn has begun is the same one by anything that the set means
+-- the book in which the turn has begun is the same by any meaning of the set
 pub turns_by_text : TextLaw → KeepsLaw → SetLaw → (b : Ledger) (n : ℕ) (report : Report) (after : Ledger) → IsKept b → after ≡ (turned b n).book
     → (turned b n).answer ≡ Says (reply.Finished report) → TurnsByText b n report after
 turns_by_text text keeps sets b n report after kept book says = λ act means.

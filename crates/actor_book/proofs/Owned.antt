@@ -1,4 +1,4 @@
--- Whose turn is out.
+-- A turn that is out is its actor's own.
 use Rattle.std.proofs.Common.{◌≡◌, ℕ, Some, refl}
 use Rattle.actor_book.specs.Turn.{Turn}
 use Rattle.actor_book.specs.Ledger.{Ledger, turn_out}

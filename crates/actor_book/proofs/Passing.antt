@@ -1,4 +1,4 @@
--- What is known of an event that a link doesn't refuse.
+-- What follows if a link doesn't refuse an event.
 use Rattle.std.proofs.Common.{◌≡◌, ℕ, ◌+◌, ◌^◌, ◌≤◌, ◌<◌, true, false, not, ◌==◌, if◌then◌else◌, List, [], ◌∷◌, length, Option, Some, None, refl, sym, ap, ◌∙◌, arith}
 use Rattle.std.specs.Prelude.{nat_lt, nat_le, slice_get, option_map}
 use Rattle.std.proofs.lemmas.Option.{slice_get_within}

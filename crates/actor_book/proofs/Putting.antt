@@ -1,4 +1,4 @@
--- Turns that lie in a room.
+-- Turns that a room holds.
 use Rattle.std.proofs.Common.{◌≡◌, ℕ, ◌≤◌, List, Option, Some, None, sym, ap, ◌∙◌, subst}
 use Rattle.std.specs.Prelude.{slice_get}
 use Rattle.std.proofs.lemmas.Option.{same_Some}
@@ -41,7 +41,7 @@ lies_with d n p s g r h = record {
   lies = h.lies;
 }
 
--- what lies in the room is the turn that is out in the book
+-- the turn in the room is the one that is out in the book
 pub lies_out : (b old : Ledger) (w : Core) (c : ℕ) → b ≡ old → IsBook b w c → (xs : List Actor) (n : ℕ) → xs ≡ w.actors → (r : Lying)
     → LiesOut (turn_at b.set n (slice_get xs n)) r → LiesOut (turn_out old n) r
 lies_out b old w c view inside xs n h r lies = subst (λ (o : Option Turn). LiesOut o r) (turn_is b old w c view inside xs n h) lies
@@ -67,7 +67,7 @@ is_ending b Free n e h k = absurd h
 is_ending b (Begun t) n e h k = absurd h
 is_ending b (Ran t) n e h k = record { turn = t; is = h.1; ran = ap outcome_in k.ran; within = k.within; few = k.few }
 
--- its variables and effects by any other name
+-- its variables and effects, under other names
 pub seen_so : (o : Option Turn) (e : End) (m : Machine) (vs : List (Option Value)) (es : List Effect) → vs ≡ m.variables.items → es ≡ m.effects.items
     → IsEnding o e m → EndsBy o e vs es m.count
 seen_so o e m vs es hv he ends =

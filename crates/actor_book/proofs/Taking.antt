@@ -1,4 +1,4 @@
--- What an event makes of a book.
+-- A book after an event.
 use Rattle.std.proofs.Common.{◌≡◌, ℕ, ◌+◌, ◌≤◌, ◌<◌, List, [], ◌∷◌, ◌++◌, length, Option, Some, None, refl, sym, ap, ◌∙◌, subst, arith, length-append}
 use Rattle.std.specs.Prelude.{◌-◌, ◌^◌, Bool, false, nat_le, slice_get, if◌then◌else◌}
 use Rattle.turn_code.specs.Valid.{IsValid}
@@ -49,7 +49,7 @@ pub none_left : (o : Option Refusal) → ((r : Refusal) → o ≡ Some r → ⊥
 none_left None h = refl
 none_left (Some r) h = absurd (h r refl)
 
--- the link doesn't refuse it either
+-- the link doesn't refuse the event either
 pub link_takes : (b : Ledger) (e : Event) → Takes b e → refuses b.set (state_of b) e ≡ None
 link_takes b e h = none_first (room b (state_of b)) e (refuses b.set (state_of b) e) h
 
@@ -62,7 +62,7 @@ link_after d w e = (step d (runs d) w e).to
 abbrev pub after_step : Ledger → Core → Event → Core
 after_step b w e = link_after b.set w e
 
--- ---- a book, with its link in memory, that takes an event: `old` is the book as callers see it
+-- ---- a book that accepts an event, with its link in memory; `old` is the book as callers see it
 module _ (keeps : KeepsLaw) (b old : Ledger) (view : b ≡ old) (w : Core) (c : ℕ) (inside : IsBook b w c) (e : Event) (takes : Takes old e) where
   pub takes_too : Takes b e
   takes_too = subst (λ (x : Ledger). Takes x e) (sym view) takes
@@ -73,7 +73,7 @@ module _ (keeps : KeepsLaw) (b old : Ledger) (view : b ≡ old) (w : Core) (c : 
   kept_more : IsKept (noted b e)
   kept_more = subst (λ (x : Ledger). IsKept x) (grows b e takes_too) (keeps.asks b e inside.kept)
 
-  -- there is room for it
+  -- there is room for the event
   pub fits : length b.journal < c
   fits =
       let longer : length (b.journal ++ e ∷ []) ≡ length b.journal + 1 = length-append b.journal (e ∷ []) in
@@ -94,7 +94,7 @@ module _ (keeps : KeepsLaw) (b old : Ledger) (view : b ≡ old) (w : Core) (c : 
       let same : next b ≡ next old = ap next view in
       omega arith
 
-  -- the link's step is the new state, so the book stays one
+  -- the link's step is the new state, so the invariant holds again
   pub new_inside : StateLaw → (js : List Event) (v : Core) (d : ℕ) → js ≡ b.journal ++ e ∷ [] → v ≡ after_step b w e → c ≤ d → IsBook (with_journal b js) v d
   new_inside state js v d k h le =
       let held : b.limit ≤ c = inside.held in

@@ -1,4 +1,4 @@
--- Turns of actors, from their beginning to their end.
+-- Turns of actors, from beginning to end.
 use Rattle.std.proofs.Common.{◌≡◌, ℕ, ◌≤◌, List, Option, Some, None, refl, sym, ap, ◌∙◌, subst}
 use Rattle.std.specs.Prelude.{IsSome, slice_get}
 use Rattle.turn_code.specs.Outcome.{outcome_in}
@@ -38,7 +38,7 @@ pub the_turn : (o : Option Turn) → IsSome o → (t : Turn) × (o ≡ Some t)
 the_turn None h = absurd (cc)
 the_turn (Some t) h = (t, refl)
 
--- a given turn that ran where its code stands
+-- a given turn that ran with its code in place
 pub ends_with : (d : Draft) (n : ℕ) (p : ProcessNumber) (s : Place) (g : Given) (e : End) (m : Machine) → EndsSo d p.0 s g.number g.input e m
     → IsEnding (turn_with n p s g (transition_at d p.0 s g.number)) e m
 ends_with d n p s g e m h = record {
@@ -64,7 +64,7 @@ pub out_at : (b old : Ledger) (w : Core) (c : ℕ) → b ≡ old → IsBook b w 
     → IsSome (turn_out old n) → IsSome (turn_at b.set n (slice_get xs n))
 out_at b old w c view inside xs n h some = subst (λ (o : Option Turn). IsSome o) (sym (turn_is b old w c view inside xs n h)) some
 
--- and so is its end, with the variables and effects by any other name
+-- and so is its end, with the variables and effects under other names
 pub ends_out : (b old : Ledger) (w : Core) (c : ℕ) → b ≡ old → IsBook b w c → (xs : List Actor) (n : ℕ) → xs ≡ w.actors → (e : End) (m : Machine)
     → (vs : List (Option Value)) (es : List Effect) → vs ≡ m.variables.items → es ≡ m.effects.items
     → IsEnding (turn_at b.set n (slice_get xs n)) e m → EndsBy (turn_out old n) e vs es m.count

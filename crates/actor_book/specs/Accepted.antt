@@ -8,6 +8,6 @@ use Rattle.actor_machine.specs.declared.reply.Refusal.{Refusal}
 abbrev pub refusal_of : Ledger → Event → Option Refusal
 refusal_of b e = refusal_by (runs b.set) b e
 
--- it takes the event
+-- a book accepts an event
 abbrev pub Takes : Ledger → Event → Type 0
 Takes b e = refusal_of b e ≡ None

@@ -1,4 +1,4 @@
--- What the calls of a book answer, as the machine says it.
+-- The answers of a book's calls, as the machine states them.
 use Rattle.std.specs.Prelude.{Result, Ok, Err}
 use Rattle.turn_machine.specs.Turn.{Turn}
 use Rattle.actor_machine.specs.Step.{Answer, Says}
@@ -7,12 +7,12 @@ use Rattle.actor_machine.specs.declared.reply.Refusal.{Refusal}
 use Rattle.actor_machine.specs.declared.reply.Reply.{Reply}
 use Rattle.actor_machine.specs.declared.reply.Reply.TheVariants.{Begun, Refused}
 
--- what a call that may be refused answers, by what its answer means otherwise
+-- a call's answer: its refusal, or the reply for its result
 abbrev pub answer_by : {A : Type 0} → (A → Reply) → Result A Refusal → Answer
 answer_by f (Ok x) = Says (f x)
 answer_by f (Err r) = Says (Refused r)
 
--- a turn that began
+-- the reply for a turn that began
 abbrev pub begun_of : Turn → BeginsTurn
 begun_of t = record { turn = t.turn; place = t.place; number = t.input_number }
 

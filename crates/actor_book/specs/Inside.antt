@@ -1,11 +1,11 @@
--- What a book holds.
+-- The invariant of a book.
 use Rattle.std.specs.Prelude.{◌≡◌, ℕ, ◌≤◌}
 use Rattle.actor_machine.specs.Core.{Core}
 use Rattle.actor_machine.specs.Ledger.{Ledger, state_of}
 use Rattle.actor_machine.specs.Kept.{IsKept}
 
--- the link in memory is the replay of the journal, all fits along it, and there is memory for as
--- many events as the journal may hold
+-- the link in memory is the replay of the journal, all fits along it, and the journal's memory
+-- suffices for its limit
 pub record IsBook (b : Ledger) (w : Core) (capacity : ℕ) : Type 0 where
   pub state : w ≡ state_of b
   pub kept : IsKept b

@@ -1,10 +1,10 @@
--- What turns and rests are, said without the order in which actors are tried.
+-- Turns and rests, without the order in which actors are tried.
 use Rattle.std.specs.Prelude.{◌≡◌, ◌≢◌, ℕ, zero, suc, ◌+◌, ◌<◌}
 use Rattle.actor_book.specs.Ledger.{Ledger}
 use Rattle.actor_book.specs.declared.turn.Turn.TheVariants.{Made, Blocked, Idle}
 use Rattle.actor_book.specs.Turns.{Tried, stays, tried, actors_in, least_turn, rests}
 
--- this actor can have a turn, or could if there were room in the journal, and no lesser one can
+-- this actor can have a turn, or could if the journal had room, and no lesser one can
 pub record IsLeast (b : Ledger) (n : ℕ) : Type 0 where
   pub there : n < actors_in b
   pub can : (tried n b).turn ≢ Idle
@@ -13,20 +13,20 @@ pub record IsLeast (b : Ledger) (n : ℕ) : Type 0 where
 abbrev pub NoneCan : Ledger → Type 0
 NoneCan b = (n : ℕ) → n < actors_in b → (tried n b).turn ≡ Idle
 
--- what is tried is the least actor's turn; where none can have one nothing happens
+-- a try is the least actor's turn; if no actor can have one, nothing happens
 pub data IsTurn (b : Ledger) : Tried → Type 0 where
   of_least : (n : ℕ) → IsLeast b n → IsTurn b (tried n b)
   of_none : NoneCan b → IsTurn b (stays b Idle)
 
--- what comes to nothing leaves the book as it is
+-- a try that isn't Made leaves the book as it is
 abbrev pub StaysLaw : Type 0
 StaysLaw = (n : ℕ) (b : Ledger) → (tried n b).turn ≢ Made → (tried n b).book ≡ b
 
 abbrev pub TurnLaw : Type 0
 TurnLaw = (b : Ledger) → IsTurn b (least_turn b)
 
--- Up to so many turns, each of the least actor that can, come one after another; there are less
--- only where none can, or where the journal has no room for the least that could.
+-- At most so many turns, each of the least actor that can. There are fewer only if none can, or if
+-- the journal has no room for the least that could.
 pub data IsRun : ℕ → Ledger → ℕ → Ledger → Type 0 where
   spent : (b : Ledger) → IsRun zero b 0 b
   none_can : (k : ℕ) (b : Ledger) → NoneCan b → IsRun k b 0 b

@@ -1,4 +1,4 @@
--- How much a link may hold.
+-- The limits of a link's memory.
 use Rattle.std.specs.Prelude.{ℕ, ◌≤◌}
 use Rattle.plain_laws.specs.Limits.{LEAST_ENVIRONMENT, LEAST_JOURNAL, LEAST_PORT}
 use Rattle.plain_laws.specs.Limits.{MOST_ENVIRONMENT, MOST_JOURNAL, MOST_PORT}

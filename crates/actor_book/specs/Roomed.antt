@@ -1,4 +1,4 @@
--- Turns that begin into a worker's room, and end from it.
+-- Turns that begin into a worker's room and end from it.
 use Rattle.std.specs.Prelude.{◌≡◌, ◌≤◌, ℕ, List, Option, Some, codes}
 use Rattle.turn_machine.specs.Rooms.{Lying, Free, Begun, Ran}
 use Rattle.turn_machine.specs.Turn.{Turn}
@@ -13,45 +13,45 @@ use Rattle.actor_book.specs.Meant.{FinishesByText}
 use Rattle.actor_book.specs.declared.rooms.RoomRefusal.{RoomRefusal}
 use Rattle.actor_book.specs.declared.rooms.RoomRefusal.TheVariants.{Taken, Refused}
 
--- there is a turn, and it lies in the room and is to run
+-- there is a turn, and the room holds it before its run
 pub record LiesOut (o : Option Turn) (r : Lying) : Type 0 where
   pub turn : Turn
   pub is : o ≡ Some turn
   pub lies : r ≡ Begun turn
 
--- an actor has begun a turn: what it has out then lies in the room
+-- an actor has begun a turn, and the room holds the turn that it then has out
 pub record BeginsThere (b : Ledger) (actor : ℕ) (c : Ledger) (r : Lying) : Type 0 where
   pub turn : Turn
   pub lies : r ≡ Begun turn
   pub out : turn_out c actor ≡ Some turn
   pub began : (ask b (Begin actor)).answer ≡ Says (begun_by turn)
 
--- why it begins none: the room isn't free, or it is and the book refuses it
+-- why no turn begins: the room isn't free, or it is and the book refuses the turn
 abbrev pub BeginsNone : Ledger → ℕ → Lying → RoomRefusal → Type 0
 BeginsNone b actor r Taken = r ≡ Free → ⊥
 BeginsNone b actor r (Refused x) =
     (r ≡ Free) × ((ask b (Begin actor)).answer ≡ Says (reply.Refused x))
 
--- what ran in the room is the turn that its actor has out
+-- the turn that ran in the room is the one that its actor has out
 abbrev pub IsOutThere : Ledger → Lying → Type 0
 IsOutThere b Free = ⊥
 IsOutThere b (Begun t) = ⊥
 IsOutThere b (Ran t) = turn_out b t.actor ≡ Some t
 
--- so of the actor with this number
+-- the turn that ran in the room is the one that this actor has out
 abbrev pub HasOutThere : Ledger → Lying → ℕ → Type 0
 HasOutThere b Free actor = ⊥
 HasOutThere b (Begun t) actor = ⊥
 HasOutThere b (Ran t) actor = (t.actor ≡ actor) × (turn_out b actor ≡ Some t)
 
--- a turn that its actor had out ended with this report, which is so by anything that the set means
+-- a turn that its actor had out ended with this report, also by any meaning of the set
 pub record EndsTurn (b : Ledger) (t : Turn) (report : Report) (c : Ledger) : Type 0 where
   pub book : c ≡ (ask b (Finish t.actor)).book
   pub answers : (ask b (Finish t.actor)).answer ≡ Says (reply.Finished report)
   pub by_text : FinishesByText b t.actor report c
   pub within : report.count ≤ t.certificate.budget
 
--- what ran in the room has ended so
+-- the turn that ran in the room has ended with this report
 abbrev pub EndsThere : Ledger → Lying → Report → Ledger → Type 0
 EndsThere b Free report c = ⊥
 EndsThere b (Begun t) report c = ⊥

@@ -1,7 +1,6 @@
--- One turn of a link that is left to itself, and a rest of them. An actor can have a turn where the
--- book takes its Begin, or refuses it since an item has to be thrown away first (B11) and takes its
--- Skip. It could if there were room where the journal alone is against that (B8). Else it can do
--- nothing.
+-- One turn of a link, and rests. An actor can have a turn if the book accepts its Begin. It can
+-- also if the book refuses that because an item has to be thrown away first (B11), and accepts its
+-- Skip. If only the journal lacks room (B8), the actor is blocked. Otherwise it can do nothing.
 use Rattle.std.specs.Prelude.{ℕ, zero, suc, ◌+◌, Option, Some, None, length}
 use Rattle.actor_book.specs.Ledger.{Ledger, state_of, ask}
 use Rattle.actor_book.specs.Step.{Answer, Stuck, Says}
@@ -13,12 +12,12 @@ use Rattle.actor_book.specs.actor_machine_types.reply.Reply.TheVariants.{Refused
 use Rattle.actor_book.specs.declared.turn.Turn.{Turn}
 use Rattle.actor_book.specs.declared.turn.Turn.TheVariants.{Made, Blocked, Idle}
 
--- the book after a try, and what came of it
+-- the book after a try, and the try's result
 pub record Tried : Type 0 where
   pub book : Ledger
   pub turn : Turn
 
--- a journal without room is told apart; by any other refusal the actor can do nothing
+-- a refusal for lack of journal room blocks; after any other the actor can do nothing
 abbrev pub turn_refused : Refusal → Turn
 turn_refused JournalFull = Blocked
 turn_refused _ = Idle
@@ -40,11 +39,11 @@ abbrev pub skips_by : Ledger → Ledger → Option Refusal → Tried
 skips_by b c None = record { book = c; turn = Made }
 skips_by b c (Some r) = stays b (turn_refused r)
 
--- an item that is no input of the actor's state is thrown away
+-- an item that the actor's state has no input for is thrown away
 abbrev pub skips : ℕ → Ledger → Tried
 skips n b = skips_by b (ask b (Skip n)).book (refusal_in (ask b (Skip n)).answer)
 
--- a turn that began ends by what the set's own code does
+-- a turn that began ends as the set's own code does it
 abbrev pub ends : ℕ → Ledger → Tried
 ends n c = record { book = (ask c (Finish n)).book; turn = Made }
 
@@ -56,8 +55,8 @@ abbrev pub begins_by : ℕ → Ledger → Ledger → Option Refusal → Tried
 begins_by n b c None = ends n c
 begins_by n b c (Some r) = by_refusal n b r
 
--- actor n has a turn, from its beginning to its end, or throws an item away, if it can; else
--- nothing happens, and why is told
+-- actor n has a whole turn, or throws an item away, if it can; otherwise nothing happens, and the
+-- result says why
 unfoldable pub tried : ℕ → Ledger → Tried
 tried n b = begins_by n b (ask b (Begin n)).book (refusal_in (ask b (Begin n)).answer)
 
@@ -65,13 +64,13 @@ tried n b = begins_by n b (ask b (Begin n)).book (refusal_in (ask b (Begin n)).a
 abbrev pub actors_in : Ledger → ℕ
 actors_in b = length (state_of b).actors
 
--- the first try where it came to something, else the second
+-- the first try if it isn't Idle, otherwise the second
 abbrev pub first_that : Tried → Tried → Turn → Tried
 first_that t u Made = t
 first_that t u Blocked = t
 first_that t u Idle = u
 
--- the same of so many actors from number n on
+-- the first try that isn't Idle, of so many actors from number n on
 unfoldable pub first_from : ℕ → ℕ → Ledger → Tried
 first_from zero n b = stays b Idle
 first_from (suc k) n b = first_that (tried n b) (first_from k (n + 1) b) (tried n b).turn
@@ -97,7 +96,7 @@ goes_on b r Made = one_more r
 goes_on b r Blocked = record { book = b; turns = 0 }
 goes_on b r Idle = record { book = b; turns = 0 }
 
--- one turn after another, so many at most
+-- turn after turn, at most so many
 unfoldable pub rests : ℕ → Ledger → Rested
 rests zero b = record { book = b; turns = 0 }
 rests (suc k) b = goes_on b (rests k (least_turn b).book) (least_turn b).turn

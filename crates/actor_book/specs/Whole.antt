@@ -1,4 +1,4 @@
--- Turns of actors, from their beginning to their end.
+-- Turns of actors, from beginning to end.
 use Rattle.std.specs.Prelude.{◌≡◌, ℕ, ◌≤◌, List, length, Option, Some}
 use Rattle.turn_code.specs.declared.value.Value.{Value}
 use Rattle.turn_code.specs.declared.effect.Effect.{Effect}
@@ -11,12 +11,12 @@ use Rattle.actor_machine.specs.Step.{Says}
 use Rattle.actor_machine.specs.declared.event.Event.TheVariants.{Begin, Finish}
 use Rattle.actor_book.specs.Answered.{begun_by}
 
--- the book as actor n has begun a turn
+-- the book once actor n has begun a turn
 abbrev pub begun_book : Ledger → ℕ → Ledger
 begun_book b n = (ask b (Begin n)).book
 
--- actor n begins a turn, which then ends by what the set's own code does: the book after both
--- events, and what is answered to the end
+-- actor n begins a turn and ends it as the set's own code does: the book after both events, and the
+-- answer to the end
 abbrev pub turned : Ledger → ℕ → Asked
 turned b n = ask (begun_book b n) (Finish n)
 
@@ -27,8 +27,8 @@ pub record HasTurned (b : Ledger) (n count : ℕ) : Type 0 where
   pub began : (ask b (Begin n)).answer ≡ Says (begun_by turn)
   pub within : count ≤ turn.certificate.budget
 
--- there is a turn, whose own code runs on its own input to this end, with these variables and
--- effects, within its certificate
+-- there is a turn whose code, run on its input, ends so, with these variables and effects, within
+-- its certificate
 pub record EndsBy (o : Option Turn) (e : End) (vs : List (Option Value)) (es : List Effect)
     (count : ℕ) : Type 0 where
   pub turn : Turn
@@ -37,7 +37,7 @@ pub record EndsBy (o : Option Turn) (e : End) (vs : List (Option Value)) (es : L
   pub within : count ≤ turn.certificate.budget
   pub few : length es ≤ turn.certificate.effects
 
--- so with the machine as it is as the run ends
+-- there is a turn that ends so, with the machine at the end of its run
 abbrev pub IsEnding : Option Turn → End → Machine → Type 0
 IsEnding o e m = EndsBy o e m.variables.items m.effects.items m.count
 

@@ -18,9 +18,9 @@ use turn_check::Verified;
 use turn_code::Machine;
 use turn_machine::new_machine;
 
-/// The instances of the processes of a link as actors, with the journal of what happened to them.
+/// The instances of a link's processes as actors, with the journal of their events.
 ///
-/// After `open` only `rebase` can answer that memory is wanting.
+/// After `open` only `rebase` can run out of memory.
 #[derive(Drop)]
 pub struct Book {
     pub(crate) set: Verified,
@@ -29,7 +29,7 @@ pub struct Book {
     pub(crate) journal: Vec<Event>,
     pub(crate) limit: usize,
     pub(crate) link: LinkActors,
-    /// What turns that begin and end at once run on.
+    /// The machine on which whole turns run (`turn`).
     pub(crate) machine: Machine,
 }
 
@@ -50,8 +50,8 @@ impl Model for Book {
 }
 
 impl Book {
-    /// The book of a set of processes: each instance of each process is an actor, numbered from 0 by process in text order, then by
-    /// instance, before its START. It keeps the set, and makes all its room.
+    /// The book of a set of processes. Each instance of each process is an actor before its START. Actors are numbered
+    /// from 0, by process in text order, then by instance. The book copies the set, and allocates all its memory.
     pub fn open(alloc: Global, set: &Verified, limits: Limits) -> Result<Book, AllocError>
         ensures { IfOk result (λ b. b ≡ opened_book set.now limits.port limits.env limits.journal) }
     {
@@ -76,7 +76,7 @@ impl Book {
     ///
     /// # Errors
     ///
-    /// Where there is no memory: nothing changes.
+    /// If memory runs out. Then nothing changes.
     pub fn rebase(&mut self) -> Result<(), AllocError>
         ensures ok { OnOk result (self.new ≡ rebased self.old) }
         ensures err { OnErr result (self.new ≡ self.old) }
@@ -89,7 +89,7 @@ impl Book {
         Ok(())
     }
 
-    /// The place of the next event of the journal. It never comes to 2^57.
+    /// The place of the journal's next event. It is always less than 2^57.
     pub fn next(&self) -> u64
         ensures value { result ≡ next self.now }
         ensures in_range { result < PAST_PLACES }
@@ -97,7 +97,7 @@ impl Book {
         self.first + self.journal.len() as u64
     }
 
-    /// How many places of the journal are free: each turn that is out keeps one, and from place 2^56 on none is.
+    /// How many places of the journal are free. Each turn that is out reserves one; from place 2^56 on none is free.
     pub fn room(&self) -> usize
         ensures { result ≡ room self.now (state_of self.now) }
     {
@@ -108,7 +108,7 @@ impl Book {
         }
     }
 
-    /// How many turns are out: those that have begun and haven't ended. No actor is looked at.
+    /// How many turns are out (begun and not ended). This looks at no actor.
     fn outs(&self) -> usize
         ensures { result ≡ outs (state_of self.now).actors }
     {
@@ -117,10 +117,10 @@ impl Book {
         (link.turns() - link.finishes()) as usize
     }
 
-    /// What holds of every book, wherever it comes from, as from a lock: its set is valid, all fits in each state from its base on (signals
-    /// came along routes that bring them, timers are their receivers' own, a turn that is out has an input that fits it), its numbers stay
-    /// within their bounds, each turn that is out has a number of its own, and no timer that has a deadline has a signal waiting. That is what
-    /// the laws of [`actor_machine`] ask. It does nothing and costs nothing.
+    /// Every book's invariant, wherever the book comes from, such as from a lock. Its set is valid, and all fits in
+    /// each state from the base on: signals came along their routes, timers are their receivers' own, and each turn
+    /// that is out has a fitting input and its own number. Numbers stay in range, and no timer with a deadline has a
+    /// signal waiting. The laws of [`actor_machine`] require this. Calling it costs nothing.
     pub fn keeps(&self)
         ensures { IsKept self.now }
     {

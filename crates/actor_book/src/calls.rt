@@ -1,4 +1,4 @@
-//! What the environment and the clock do to a link.
+//! Events of a link that come from the environment and the clock.
 
 ghost use Rattle.std.specs.Prelude.{◌≡◌, ◌≤◌, ◌<◌, ◌+◌, ◌^◌, [], length, IfOk, IfErr, OnOk, OnErr, Some, None, Option};
 ghost use Rattle.actor_machine.specs.Ledger.{ask, next};
@@ -22,16 +22,16 @@ pub struct Passed {
     pub due: usize,
 }
 
-/// What waited for the environment.
+/// A signal taken by the environment.
 #[derive(Drop)]
 pub struct Taken {
     /// The place of this event in the journal.
     pub place: u64,
-    /// The signal that had waited longest.
+    /// The oldest signal that waited.
     pub emitted: Emitted,
 }
 
-/// The event of these values, of which there are at most as many as a signal has.
+/// The offer of a signal with these values, at most as many as a signal has.
 fn offer_of(actor: u16, signal: SignalNumber, values: &[Value]) -> Offer
     requires { length values.now ≤ MOST_PARAMETERS }
     ensures { result ≡ record { actor = actor; signal = signal; values = record { items = values.now } } }
@@ -47,12 +47,12 @@ fn offer_of(actor: u16, signal: SignalNumber, values: &[Value]) -> Offer
 }
 
 impl Book {
-    /// A signal of the environment comes to an actor. Its place in the journal.
+    /// Offers a signal from the environment to an actor. Returns the event's place in the journal.
     ///
     /// # Errors
     ///
-    /// In this order: `B10 NoActor`, `B2 Stopped`, `B3 NoRoute` where no route brings this signal with parameters of these sorts from
-    /// the environment, `B1 Full`, `B8 JournalFull`. Then nothing changes.
+    /// In this order: `B10 NoActor`, `B2 Stopped`, `B3 NoRoute` if no route brings this signal with parameters of these
+    /// sorts from the environment, `B1 Full`, `B8 JournalFull`. Then nothing changes.
     pub fn offer(
         &mut self,
         actor: u16,
@@ -75,12 +75,12 @@ impl Book {
         Ok(place)
     }
 
-    /// So many ticks pass: the signals of the timers that are due come to the ports of their actors.
+    /// Lets so many ticks pass. The signals of due timers are put into their actors' ports.
     ///
     /// # Errors
     ///
-    /// In this order: `W1 TooFar` for more than 65,535 ticks, `W2 ClockFull` where the clock would pass 2^62, `B8 JournalFull`.
-    /// Then nothing changes.
+    /// In this order: `W1 TooFar` for more than 65,535 ticks, `W2 ClockFull` if the clock would exceed 2^62, `B8
+    /// JournalFull`. Then nothing changes.
     pub fn advance(&mut self, ticks: u64) -> Result<Passed, Refusal>
         ensures book { self.new ≡ (ask self.old (Advance ticks)).book }
         ensures answer { answer_by (λ p. reply.Passed p.due) result ≡ (ask self.old (Advance ticks)).answer }
@@ -98,7 +98,7 @@ impl Book {
         Ok(Passed { place, due })
     }
 
-    /// The environment takes the signal that has waited longest for it.
+    /// Takes the oldest signal that waits for the environment.
     ///
     /// # Errors
     ///
@@ -118,7 +118,7 @@ impl Book {
         Ok(Taken { place, emitted })
     }
 
-    /// An actor throws away the first item that its state doesn't save, which is no input there. The signal or timer of it.
+    /// Throws away the first item that an actor's state doesn't save, if it is no input there. Returns its trigger.
     ///
     /// # Errors
     ///

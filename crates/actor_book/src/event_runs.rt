@@ -12,12 +12,12 @@ use actor_machine::laws::{set_law, text_law, within_law};
 use actor_machine::{Event, Reply};
 use std::alloc::{AllocError, Global};
 
-/// Lets events happen to a link, one after another: an accepted one goes into the journal, a refused one changes nothing. The answers
-/// in order. It makes its room before the first event.
+/// Applies events to a link in order, and returns the answers in order. An accepted event goes into the journal; a
+/// refused one changes nothing. All memory is allocated before the first event; if it runs out, nothing changes.
 ///
-/// No turn gets stuck: none reads a variable that isn't set, meets an operand of the wrong sort or one that isn't there, lacks a next state, a
-/// receiver or an answer, or leaves its code. Each does what the set's own code does, and what the code means: by anything that the set means
-/// the answers are the same, and so are the book and the state afterwards.
+/// No turn gets stuck: none reads an unset variable, meets a missing operand or one of the wrong sort, lacks a next
+/// state, a receiver or an answer, or leaves its code. Each turn does what the set's code does, and what the code
+/// means. By any meaning of the set, the answers, the book and the state afterwards are the same.
 pub fn run_events(
     alloc: Global,
     book: &mut Book,
@@ -39,7 +39,7 @@ pub fn run_events(
     Ok(replies)
 }
 
-/// Lets events happen, and puts each answer behind those before.
+/// Applies events in order, and appends their answers.
 fn run_each(book: &mut Book, events: &[Event], replies: &mut Vec<Reply>)
     requires { length replies.old.items + length events.now ≤ vec_capacity replies.old }
     ensures replies { map Says replies.new.items ≡ map Says replies.old.items ++ answers_by (runs book.old.set) book.old events.now }
@@ -52,7 +52,7 @@ fn run_each(book: &mut Book, events: &[Event], replies: &mut Vec<Reply>)
     }
 }
 
-/// One answer more, where there is room.
+/// Appends an answer. There must be room.
 fn put(replies: &mut Vec<Reply>, reply: Reply)
     requires { length replies.old.items < vec_capacity replies.old }
     ensures items { replies.new.items ≡ replies.old.items ++ reply ∷ [] }

@@ -1,4 +1,4 @@
-//! Jobs made once more, and compared with those that are out.
+//! Jobs that are made again, and compared with those that are out.
 
 ghost use Rattle.std.specs.Prelude.{◌≡◌, ◌↔◌, ◌≤◌, IsTrue, Option, Some, None, length, slice_get};
 ghost use Rattle.turn_code.specs.Fits.{Fits};
@@ -47,7 +47,7 @@ fn job_of(set: &Verified, number: u16, actor: &Actor) -> Option<Job>
     }
 }
 
-/// The job of actor `number`, if there is one that has a turn out.
+/// The job of actor `number`, if it exists and has a turn out.
 pub(crate) fn job_at(set: &Verified, actors: &[Actor], number: u16) -> Option<Job>
     requires { (a : PlainActor) → slice_get actors.now number ≡ Some a → GivenFits set.now a.name.process.0 a.standing a.given }
     ensures { result ≡ turn_at set.now number (slice_get actors.now number) }
@@ -58,7 +58,7 @@ pub(crate) fn job_at(set: &Verified, actors: &[Actor], number: u16) -> Option<Jo
     }
 }
 
-/// Whether it is that of a turn.
+/// Whether this is the work of a turn.
 fn is_job_with(
     set: &Verified,
     number: u16,
@@ -78,7 +78,7 @@ fn is_job_with(
     }
 }
 
-/// Whether it is that of an actor with a turn out.
+/// Whether this is the work of an actor's turn, if the actor has one out.
 fn is_job_of(set: &Verified, number: u16, actor: &Actor, work: &Work) -> bool
     ensures { IsTrue result ↔ (turn_given set.now number actor.now.name.process actor.now.standing actor.now.given ≡ Some work.now) }
 {
@@ -91,7 +91,7 @@ fn is_job_of(set: &Verified, number: u16, actor: &Actor, work: &Work) -> bool
     }
 }
 
-/// Whether it is the work of the turn that its actor has out. The code is compared with that of the set.
+/// Whether this is the work of the turn that its actor has out. Its code is compared with the set's.
 pub(crate) fn is_job_out(set: &Verified, actors: &[Actor], work: &Work) -> bool
     ensures { IsTrue result ↔ (turn_at set.now work.now.actor (slice_get actors.now work.now.actor) ≡ Some work.now) }
 {

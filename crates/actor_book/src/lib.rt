@@ -1,6 +1,6 @@
-//! The book of a link: its actors with their ports, timers, clock and what waits for the environment, and a
-//! journal of what happened to them. Each call is one event of the link, and the state is at any time the replay of the
-//! journal on the state where it begins.
+//! The book of a link: its actors with their ports, timers and clock, the signals that wait for the environment, and a
+//! journal of events. Each call is one event. At any time the state is the replay of the journal on the state where it
+//! begins.
 #![tactic(auto)]
 
 mod book;

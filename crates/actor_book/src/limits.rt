@@ -1,4 +1,4 @@
-//! How much a link may hold.
+//! The limits of a link's memory.
 
 ghost use Rattle.std.specs.Prelude.{◌≡◌, ◌↔◌, ◌≤◌, IsSome, IfSome};
 ghost use Rattle.actor_book.specs.Limits.{AreLimits};
@@ -28,7 +28,7 @@ impl Model for Limits {
 }
 
 impl Limits {
-    /// These numbers, where each is in its range.
+    /// These limits, if each is in its range.
     pub fn new(port: usize, env: usize, journal: usize) -> Option<Limits>
         ensures fits { IsSome result ↔ AreLimits port env journal }
         ensures value { IfSome result (λ l. l ≡ record { port = port; env = env; journal = journal }) }

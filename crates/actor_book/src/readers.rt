@@ -1,4 +1,4 @@
-//! What a book shows.
+//! Reading a book.
 
 ghost use Rattle.std.specs.Prelude.{◌≡◌, ◌≤◌, ◌+◌, length, count_by, Option, Some, None, option_map, option_and_then, slice_get};
 ghost use Rattle.std.specs.Option.{option_copied};
@@ -14,7 +14,7 @@ use actor_state::LinkActors;
 use turn_check::Verified;
 use turn_code::{Value, VariableNumber};
 
-/// The value of a variable, if there is one that is set.
+/// The value of a variable, if it exists and is set.
 fn variable_in(actor: &Actor, variable: VariableNumber) -> Option<Value>
     ensures { result ≡ variable_of (Some actor.now) variable.0 }
 {
@@ -53,28 +53,28 @@ impl Book {
         self.first
     }
 
-    /// What happened since the base, in order.
+    /// The events since the base, in order.
     pub fn journal(&self) -> &[Event]
         ensures { result.now ≡ self.now.journal }
     {
         self.journal.as_slice()
     }
 
-    /// What an actor is called. None where there is no such actor.
+    /// The name of an actor; none if there is no such actor.
     pub fn name_of(&self, actor: u16) -> Option<ActorName>
         ensures { result ≡ slice_get (names_in (state_of self.now).actors) actor }
     {
         self.link.name_of(actor)
     }
 
-    /// Where an actor is; while it has a turn out, where it was before. None where there is no such actor.
+    /// The state of an actor; while it has a turn out, the state before that turn. None if there is no such actor.
     pub fn state_of(&self, actor: u16) -> Option<Standing>
         ensures { result ≡ option_map (λ (a : PlainActor). a.standing) (slice_get (state_of self.now).actors actor) }
     {
         self.link.standing_of(actor)
     }
 
-    /// The value of a variable of an actor, if it is set; while a turn is out, the one that was before. None where there is no such actor or variable.
+    /// The value of an actor's variable, if it exists and is set. While a turn is out, the value before that turn.
     pub fn variable(&self, actor: u16, variable: VariableNumber) -> Option<Value>
         ensures { result ≡ variable_of (slice_get (state_of self.now).actors actor) variable.0 }
     {
@@ -84,7 +84,7 @@ impl Book {
         }
     }
 
-    /// The clock, in ticks. It is 2^62 at most.
+    /// The clock, in ticks; at most 2^62.
     pub fn clock(&self) -> u64
         ensures { result ≡ (state_of self.now).timers.clock }
     {
@@ -98,14 +98,14 @@ impl Book {
         self.link.waiting()
     }
 
-    /// The signal that waits for the environment at a place: 0 is that of the one that has waited longest.
+    /// The signal that waits for the environment at a place; the oldest is at 0.
     pub fn waiting_at(&self, place: usize) -> Option<&Emitted>
         ensures { option_copied result ≡ slice_get (state_of self.now).ring.items place }
     {
         self.link.waiting_at(place)
     }
 
-    /// How many turns have ended: those of the base and those of the journal.
+    /// How many turns have ended: those counted in the base and those in the journal.
     pub fn finishes(&self) -> u64
         ensures value { result ≡ (state_of self.now).finishes }
         ensures counted { result ≡ self.now.base.finishes + count_by is_finish self.now.journal }
@@ -113,7 +113,7 @@ impl Book {
         self.link.finishes()
     }
 
-    /// How many instructions the turns that have ended took.
+    /// How many instructions the ended turns took.
     pub fn instructions(&self) -> u64
         ensures { result ≡ (state_of self.now).instructions }
     {

@@ -13,7 +13,7 @@ use actor_state::{LinkActors, with_room};
 use turn_code::{SignalNumber, Value};
 
 impl Book {
-    /// The link's refusal of an event, or else that of a journal with too few free places, which is looked at only then.
+    /// The link's refusal of an event, or else the journal's if it lacks free places. The journal is checked last.
     #[inline]
     fn refusal_with(&self, needed: usize, refusal: Option<Refusal>) -> Option<Refusal>
         ensures { (e : PlainEvent) → needs e ≡ needed → refusal ≡ refuses self.now.set (state_of self.now) e → result ≡ refusal_of self.now e }
@@ -24,7 +24,7 @@ impl Book {
         with_room(self.room(), needed, None)
     }
 
-    /// Why a signal of the environment is refused, if it is.
+    /// Why a signal from the environment is refused, if it is.
     pub(crate) fn offer_refusal(
         &self,
         actor: u16,
@@ -53,7 +53,7 @@ impl Book {
         self.refusal_with(1, refusal)
     }
 
-    /// Why so many ticks can't pass now, if they can't: what `advance` would answer.
+    /// Why so many ticks can't pass now, if they can't: what `advance` would return.
     pub fn advance_refusal(&self, ticks: u64) -> Option<Refusal>
         ensures { result ≡ refusal_of self.now (Advance ticks) }
     {
@@ -61,7 +61,7 @@ impl Book {
         self.refusal_with(1, refusal)
     }
 
-    /// Why nothing can be taken for the environment, if so.
+    /// Why no signal can be taken for the environment, if so.
     pub(crate) fn take_refusal(&self) -> Option<Refusal>
         ensures { result ≡ refusal_of self.now TakeEnv }
     {

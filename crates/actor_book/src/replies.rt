@@ -11,7 +11,7 @@ use actor_machine::laws::out_law;
 use actor_machine::{Begun, Event, Offer, Refusal, Reply};
 use turn_machine::{Job, run};
 
-/// The answer to a signal of the environment.
+/// The answer to an offered signal.
 fn offered(book: &mut Book, offer: &Offer) -> Reply
     ensures book { book.new ≡ (ask book.old (Offered offer.now)).book }
     ensures reply { Says result ≡ (ask book.old (Offered offer.now)).answer }
@@ -22,7 +22,7 @@ fn offered(book: &mut Book, offer: &Offer) -> Reply
     }
 }
 
-/// A turn that began.
+/// The answer for a turn that began.
 fn begun_by(job: &Job) -> Begun
     ensures { result ≡ begun_of job.now }
 {
@@ -44,7 +44,7 @@ fn begun(book: &mut Book, actor: u16) -> Reply
     }
 }
 
-/// The answer as an item is thrown away.
+/// The answer to a skip.
 fn skipped(book: &mut Book, actor: u16) -> Reply
     ensures book { book.new ≡ (ask book.old (Skip actor)).book }
     ensures reply { Says result ≡ (ask book.old (Skip actor)).answer }
@@ -55,7 +55,7 @@ fn skipped(book: &mut Book, actor: u16) -> Reply
     }
 }
 
-/// The answer to the end of a turn: the job that the actor has out is made once more, and runs.
+/// The answer to the end of a turn: the job that the actor has out is made again and run.
 fn finished(book: &mut Book, actor: u16) -> Reply
     ensures book { book.new ≡ (ask book.old (Finish actor)).book }
     ensures reply { Says result ≡ (ask book.old (Finish actor)).answer }
@@ -71,7 +71,7 @@ fn finished(book: &mut Book, actor: u16) -> Reply
     }
 }
 
-/// The answer as ticks pass.
+/// The answer to ticks that pass.
 fn passed(book: &mut Book, ticks: u64) -> Reply
     ensures book { book.new ≡ (ask book.old (Advance ticks)).book }
     ensures reply { Says result ≡ (ask book.old (Advance ticks)).answer }
@@ -82,7 +82,7 @@ fn passed(book: &mut Book, ticks: u64) -> Reply
     }
 }
 
-/// The answer as the environment takes what waits for it.
+/// The answer when the environment takes a signal.
 fn taken(book: &mut Book) -> Reply
     ensures book { book.new ≡ (ask book.old TakeEnv).book }
     ensures reply { Says result ≡ (ask book.old TakeEnv).answer }

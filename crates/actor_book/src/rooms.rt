@@ -1,4 +1,4 @@
-//! Turns that begin into a worker's room, and end from it.
+//! Turns that begin into a worker's room and end from it.
 
 ghost use Rattle.std.specs.Prelude.{◌≡◌, ◌↔◌, ◌≤◌, ◌+◌, IsSome, IsOk, IfSome, IfNone, IfOk, IfErr, OnOk, OnErr, Option, Some, length, slice_get};
 ghost use Rattle.turn_code.specs.Fits.{Fits};
@@ -24,17 +24,17 @@ use turn_code::laws::effects_law;
 use turn_code::{Place, ProcessNumber};
 use turn_machine::{Ended, Room};
 
-/// Why no turn begins into a room. Then nothing changes, there and in the book.
+/// Why no turn begins into a room. Then neither the room nor the book changes.
 #[derive(Clone, Copy, PartialEq, Eq, Debug)]
 pub enum RoomRefusal {
-    /// A turn lies in the room that hasn't ended.
+    /// The room holds a turn that hasn't ended.
     Taken,
-    /// The book refuses it.
+    /// The book refuses the turn.
     Refused(Refusal),
 }
 
 impl RoomRefusal {
-    /// Its code and its name, as they are printed.
+    /// The refusal's code and name, as printed.
     pub fn name<'a>(self) -> &'a str
         ensures { result.now ≡ room_refusal_text self }
     {
@@ -99,12 +99,12 @@ fn put_at(set: &Verified, actors: &[Actor], number: u16, room: &mut Room)
 }
 
 impl Book {
-    /// An actor begins a turn, as by `begin`; its job is made in a room, where it is to run.
+    /// Begins an actor's turn, as `begin` does, and makes its job in a room, where it is to run.
     ///
     /// # Errors
     ///
-    /// In this order: `B13 Taken` where a turn lies in the room that hasn't ended, and those of `begin`: `B10 NoActor`, `B4 Busy`, `B5 Nothing`,
-    /// `B11 SkipFirst`, `B9 CountFull`, `B8 JournalFull` where less than two places are free. Then nothing changes.
+    /// `B13 Taken` if the room holds an unfinished turn, else as `begin`: `B10 NoActor`, `B4 Busy`, `B5 Nothing`, `B11
+    /// SkipFirst`, `B9 CountFull`, `B8 JournalFull` if fewer than two places are free. Then nothing changes.
     pub fn begin_in(&mut self, room: &mut Room, actor: u16) -> Result<(), RoomRefusal>
         ensures free { OnOk result (room.old ≡ Free) }
         ensures book { OnOk result (self.new ≡ (ask self.old (Begin actor)).book) }
@@ -126,7 +126,7 @@ impl Book {
         }
     }
 
-    /// An actor that can begin a turn begins it into a free room.
+    /// Begins a turn into a free room, for an actor that can begin one.
     fn begin_there(&mut self, room: &mut Room, actor: u16)
         requires free { room.old ≡ Free }
         requires takes { Takes self.old (Begin actor) }
@@ -143,7 +143,7 @@ impl Book {
         self.put_out(room, actor);
     }
 
-    /// Makes the job of an actor that has a turn out in a free room.
+    /// Makes, in a free room, the job of an actor that has a turn out.
     fn put_out(&self, room: &mut Room, actor: u16)
         requires free { room.old ≡ Free }
         requires out { IsSome (turn_out self.now actor) }
@@ -153,13 +153,13 @@ impl Book {
         put_at(&self.set, self.link.actors(), actor, room);
     }
 
-    /// An actor ends the turn that it has out and that ran in a room, as by `finish`; what ran there is compared with it whole. The room is free
-    /// then. All that is what the set means: where it comes from a text, what the text's transition does.
+    /// Ends an actor's turn that ran in a room, as `finish` does; what ran is compared with it whole. The room is free
+    /// then. The turn does what the set means: if it comes from a text, what the text's transition does.
     ///
     /// # Errors
     ///
-    /// `B6 Stranger`: nothing ran in the room, or what ran there isn't the turn that its actor has out in this book, as where it has ended already.
-    /// Nothing changes, there and in the book.
+    /// `B6 Stranger`: nothing ran in the room, or it isn't the turn that its actor has out in this book, for example if
+    /// it has ended already. Then neither the book nor the room changes.
     pub fn finish_in(&mut self, room: &mut Room) -> Result<Report, Refusal>
         ensures accepted { IsOk result ↔ IsOutThere self.old room.old }
         ensures ends { IfOk result (λ report. EndsThere self.old room.old report self.new) }
@@ -179,7 +179,7 @@ impl Book {
         }
     }
 
-    /// The actor whose turn ran in a room, where it is the one that it has out.
+    /// The actor whose turn ran in a room, if it has this turn out.
     fn actor_there(&self, room: &Room) -> Option<u16>
         ensures some { IfSome result (HasOutThere self.now room.now) }
         ensures none { IfNone result (IsOutThere self.now room.now → ⊥) }
@@ -196,7 +196,7 @@ impl Book {
         }
     }
 
-    /// The turn that an actor has out, and that ran in a room, ends.
+    /// Ends the turn that an actor has out and that ran in a room.
     fn end_there(&mut self, actor: u16, room: &Room) -> Report
         requires { HasOutThere self.old room.now actor }
         ensures ends { EndsThere self.old room.now result self.new }
@@ -207,7 +207,7 @@ impl Book {
         self.end_by(actor, room.ended())
     }
 
-    /// The turn that an actor has out ends so.
+    /// Ends the turn that an actor has out, as it ran.
     fn end_by(&mut self, actor: u16, ended: &Ended) -> Report
         requires { IsEnding (turn_out self.old actor) ended.now.end ended.now.machine }
         ensures book { self.new ≡ (ask self.old (Finish actor)).book }

@@ -1,4 +1,4 @@
-//! Events that a book takes: the link's step, and the event's place in the journal.
+//! Accepted events: the link's step, and the event's place in the journal.
 
 ghost use Rattle.std.specs.Prelude.{◌≡◌, ◌≤◌, ◌<◌, ◌+◌, ◌++◌, ◌∷◌, [], None, Some, Option, length, option_map, slice_get, vec_capacity};
 ghost use Rattle.turn_code.specs.Outcome.{Outcome};
@@ -19,7 +19,7 @@ use turn_code::laws::{effects_law, run_law};
 use turn_code::{SignalNumber, Trigger, Value};
 use turn_machine::{Done, Job};
 
-/// One event more, where there is room.
+/// Appends an event. There must be room.
 pub(crate) fn note(journal: &mut Vec<Event>, event: Event)
     requires { length journal.old.items < vec_capacity journal.old }
     ensures items { journal.new.items ≡ journal.old.items ++ event ∷ [] }
@@ -28,7 +28,7 @@ pub(crate) fn note(journal: &mut Vec<Event>, event: Event)
     journal.push_reserved(event);
 }
 
-/// The number of an actor that is there, of which a link has 128 at most.
+/// The number of an existing actor. A link has at most 128.
 pub(crate) fn number_in(link: &LinkActors, actor: u16) -> u8
     requires { actor < length link.now.actors }
     ensures value { result ≡ actor }
@@ -38,7 +38,7 @@ pub(crate) fn number_in(link: &LinkActors, actor: u16) -> u8
     actor as u8
 }
 
-/// What an actor that is there is called.
+/// The name of an existing actor.
 pub(crate) fn name_in(link: &LinkActors, actor: u16) -> ActorName
     requires { actor < length link.now.actors }
     ensures { slice_get (names_in link.now.actors) actor ≡ Some result }
@@ -58,7 +58,7 @@ fn input_variables(job: &Job) -> usize
     job.input().variables.len()
 }
 
-/// The variables as a turn ended.
+/// The variables at the end of a turn.
 fn variables_after(done: &Done) -> &[Option<Value>]
     ensures few { length result.now ≤ MOST_VARIABLES }
     ensures value { option_map (λ (o : Outcome). o.progress.variables) (outcome_of done.now) ≡ Some result.now }
@@ -69,7 +69,7 @@ fn variables_after(done: &Done) -> &[Option<Value>]
 }
 
 impl Book {
-    /// A signal of the environment that is taken.
+    /// Takes a signal from the environment that isn't refused.
     pub(crate) fn take_offer(&mut self, offer: Offer)
         requires { Takes self.old (Offered offer) }
         ensures book { self.new ≡ (ask self.old (Offered offer)).book }
@@ -83,7 +83,7 @@ impl Book {
         note(&mut self.journal, Event::Offer(offer));
     }
 
-    /// Ticks that may pass. How many timers were due.
+    /// Lets ticks pass that aren't refused. Returns how many timers were due.
     pub(crate) fn pass(&mut self, ticks: u64) -> usize
         requires { Takes self.old (Advance ticks) }
         ensures book { self.new ≡ (ask self.old (Advance ticks)).book }
@@ -97,7 +97,7 @@ impl Book {
         due
     }
 
-    /// What waits for the environment, where something does.
+    /// Takes the oldest signal that waits for the environment. There must be one.
     pub(crate) fn take_waiting(&mut self) -> Emitted
         requires { Takes self.old TakeEnv }
         ensures book { self.new ≡ (ask self.old TakeEnv).book }
@@ -115,7 +115,7 @@ impl Book {
         }
     }
 
-    /// An item that may be thrown away.
+    /// Throws away an item that isn't refused.
     pub(crate) fn throw(&mut self, actor: u16) -> Trigger
         requires { Takes self.old (Skip actor) }
         ensures book { self.new ≡ (ask self.old (Skip actor)).book }
@@ -134,7 +134,7 @@ impl Book {
         }
     }
 
-    /// A turn that may begin.
+    /// Begins a turn that isn't refused.
     pub(crate) fn start(&mut self, actor: u16)
         requires { Takes self.old (Begin actor) }
         ensures book { self.new ≡ (ask self.old (Begin actor)).book }
@@ -147,7 +147,7 @@ impl Book {
         note(&mut self.journal, Event::Begin(actor));
     }
 
-    /// The end of a turn that is out.
+    /// Ends a turn that is out.
     pub(crate) fn end(&mut self, actor: u16, done: &Done) -> Report
         requires { turn_out self.old actor ≡ Some done.now }
         ensures book { self.new ≡ (ask self.old (Finish actor)).book }

@@ -9,19 +9,19 @@ use actor_machine::Refusal;
 /// How many turns and skips a rest has at most.
 pub const REST: u32 = 10_000;
 
-/// What came of a try.
+/// The result of a try.
 #[derive(Clone, Copy, PartialEq, Eq, Debug)]
 pub enum Turn {
     /// The actor had a turn, from its beginning to its end, or threw a signal away.
     Made,
-    /// The journal has no room for it (B8).
+    /// The journal has no room for a turn (B8).
     Blocked,
     /// The actor can do nothing.
     Idle,
 }
 
-/// An actor has a turn, from its beginning to its end, or throws away a signal that its state has no input for, if it can. The book
-/// stays as it is where it can't.
+/// Gives an actor a whole turn if it can have one. Otherwise it throws away a signal that its state has no input for,
+/// if it can. If it can do neither, the book stays as it is.
 #[tactic(auto, unfolding(crate::specs::Turns::tried))]
 pub fn try_actor(book: &mut Book, actor: u16) -> Turn
     ensures turn { result ≡ (tried actor book.old).turn }
@@ -34,7 +34,7 @@ pub fn try_actor(book: &mut Book, actor: u16) -> Turn
     }
 }
 
-/// An actor throws a signal away, if it can.
+/// Throws away an actor's signal, if it can.
 fn skip(book: &mut Book, actor: u16) -> Turn
     ensures turn { result ≡ (skips actor book.old).turn }
     ensures book { book.new ≡ (skips actor book.old).book }
@@ -45,7 +45,7 @@ fn skip(book: &mut Book, actor: u16) -> Turn
     }
 }
 
-/// What a refusal says of a try.
+/// The result of a try that was refused.
 fn refused(refusal: Refusal) -> Turn
     ensures { result ≡ turn_refused refusal }
 {
@@ -55,15 +55,15 @@ fn refused(refusal: Refusal) -> Turn
     }
 }
 
-/// How many actors a link has, 128 at most.
+/// How many actors a link has, at most 128.
 fn actors_in(book: &Book) -> u16
     ensures { result ≡ actors_in book.now }
 {
     book.state().actors().len() as u16
 }
 
-/// The least actor that can has a turn, or throws a signal away: `Made`. It is `Blocked` where the journal has no room for that, and
-/// `Idle` where no actor can. Then nothing changes.
+/// Lets the least actor that can have a turn, or throw away a signal, do so: `Made`. Returns `Blocked` if the journal
+/// has no room for that, and `Idle` if no actor can. Then nothing changes.
 pub fn one_turn(book: &mut Book) -> Turn
     ensures turn { result ≡ (least_turn book.old).turn }
     ensures book { book.new ≡ (least_turn book.old).book }
@@ -78,8 +78,8 @@ pub fn one_turn(book: &mut Book) -> Turn
     Turn::Idle
 }
 
-/// One turn after another, each of the least actor that can, until none can, the journal is full, or there were 10,000 of
-/// them. How many there were. Actors that have a turn out keep it.
+/// Makes turn after turn, each of the least actor that can, until none can, the journal is full, or 10,000 were made.
+/// Returns how many there were. Actors that have a turn out keep it.
 pub fn rest(book: &mut Book) -> u32
     ensures turns { result ≡ (rests MOST_TURNS book.old).turns }
     ensures book { book.new ≡ (rests MOST_TURNS book.old).book }

@@ -15,12 +15,12 @@ use actor_machine::{Event, Refusal, Report};
 use turn_machine::{Done, Job, Work};
 
 impl Book {
-    /// An actor begins a turn: it takes the first item that its state doesn't save, or runs START.
+    /// Begins an actor's turn: it takes the first item that its state doesn't save, or runs START.
     ///
     /// # Errors
     ///
-    /// In this order: `B10 NoActor`, `B4 Busy`, `B5 Nothing`, `B11 SkipFirst`, `B9 CountFull`, `B8 JournalFull` where less than two
-    /// places are free, one of which is kept for the turn's end. Then nothing changes.
+    /// In this order: `B10 NoActor`, `B4 Busy`, `B5 Nothing`, `B11 SkipFirst`, `B9 CountFull`, `B8 JournalFull` if less
+    /// than two places are free, one of which is reserved for the turn's end. Then nothing changes.
     pub fn begin(&mut self, actor: u16) -> Result<Job, Refusal>
         ensures book { self.new ≡ (ask self.old (Begin actor)).book }
         ensures answer { answer_by begun_by result ≡ (ask self.old (Begin actor)).answer }
@@ -43,13 +43,13 @@ impl Book {
         }
     }
 
-    /// An actor ends the turn that it has out: its effects take place in text order, and then it comes to its next state, or
-    /// stops. Its end, its count of instructions, and the outputs that reached nobody. All that is what the set means: where it comes
-    /// from a text, what the text's transition does.
+    /// Ends the turn that an actor has out: its effects take place in text order, and it goes to its next state or
+    /// stops. Returns its end, its count of instructions, and the outputs that reached nobody. The turn does what the
+    /// set means: if the set comes from a text, what the text's transition does.
     ///
     /// # Errors
     ///
-    /// `B6 Stranger`: the job that ran isn't the one that this actor has out. It comes back, and nothing changes.
+    /// `B6 Stranger`: the job that ran isn't the one that this actor has out. The job is returned, and nothing changes.
     pub fn finish(&mut self, done: Done) -> Result<Report, Done>
         ensures accepted { IsOk result ↔ (turn_out self.old done.actor ≡ Some done) }
         ensures book { OnOk result (self.new ≡ (ask self.old (Finish done.actor)).book) }
@@ -69,7 +69,7 @@ impl Book {
         Ok(self.end(actor, &done))
     }
 
-    /// The job of an actor that has a turn out, made once more.
+    /// The job of an actor that has a turn out, made again.
     pub fn job(&self, actor: u16) -> Option<Job>
         ensures { result ≡ turn_out self.now actor }
     {
@@ -84,7 +84,7 @@ impl Book {
         self.has_work_out(done.job().work())
     }
 
-    /// Whether it is the work of the turn that its actor has out.
+    /// Whether this is the work of the turn that its actor has out.
     #[tactic(auto, unfolding(actor_machine::specs::Ledger::turn_out))]
     pub(crate) fn has_work_out(&self, work: &Work) -> bool
         ensures { IsTrue result ↔ (turn_out self.now work.now.actor ≡ Some work.now) }

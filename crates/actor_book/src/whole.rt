@@ -1,4 +1,4 @@
-//! Turns of actors, from their beginning to their end.
+//! Turns of actors, from beginning to end.
 
 ghost use Rattle.std.specs.Prelude.{◌≡◌, ℕ, ◌≤◌, ◌+◌, IsSome, IfOk, IfErr, OnOk, OnErr, Option, Some, None, length, slice_get};
 ghost use Rattle.turn_code.specs.Fits.{Fits};
@@ -64,15 +64,15 @@ fn run_at(set: &Verified, actors: &[Actor], number: u16, machine: &mut Machine) 
 }
 
 impl Book {
-    /// An actor has a whole turn: it begins it as `begin` does, its code runs where it stands in the set, and it ends as `finish` ends
-    /// it. Both events are in the journal. No job is made and no code is copied, so it is what a link has that keeps its turns to itself.
-    /// The turn's end, its count of instructions, and the outputs that reached nobody. All that is what the set means: where it comes from
-    /// a text, what the text's transition does.
+    /// Gives an actor a whole turn. It begins as by `begin`, its code runs in place in the set, and it ends as by
+    /// `finish`. Both events are in the journal. No job is made and no code is copied, so this suits a link that runs
+    /// its own turns. Returns the turn's end, its count of instructions, and the outputs that reached nobody. The turn
+    /// does what the set means: if the set comes from a text, what the text's transition does.
     ///
     /// # Errors
     ///
-    /// Those of `begin`, in the same order: `B10 NoActor`, `B4 Busy`, `B5 Nothing`, `B11 SkipFirst`, `B9 CountFull`, `B8 JournalFull`
-    /// where less than two places are free. Then nothing changes.
+    /// Those of `begin`, in the same order: `B10 NoActor`, `B4 Busy`, `B5 Nothing`, `B11 SkipFirst`, `B9 CountFull`,
+    /// `B8 JournalFull` if less than two places are free. Then nothing changes.
     pub fn turn(&mut self, actor: u16) -> Result<Report, Refusal>
         ensures book { OnOk result (self.new ≡ (turned self.old actor).book) }
         ensures report { IfOk result (λ report. (turned self.old actor).answer ≡ Says (reply.Finished report)) }
@@ -91,7 +91,7 @@ impl Book {
         }
     }
 
-    /// A whole turn of an actor that can begin one.
+    /// Gives a whole turn to an actor that can begin one.
     fn turn_through(&mut self, actor: u16) -> Report
         requires { Takes self.old (Begin actor) }
         ensures book { self.new ≡ (turned self.old actor).book }
@@ -110,7 +110,7 @@ impl Book {
         self.run_out(actor)
     }
 
-    /// The turn that an actor has out runs to its end, where its code stands in the set, and ends.
+    /// Runs the turn that an actor has out, with its code in place in the set, and ends it.
     fn run_out(&mut self, actor: u16) -> Report
         requires { IsSome (turn_out self.old actor) }
         ensures book { self.new ≡ (ask self.old (Finish actor)).book }

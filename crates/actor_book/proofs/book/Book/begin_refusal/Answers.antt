@@ -4,7 +4,7 @@ use Rattle.actor_machine.specs.Refusals.{refuses}
 use Rattle.actor_machine.specs.declared.event.Event.TheVariants.{Begin}
 use Rattle.actor_book.proofs.book.Book.begin_refusal.Goals as goal
 
--- a beginning wants two places, its own and that of its end
+-- a beginning requires two places: its own and that of its end
 pub returns : goal.returns
 returns c =
     let set : c.self.inside.set ≡ c.args.self.now.set = ap (λ (b : Ledger). b.set) c.self.view_is in
