@@ -1,4 +1,4 @@
--- Texts of which no more is kept than a text may have.
+-- Texts of which at most one byte more is kept than a text may have.
 use Rattle.std.proofs.Common.{◌≡◌, ℕ, min, codes, inl, inr, IfSome, ◌+◌, ◌<◌, ◌≤◌, ◌==◌, nat_lt, true, false, List, length, take, Option, Some, Result, Ok, Err, IfOk, IfErr, refl, ap, ◌∙◌, arith, subst, length-take}
 use Rattle.std.specs.Prelude.{count_by}
 use borrow.Author.Tests.{ltb-true, ltb-false}
@@ -25,7 +25,7 @@ unlexed bytes kept line long at = record {
   there = at ∙ ap (λ bs. count_by (λ b. b == 10) bs + 1) (ap (take LONGEST) long.first ∙ take_twice LONGEST bytes);
 }
 
--- what is kept of a text is all of it, or it is too long
+-- The kept bytes are the whole text, or the text is too long.
 pub all_kept : (bytes : List ℕ) (read : TextRead) → Keeps bytes read → nat_lt LONGEST (length read.kept.items) ≡ false → read.kept.items ≡ bytes
 all_kept bytes read keeps short =
     let few : length read.kept.items ≤ LONGEST = ltb-false _ _ short in
@@ -42,7 +42,7 @@ no_tokens text tokens long (in_room short gives) = omega arith
 pub not_accepted : (bytes kept : List ℕ) → IsTooLong bytes kept → IsNotAccepted bytes
 not_accepted bytes kept long accepted = no_tokens bytes accepted.sound.tokens long.long accepted.sound.is_so.read.lexed
 
--- ---- from the bytes that are kept to those that were read
+-- ---- from the kept bytes to the bytes read
 
 pub set_kept : (r : Result Draft SetFault) (text : List ℕ) (read : TextRead) → ((bytes : List ℕ) → Keeps bytes read → text ≡ bytes)
     → IfOk r (IsSetOf text) → IfOk r (λ v. (bytes : List ℕ) → Keeps bytes read → IsSetOf bytes v)
@@ -108,7 +108,7 @@ fault_placed_read loaded r known read kept is reading points fault =
     fault_placed loaded r kept known reading.bytes reading.are_known (inr (is ∙ reading.keeps.first)) points
     (fault_at loaded read reading.bytes reading.keeps fault)
 
--- a text that is too long is pointed at where it is cut
+-- For a text that is too long, the lines point where it is cut.
 pub at_limit : (kept : List ℕ) (fault : LoadFault) (lines : List ℕ) → LONGEST < length kept
     → IsHead kept (min LONGEST (length kept)) (codes "L3 TooLong") (codes "a text has 262144 octets at most") lines → PointsIn kept fault lines
 at_limit kept fault lines long h = record {

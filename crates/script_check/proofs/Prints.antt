@@ -1,4 +1,4 @@
--- What was printed, put together.
+-- Printed output, composed.
 use Rattle.std.proofs.Common.{◌≡◌, ℕ, List, ◌++◌, Option, None, Some, IfSome, subst}
 use Rattle.std.specs.Io.KnownBytes.{Appends}
 use Rattle.turn_code.specs.declared.draft.Draft.{Draft}
@@ -7,7 +7,7 @@ use Rattle.script_check.specs.Printed.{refusal_line}
 use Rattle.script_check.specs.declared.sets.Refusal.{Refusal}
 use Rattle.script_check.specs.Checked.{IsGiven, IsAccepted, IsNotAccepted, IsSetOf, IsRefusal, IsRefusalOf, IsRefusedAt, PrintsPointed, PrintsRefusal}
 
--- what is known of the text of an accepted set
+-- An accepted set implies that its bytes are accepted.
 pub is_accepted : (bytes : List ℕ) (d : Draft) → IsSetOf bytes d → IsAccepted bytes
 is_accepted bytes d s = record { utf8 = s.utf8; sound = record { tokens = s.loaded.tokens; block = s.loaded.block; is_so = s.loaded.sound } }
 
@@ -26,7 +26,7 @@ pub refusal_printed : (known old new : Option (List ℕ)) (fault : SetFault) →
 refusal_printed known old new fault judged g printed =
     record { bytes = g.bytes; are_known = g.are_known; holds = record { fault = fault; judged = judged; is_so = g.holds.is_so; printed = printed } }
 
--- the same of a refusal with its place
+-- As above, for a refusal with its place.
 pub of_refusal : (known : Option (List ℕ)) (r : Refusal) → IsGiven known (λ bytes. IsRefusedAt bytes r) → IsGiven known (λ bytes. IsRefusalOf bytes r.fault)
 of_refusal known r g = record { bytes = g.bytes; are_known = g.are_known; holds = g.holds.refused }
 

@@ -17,7 +17,7 @@ use Rattle.script_check.specs.declared.sets.SetFault.TheVariants.{NotRead, NotTe
 
 -- ---- refusals
 
--- the code of a fault and its name, what is named with it, and its line where it has one
+-- The code and the name of a fault, its details, and its line if it has one.
 abbrev pub fault_text : SetFault → List ℕ
 fault_text NotRead = codes "not read"
 fault_text NotText = codes "F1 NotText"
@@ -26,14 +26,14 @@ fault_text (Load fault) = loading.fault_text fault
 abbrev pub refusal_line : SetFault → List ℕ
 refusal_line fault = line_of (codes "refused " ++ fault_text fault)
 
--- ---- what transitions cost
+-- ---- costs of transitions
 
 abbrev pub costs_text : Cert → List ℕ
 costs_text cert =
     codes "budget " ++ decimal cert.budget ++ codes " depth " ++ decimal cert.depth
     ++ codes " effects " ++ decimal cert.effects
 
--- the name of the signal, or of the timer of a process, that an input waits for
+-- The name of the signal, or of the timer of a process, that an input takes.
 abbrev pub trigger_text : List DraftSignal → List (List ℕ) → Trigger → List ℕ
 trigger_text signals timers (Signal n) =
     unwrap_or (option_map (λ (s : DraftSignal). s.name) (slice_get signals n.0)) []
@@ -49,14 +49,14 @@ input_line signals p q i =
     line_of (p.name ++ codes " " ++ q.name ++ codes "/" ++ trigger_text signals p.timers i.trigger
     ++ codes " " ++ costs_text i.piece.certificate)
 
--- the lines of the inputs of a state, in text order
+-- The lines of the inputs of a state, in text order.
 abbrev pub state_lines : List DraftSignal → DraftProcess → DraftState → List ℕ
 state_lines signals p q = flat_map (input_line signals p q) q.inputs
 
--- the line of START, and those of the states in text order
+-- The line of START, and those of the states in text order.
 abbrev pub process_lines : List DraftSignal → DraftProcess → List ℕ
 process_lines signals p = start_line p ++ flat_map (state_lines signals p) p.states
 
--- the lines of the processes in text order, and that the set is accepted
+-- The lines of the processes in text order, and the line `accepted`.
 abbrev pub set_lines : Draft → List ℕ
 set_lines d = flat_map (process_lines d.signals) d.processes ++ line_of (codes "accepted")

@@ -1,4 +1,4 @@
--- Where a refusal is found that names no place itself.
+-- The place where a refusal is found that names none itself.
 use Rattle.std.specs.Prelude.{◌≡◌, ℕ, List, Contains}
 use Rattle.sdl_lex.specs.Spelling.{folded}
 use Rattle.sdl_lex.specs.declared.lexemes.Lexeme.{Lexeme}
@@ -9,7 +9,7 @@ use Rattle.sdl_sound.specs.declared.fault.RuleFault.TheVariants as rules
 use Rattle.script_point.specs.turn_verify_types.loading.LoadFault.{LoadFault}
 use Rattle.script_point.specs.turn_verify_types.loading.LoadFault.TheVariants as loading
 
--- a word is this name, in whatever case
+-- A lexeme is this name, without regard to case.
 abbrev pub IsNamed : List ℕ → Lexeme → Type 0
 IsNamed x (Name n) = folded n ≡ folded x
 IsNamed x (Number n) = ⊥
@@ -23,15 +23,15 @@ pub record IsTokenAt (tokens : List Token) (at : ℕ) : Type 0 where
   pub there : Contains tokens token
   pub begins : token.start ≡ at
 
--- a token begins at this place that is this name
+-- A token begins at this place and is this name.
 pub record IsNameAt (tokens : List Token) (x : List ℕ) (at : ℕ) : Type 0 where
   pub token : Token
   pub there : Contains tokens token
   pub begins : token.start ≡ at
   pub named : IsNamed x token.lexeme
 
--- Where a limit is passed, or a transition runs off its end, a token begins; where a variable is
--- read unset stands its name.
+-- At the place that exceeds a limit, or where a transition runs off its end, a token begins. At the
+-- place that reads a variable unset the token is its name.
 abbrev pub FitsRule : List Token → RuleFault → ℕ → Type 0
 FitsRule tokens (rules.DoubleName place) at = Unit {0}
 FitsRule tokens (rules.UnknownName place) at = Unit {0}

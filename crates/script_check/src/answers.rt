@@ -1,11 +1,11 @@
-//! Values that no answer of a DECISION is for (S8).
+//! Notes for values that no answer of a DECISION covers (S8).
 use script_point::{Notes, Standing, standing_at};
 use sdl_sorts::is_truth;
 use sdl_tables::ProcessTable;
 use sdl_tree::{Decision, Literal, Range};
 use std::alloc::AllocError;
 
-/// How often values name a truth value.
+/// How often these answer values include a truth value.
 fn times_in(ranges: &[Range], value: bool) -> usize {
     let mut count: usize = 0;
     for range in ranges {
@@ -18,7 +18,7 @@ fn times_in(ranges: &[Range], value: bool) -> usize {
     count
 }
 
-/// How often a DECISION's answers name a truth value.
+/// How often a DECISION's answers include a truth value.
 fn times(decision: &Decision, value: bool) -> usize {
     let mut count: usize = 0;
     for answer in &decision.answers {
@@ -27,7 +27,7 @@ fn times(decision: &Decision, value: bool) -> usize {
     count
 }
 
-/// What is said of a DECISION of Booleans, and what is to be written.
+/// The note for a DECISION of Booleans, and the hint what to write.
 fn of_truths(decision: &Decision) -> (&'static str, &'static str) {
     let truths = times(decision, true);
     let falsehoods = times(decision, false);
@@ -46,7 +46,7 @@ fn of_truths(decision: &Decision) -> (&'static str, &'static str) {
     of_missing(truths, falsehoods)
 }
 
-/// What is said of values that aren't answered.
+/// The note for truth values without an answer, and the hint what to write.
 fn of_missing(truths: usize, falsehoods: usize) -> (&'static str, &'static str) {
     if truths == 0 && falsehoods == 0 {
         return (
@@ -66,7 +66,7 @@ fn of_missing(truths: usize, falsehoods: usize) -> (&'static str, &'static str) 
     )
 }
 
-/// What is said of the DECISION at a place of a process.
+/// Adds the note for the DECISION at a place of a process.
 pub(crate) fn no_answer(
     notes: &mut Notes,
     process: &ProcessTable,

@@ -10,13 +10,13 @@ use plain_text::{FAILED, HELD, REFUSED, refuse};
 use std::alloc::Global;
 use std::io::{self, Read, Write};
 
-/// Prints what each transition costs, and then `accepted`: for each process in the order of the
-/// text a line `PROCESS START budget B depth D effects E`, and one `PROCESS STATE/INPUT ..` for each
-/// input of its states. The text is read whole before anything is written, and a line goes out in one
-/// write. Where a text is refused, the lines that point at the place are told on `errors` behind the text's name, in one write.
+/// Prints the cost of each transition, then `accepted`. Each process has a line `PROCESS START budget B depth D effects
+/// E`, then a line `PROCESS STATE/INPUT ..` for each input of its states, in the order of the text. The whole text is
+/// read before any output; each line is one write. If the text is refused, its name and the lines that point at the
+/// place go to `errors` in one write.
 ///
-/// Gives the exit status: 0 where every line was written, or 2 after a line `refused CODE Name ..` alone, with ` line N`
-/// where the fault has a place, or 4 where memory, a read or a write fails. Nothing is written after a write that failed.
+/// Returns the exit status: 0 if every line was written; 2 after only a line `refused CODE Name ..`, with ` line N` if
+/// the fault has a place; 4 if memory runs out or a read or write fails. Nothing is written after a failed write.
 pub fn check<R: Read + Drop, W: Write, E: Write>(
     alloc: Global,
     set: SetWord<R>,
@@ -41,7 +41,7 @@ pub fn check<R: Read + Drop, W: Write, E: Write>(
     }
 }
 
-/// The line of a refusal, and then the lines that point at it. Gives the exit status: 2, or 4 where no text is refused, or lines aren't written.
+/// Writes a refusal's line, then the lines that point at it. Returns 2, or 4 if no text is refused or a write fails.
 pub fn refuse_set<W: Write, E: Write>(
     alloc: Global,
     name: &str,
@@ -63,7 +63,7 @@ pub fn refuse_set<W: Write, E: Write>(
     }
 }
 
-/// Tells where a text with a name is refused, in one write.
+/// Writes where a named text is refused, in one write.
 pub fn tell_refusal<E: Write>(
     alloc: Global,
     errors: &mut E,
@@ -78,7 +78,7 @@ pub fn tell_refusal<E: Write>(
     errors.write_all(&lines)
 }
 
-/// The line of a refusal. Gives the exit status: 2, or 4 where no text is refused, or the line isn't written.
+/// Writes the line of a refusal. Returns the exit status: 2, or 4 if no text is refused or the write fails.
 pub fn write_refusal<W: Write>(alloc: Global, writer: &mut W, fault: &SetFault) -> u8
     ensures refused { result ≡ 2 → IsRefusal fault.now }
     ensures printed { result ≡ 2 → Appends (W.contents writer.old) (W.contents writer.new) (refusal_line fault.now) }

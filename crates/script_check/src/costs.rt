@@ -1,4 +1,4 @@
-//! What the transitions of a set cost, line by line.
+//! The costs of the transitions of a set, line by line.
 ghost use Rattle.std.specs.Prelude.{◌≡◌, OnOk, IfOk};
 ghost use Rattle.std.specs.Io.KnownBytes.{Appends};
 ghost use Rattle.std.specs.List.{flat_map};
@@ -11,7 +11,7 @@ use std::fmt;
 use std::io::{self, Write};
 use turn_code::{Cert, Draft, DraftInput, DraftProcess, DraftState, Trigger};
 
-/// What a transition costs, as it is printed.
+/// The cost of a transition, as it is printed.
 #[derive(Clone, Copy)]
 struct Costs(Cert);
 
@@ -31,7 +31,7 @@ impl fmt::Display for Costs {
     }
 }
 
-/// The lines of an accepted set.
+/// Writes the lines of an accepted set.
 pub fn write_set<W: Write>(alloc: Global, writer: &mut W, set: &Verified) -> io::Result<()>
     ensures { OnOk result (Appends (W.contents writer.old) (W.contents writer.new) (set_lines set.now)) }
 {
@@ -39,7 +39,7 @@ pub fn write_set<W: Write>(alloc: Global, writer: &mut W, set: &Verified) -> io:
     write_line(alloc, writer, &"accepted")
 }
 
-/// The lines of all processes.
+/// Writes the lines of all processes.
 fn write_processes<W: Write>(alloc: Global, writer: &mut W, draft: &Draft) -> io::Result<()>
     ensures { OnOk result (Appends (W.contents writer.old) (W.contents writer.new) (flat_map (process_lines draft.now.signals) draft.now.processes)) }
 {
@@ -49,7 +49,7 @@ fn write_processes<W: Write>(alloc: Global, writer: &mut W, draft: &Draft) -> io
     Ok(())
 }
 
-/// The lines of a process.
+/// Writes the lines of a process.
 fn write_process<W: Write>(
     alloc: Global,
     writer: &mut W,
@@ -63,7 +63,7 @@ fn write_process<W: Write>(
     write_states(alloc, writer, draft, process)
 }
 
-/// The lines of the states of a process.
+/// Writes the lines of the states of a process.
 fn write_states<W: Write>(
     alloc: Global,
     writer: &mut W,
@@ -78,7 +78,7 @@ fn write_states<W: Write>(
     Ok(())
 }
 
-/// The lines of a state.
+/// Writes the lines of a state.
 fn write_state<W: Write>(
     alloc: Global,
     writer: &mut W,
@@ -95,7 +95,7 @@ fn write_state<W: Write>(
     Ok(())
 }
 
-/// The line of a START.
+/// The line for a START.
 fn start_line(alloc: Global, process: &DraftProcess) -> Result<Vec<u8>, AllocError>
     ensures { IfOk result (λ v. v.items ≡ start_line process.now) }
 {
@@ -107,7 +107,7 @@ fn start_line(alloc: Global, process: &DraftProcess) -> Result<Vec<u8>, AllocErr
     Ok(line)
 }
 
-/// The line of an input of a state.
+/// The line for an input of a state.
 fn input_line(
     alloc: Global,
     draft: &Draft,
@@ -129,7 +129,7 @@ fn input_line(
     Ok(line)
 }
 
-/// The name of the signal, or of the timer of the process, that an input waits for.
+/// The name of the signal, or of the timer of the process, that an input takes.
 fn trigger_name<'a>(draft: &'a Draft, process: &'a DraftProcess, trigger: Trigger) -> &'a [u8]
     ensures { result.now ≡ trigger_text draft.now.signals process.now.timers trigger }
 {

@@ -1,4 +1,4 @@
-//! Answers at which a transition runs off its end (S4).
+//! The answers at which a transition runs off its end (S4).
 
 use script_point::{Reading, Told};
 use sdl_lex::Word;
@@ -6,7 +6,7 @@ use sdl_tables::ProcessTable;
 use sdl_tree::{Decision, Process, StateClause, Statement, Transition};
 use std::alloc::AllocError;
 
-/// Whether what stands behind a statement may follow.
+/// Whether control can pass to whatever follows a statement.
 #[cycle(passing)]
 fn passes(statement: &Statement) -> bool {
     match statement {
@@ -62,7 +62,7 @@ fn else_of(read: &Reading<'_>, at: u32) -> Option<u32> {
     None
 }
 
-/// The first answer of a DECISION that runs off, or an answer within it.
+/// The first answer of a DECISION that runs off, or the innermost such answer in it.
 #[cycle(finding)]
 fn in_decision(read: &Reading<'_>, decision: &Decision) -> Option<u32> {
     for answer in &decision.answers {
@@ -79,7 +79,7 @@ fn in_decision(read: &Reading<'_>, decision: &Decision) -> Option<u32> {
     }
 }
 
-/// The answer at which a DECISION runs off, if this statement is one.
+/// The answer at which a statement runs off, if it is a DECISION that does.
 #[cycle(finding)]
 fn in_statement(read: &Reading<'_>, statement: &Statement) -> Option<u32> {
     match statement {
@@ -88,7 +88,7 @@ fn in_statement(read: &Reading<'_>, statement: &Statement) -> Option<u32> {
     }
 }
 
-/// The answer at which a transition that runs off does so: that of its last statement; none, where it does behind that.
+/// The answer at which a transition runs off, in its last statement; none if it runs off after that statement.
 #[cycle(finding)]
 fn in_transition(read: &Reading<'_>, transition: &Transition) -> Option<u32> {
     let mut found = None;
@@ -128,7 +128,7 @@ fn transition_at<'a>(process: &'a Process, place: u32) -> Option<&'a Transition>
     None
 }
 
-/// Says at which answer the transition runs off that begins at a place, if it does so at one.
+/// Notes the answer at which the transition that begins at a place runs off, if it runs off at one.
 pub(crate) fn no_end(
     told: &mut Told,
     process: &ProcessTable,

@@ -1,4 +1,4 @@
-//! How many operands at once and how many effects a transition has (S10), where this is known of the connections of its process.
+//! The operands at once and the effects of a transition (S10), given those of the connections of its process.
 use sdl_joins::{find_links, reached_in};
 use sdl_measures::{Measure, code_size};
 use sdl_sound::is_division;
@@ -8,14 +8,14 @@ use sdl_tree::{
 };
 use std::alloc::{AllocError, Global};
 
-/// The most operands at once, and the most effects on a way; up to 4,294,967,295 each.
+/// The most operands at once, and the most effects on a path; up to 4,294,967,295 each.
 #[derive(Clone, Copy)]
 pub(crate) struct Extent {
     pub(crate) depth: u32,
     pub(crate) effects: u32,
 }
 
-/// How many operands an expression has at once: while its right side is worked out the left one waits, but for a division.
+/// The most operands of an expression at once; the left side waits for the right side, except in a division.
 fn tree_depth(expression: &Expression) -> u32 {
     match expression {
         Expression::Number { .. } => 1,
@@ -39,7 +39,7 @@ fn tree_depth(expression: &Expression) -> u32 {
     }
 }
 
-/// How many operands the parameters of a signal have at once: those before one wait.
+/// The most operands of a signal's parameters at once: earlier parameters wait.
 fn parameters_depth(parameters: &[Expression]) -> u32 {
     let mut depth: u32 = 0;
     let mut waiting: u32 = 0;
@@ -50,7 +50,7 @@ fn parameters_depth(parameters: &[Expression]) -> u32 {
     depth
 }
 
-/// The most operands at once of signals that go out, and how many these are.
+/// The most operands at once in the signals of an OUTPUT, and the number of signals.
 fn sendings_extent(sendings: &[Sending]) -> Extent {
     let mut extent = Extent {
         depth: 0,
@@ -63,7 +63,7 @@ fn sendings_extent(sendings: &[Sending]) -> Extent {
     extent
 }
 
-/// The most operands at once of assignments.
+/// The most operands of assignments at once.
 fn assignments_depth(assignments: &[Assignment]) -> u32 {
     let mut depth: u32 = 0;
     for assignment in assignments {
@@ -91,7 +91,7 @@ fn action_extent(action: &Action) -> Extent {
     }
 }
 
-/// The extent of the end of a transition, behind which so many effects follow where there is none.
+/// The extent of the end of a transition; without an end, `behind` effects follow.
 fn end_extent(
     process: &ProcessTable,
     measures: &[Measure],
@@ -117,7 +117,7 @@ fn end_extent(
     }
 }
 
-/// The extent of the connection with a number.
+/// The extent of the connection with this number.
 fn joined_extent(measures: &[Measure], number: usize) -> Extent {
     match measures.get(number) {
         Some(measure) => Extent {
@@ -131,7 +131,7 @@ fn joined_extent(measures: &[Measure], number: usize) -> Extent {
     }
 }
 
-/// The extent of a transition, behind which so many effects follow where it runs off its end.
+/// The extent of a transition; if it runs off its end, `behind` effects follow.
 #[cycle(extending)]
 pub(crate) fn extent_of(
     process: &ProcessTable,
@@ -148,7 +148,7 @@ pub(crate) fn extent_of(
     total
 }
 
-/// A statement in front of the rest.
+/// The extent of a statement and the rest after it.
 #[cycle(extending)]
 fn statement_extent(
     process: &ProcessTable,
@@ -175,7 +175,7 @@ fn statement_extent(
     }
 }
 
-/// The greater of two extents, each by itself.
+/// The greater depth and the greater effects of two extents.
 fn greater(one: Extent, other: Extent) -> Extent {
     Extent {
         depth: one.depth.max(other.depth),
@@ -183,7 +183,7 @@ fn greater(one: Extent, other: Extent) -> Extent {
     }
 }
 
-/// The bodies of a DECISION, behind which so many effects follow.
+/// The extent of the bodies of a DECISION, after which `behind` effects follow.
 #[cycle(extending)]
 fn bodies_extent(
     process: &ProcessTable,
@@ -204,7 +204,7 @@ fn bodies_extent(
     total
 }
 
-/// How many variables an INPUT's places name.
+/// The number of variables among an INPUT's places.
 pub(crate) fn count_places(places: &[Option<Identifier>]) -> u32 {
     let mut count: u32 = 0;
     for place in places {
@@ -215,7 +215,7 @@ pub(crate) fn count_places(places: &[Option<Identifier>]) -> u32 {
     count
 }
 
-/// The sizes of the marked connections.
+/// The total size of the marked connections.
 fn marked_size(marks: &[bool], measures: &[Measure]) -> u32 {
     let mut total: u32 = 0;
     for (measure, mark) in measures.iter().zip(marks.iter()) {
@@ -226,7 +226,7 @@ fn marked_size(marks: &[bool], measures: &[Measure]) -> u32 {
     total
 }
 
-/// How many instructions a transition of a process has, with its connections.
+/// The number of instructions of a transition of a process, with its connections.
 pub(crate) fn size_of(
     alloc: Global,
     process: &ProcessTable,

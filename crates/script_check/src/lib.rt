@@ -1,4 +1,4 @@
-//! What `check` says of a process text: whether it is accepted, and what its transitions cost.
+//! The command `check` for process texts: whether a text is accepted, and what its transitions cost.
 #![tactic(auto)]
 
 mod answers;

@@ -1,4 +1,4 @@
-//! What passes a limit (S10): by its name, its number against the limit, and where it stands.
+//! Notes for an exceeded limit (S10): which item exceeds it, by how much, and where.
 use crate::extents::{count_places, extent_of, size_of};
 use script_point::{Notes, Told, push_all, push_number};
 use sdl_joins::find_orders;
@@ -9,18 +9,18 @@ use sdl_tables::{BlockTable, InputPart, NameTable, ProcessTable, StateClause, St
 use sdl_tree::{Identifier, SignalDeclaration, Transition};
 use std::alloc::{AllocError, Global};
 
-/// Who has too much of something.
+/// The owner of the items that exceed a limit.
 #[derive(Clone, Copy)]
 enum Owner {
     /// A block, a process or a signal.
     Named(Name),
     /// The transition of a process's START.
     Start(Name),
-    /// That of a process in a state on an input.
+    /// The transition of a process for a state and an input.
     Input(Name, Name, Name),
 }
 
-/// What passes a limit: who has how much, and where it stands.
+/// An exceeded limit: the owner, the number of items, and the place.
 #[derive(Clone, Copy)]
 struct Over {
     owner: Owner,
@@ -28,7 +28,7 @@ struct Over {
     place: u32,
 }
 
-/// The greatest number that a limit leaves.
+/// The greatest number that a limit allows.
 fn most(limit: Limit) -> usize {
     match limit {
         Limit::Processes => 16,
@@ -45,7 +45,7 @@ fn most(limit: Limit) -> usize {
     }
 }
 
-/// What a limit counts.
+/// The name of the items that a limit counts.
 fn counted(limit: Limit) -> &'static str {
     match limit {
         Limit::Processes => " processes, ",
@@ -62,7 +62,7 @@ fn counted(limit: Limit) -> &'static str {
     }
 }
 
-/// Who has too much, behind what is there.
+/// Appends the owner to a text.
 fn push_owner(text: &mut String, owner: &Owner) -> Result<(), AllocError> {
     match owner {
         Owner::Named(name) => text.push_str(name.as_str()),
@@ -74,7 +74,7 @@ fn push_owner(text: &mut String, owner: &Owner) -> Result<(), AllocError> {
     }
 }
 
-/// Says who has too much, and how much, against the limit.
+/// Notes the owner and its number of items, with the limit.
 fn add_over(
     alloc: Global,
     notes: &mut Notes,
@@ -90,7 +90,7 @@ fn add_over(
     notes.said.push_str(" at most")
 }
 
-/// The place of the name with a number, or another place where there is none.
+/// The place of the name with this number, or `other` if there is none.
 fn place_of(names: &NameTable, number: usize, other: u32) -> u32 {
     match names.get(number) {
         Some(id) => id.at,
@@ -98,7 +98,7 @@ fn place_of(names: &NameTable, number: usize, other: u32) -> u32 {
     }
 }
 
-/// How many of something a process has.
+/// How many items of the kind that the limit counts a process has.
 fn count_in(process: &ProcessTable, limit: Limit) -> usize {
     match limit {
         Limit::States => process.states().len(),
@@ -109,7 +109,7 @@ fn count_in(process: &ProcessTable, limit: Limit) -> usize {
     }
 }
 
-/// Where the first one too many stands in a process.
+/// The place of the first item beyond the limit in a process.
 fn place_in(process: &ProcessTable, limit: Limit) -> u32 {
     let own = process.process().name.at;
     match limit {
@@ -120,7 +120,7 @@ fn place_in(process: &ProcessTable, limit: Limit) -> u32 {
     }
 }
 
-/// The first process that has too many of something.
+/// The first process that exceeds the limit.
 fn over_in_process(block: &BlockTable, limit: Limit) -> Option<Over> {
     for process in block.tables() {
         let number = count_in(process, limit);
@@ -150,7 +150,7 @@ fn over_in_signal(rows: &[&SignalDeclaration]) -> Option<Over> {
     None
 }
 
-/// What a block has too many of, by a table of their names.
+/// A block that exceeds the limit, given the table of the counted names.
 fn over_in_block(block: &BlockTable, names: &NameTable, limit: Limit) -> Option<Over> {
     let name = block.block().name;
     Some(Over {
@@ -160,7 +160,7 @@ fn over_in_block(block: &BlockTable, names: &NameTable, limit: Limit) -> Option<
     })
 }
 
-/// How many transitions a process has: START's, and one for each input of each state.
+/// The number of transitions of a process: that of START, and one for each input of each state.
 fn count_pieces(alloc: Global, process: &ProcessTable) -> Result<usize, AllocError> {
     let inputs = process.inputs(alloc)?;
     let mut count: usize = 1;
@@ -170,7 +170,7 @@ fn count_pieces(alloc: Global, process: &ProcessTable) -> Result<usize, AllocErr
     Ok(count)
 }
 
-/// All transitions of a block, where they are too many: at the process with which they are.
+/// A block with too many transitions, at the process that exceeds the limit.
 fn over_in_all(alloc: Global, block: &BlockTable) -> Result<Option<Over>, AllocError> {
     let name = block.block().name;
     let mut number: usize = 0;
@@ -188,7 +188,7 @@ fn over_in_all(alloc: Global, block: &BlockTable) -> Result<Option<Over>, AllocE
     }))
 }
 
-/// What transitions of a process are measured by.
+/// The context in which the transitions of a process are measured.
 #[derive(Clone, Copy)]
 struct Measuring<'a, 'b> {
     block: &'a BlockTable<'b>,
@@ -198,7 +198,7 @@ struct Measuring<'a, 'b> {
 }
 
 impl Measuring<'_, '_> {
-    /// How much a transition has of what the limit counts, without the places of its INPUT.
+    /// The measure of a transition that the limit counts, without the places of its INPUT.
     fn own(&self, alloc: Global, transition: &Transition) -> Result<u32, AllocError> {
         let extent = extent_of(self.process, self.measures, transition, 0);
         match self.limit {
@@ -208,7 +208,7 @@ impl Measuring<'_, '_> {
         }
     }
 
-    /// The same with the places of its INPUT.
+    /// That measure with the places of its INPUT.
     fn with_places(&self, own: u32, places: &[Option<Identifier>]) -> usize {
         let count = count_places(places);
         let number = match self.limit {
@@ -219,7 +219,7 @@ impl Measuring<'_, '_> {
         number as usize
     }
 
-    /// A transition that has too much of it, if it has.
+    /// The transition, if it exceeds the limit.
     fn passing(&self, owner: Owner, number: usize, place: u32) -> Option<Over> {
         let over = Over {
             owner,
@@ -229,7 +229,7 @@ impl Measuring<'_, '_> {
         (number > most(self.limit)).then_some(over)
     }
 
-    /// START, if its transition has too much of it.
+    /// START, if its transition exceeds the limit.
     fn start(&self, alloc: Global) -> Result<Option<Over>, AllocError> {
         let process = self.process.process();
         let own = self.own(alloc, &process.start.transition)?;
@@ -237,13 +237,13 @@ impl Measuring<'_, '_> {
         Ok(self.passing(owner, own as usize, process.start.at))
     }
 
-    /// The name of what an input of a state takes, as it is declared.
+    /// The owner of an input of a state, with the name of the signal or timer as it is declared.
     fn input_owner(&self, state: Name, name: Name) -> Owner {
         let signal = spelled(self.block.signals(), spelled(self.process.timers(), name));
         Owner::Input(self.process.process().name.name, state, signal)
     }
 
-    /// The first of the signals that an INPUT of a state takes with which its transition has too much of it.
+    /// The first signal of an INPUT of a state whose transition exceeds the limit.
     fn input(
         &self,
         alloc: Global,
@@ -260,7 +260,7 @@ impl Measuring<'_, '_> {
         Ok(found)
     }
 
-    /// The first INPUT of a STATE part whose transition has too much of it.
+    /// The first INPUT of a STATE part whose transition exceeds the limit.
     fn part(
         &self,
         alloc: Global,
@@ -279,7 +279,7 @@ impl Measuring<'_, '_> {
         Ok(found)
     }
 
-    /// The first transition of STATE parts that has too much of it.
+    /// The first transition of STATE parts that exceeds the limit.
     fn parts(&self, alloc: Global, parts: &[StatePart]) -> Result<Option<Over>, AllocError> {
         let mut found = None;
         for part in parts {
@@ -294,7 +294,7 @@ impl Measuring<'_, '_> {
         Ok(found)
     }
 
-    /// The first transition of a process that has too much of it: START's, then in the order of the text.
+    /// The first transition of a process that exceeds the limit: START, then in the order of the text.
     fn first(&self, alloc: Global) -> Result<Option<Over>, AllocError> {
         match self.start(alloc)? {
             Some(over) => Ok(Some(over)),
@@ -303,7 +303,7 @@ impl Measuring<'_, '_> {
     }
 }
 
-/// The first of two.
+/// The first of two, if there is one, else the second.
 fn first_of(one: Option<Over>, other: Option<Over>) -> Option<Over> {
     match one {
         Some(over) => Some(over),
@@ -311,7 +311,7 @@ fn first_of(one: Option<Over>, other: Option<Over>) -> Option<Over> {
     }
 }
 
-/// A name as it is declared, or as it is written where it isn't there.
+/// A name as it is declared, or as it is written if it isn't declared.
 fn spelled(names: &NameTable, name: Name) -> Name {
     match names.number(name) {
         None => name,
@@ -322,7 +322,7 @@ fn spelled(names: &NameTable, name: Name) -> Name {
     }
 }
 
-/// What is measured of the connections of each process; none where JOINs go round.
+/// The measures of the connections of each process; none if the JOINs form a cycle.
 fn measures_of(alloc: Global, block: &BlockTable) -> Result<Vec<Vec<Measure>>, AllocError> {
     match find_orders(alloc, block)? {
         Ok(orders) => measure_all(alloc, block, &orders),
@@ -330,7 +330,7 @@ fn measures_of(alloc: Global, block: &BlockTable) -> Result<Vec<Vec<Measure>>, A
     }
 }
 
-/// The first transition of a block that has too much of something.
+/// The first transition of a block that exceeds the limit.
 fn over_in_transition(
     alloc: Global,
     block: &BlockTable<'_>,
@@ -350,7 +350,7 @@ fn over_in_transition(
     Ok(found)
 }
 
-/// What passes a limit in a block: of several the first in the text.
+/// The item of a block that exceeds the limit; of several the first in the text.
 fn over_limit(
     alloc: Global,
     block: &BlockTable<'_>,
@@ -366,8 +366,8 @@ fn over_limit(
     }
 }
 
-/// Says what passes a limit, and where it stands. (Its parts are named by a pattern: with `over.place` the kit's borrow
-/// checker isn't told where `Owner` lives, and refuses the function.)
+/// Notes the item that exceeds a limit, and its place. (A pattern names the fields: with `over.place` the kit's borrow
+/// checker doesn't know where `Owner` lives, and refuses the function.)
 pub(crate) fn tell_over(
     alloc: Global,
     told: &mut Told,

@@ -1,10 +1,10 @@
-//! Why an operand in an expression has the wrong sort (S3).
+//! Why an operand of an expression has the wrong sort (S3).
 use crate::sorts::Cause;
 use sdl_sorts::sort_in;
 use sdl_tables::ProcessTable;
 use sdl_tree::{BinaryOperator, Expression, Sort, UnaryOperator};
 
-/// On which side of which operator an operand stands.
+/// The side of an operator on which an operand stands.
 #[derive(Clone, Copy)]
 pub(crate) enum Side {
     Behind(UnaryOperator),
@@ -23,7 +23,7 @@ pub(crate) fn place(expression: &Expression) -> u32 {
     }
 }
 
-/// What both operands have to be: those of `=` and `/=` what the left one is.
+/// The sort that both operands must have: for `=` and `/=` that of the left one.
 fn operand_sort(operator: BinaryOperator, left: Option<Sort>) -> Option<Sort> {
     match operator {
         BinaryOperator::Equal | BinaryOperator::NotEqual => left,
@@ -32,7 +32,7 @@ fn operand_sort(operator: BinaryOperator, left: Option<Sort>) -> Option<Sort> {
     }
 }
 
-/// Whether an expression is one with NOT in front.
+/// Whether an expression begins with NOT.
 fn is_denied(operand: &Expression) -> bool {
     match operand {
         Expression::Unary { operator, .. } => *operator == UnaryOperator::Not,
@@ -40,7 +40,7 @@ fn is_denied(operand: &Expression) -> bool {
     }
 }
 
-/// Why an operand that begins at a place is wrong, if another sort is wanted of it.
+/// Why an operand that begins at a place is wrong, if it has another sort than the required one.
 fn operand_cause(
     process: &ProcessTable,
     side: Side,
@@ -60,7 +60,7 @@ fn operand_cause(
     })
 }
 
-/// The first of two causes.
+/// The first of two causes, if there is one, else the second.
 pub(crate) fn first_of(one: Option<Cause>, other: Option<Cause>) -> Option<Cause> {
     match one {
         Some(cause) => Some(cause),
@@ -68,7 +68,7 @@ pub(crate) fn first_of(one: Option<Cause>, other: Option<Cause>) -> Option<Cause
     }
 }
 
-/// Why an operand is wrong that begins at a place of an expression: of several the outermost.
+/// Why the operand that begins at a place of an expression is wrong; of several operands the outermost.
 pub(crate) fn in_expression(
     process: &ProcessTable,
     expression: &Expression,
@@ -101,7 +101,7 @@ pub(crate) fn in_expression(
     }
 }
 
-/// Why the operand behind an operator is wrong that begins at a place.
+/// Why the operand of a unary operator is wrong, if it begins at the place.
 fn unary_cause(
     process: &ProcessTable,
     operator: UnaryOperator,
@@ -115,7 +115,7 @@ fn unary_cause(
     operand_cause(process, Side::Behind(operator), Some(want), operand, at)
 }
 
-/// Why one of two operands is wrong that begins at a place.
+/// Why one of two operands is wrong, if it begins at the place.
 fn binary_cause(
     process: &ProcessTable,
     operator: BinaryOperator,

@@ -1,4 +1,4 @@
-//! Signals that nobody gets, or several (S5, S6).
+//! Notes for signals with no receiver or with several (S5, S6).
 use script_point::{Item, Notes, Standing, push_all, push_items, push_number, standing_at};
 use sdl_joins::{find_links, reached_in};
 use sdl_lex::{Name, line_of};
@@ -6,7 +6,7 @@ use sdl_tables::{BlockTable, InputPart, ProcessTable};
 use sdl_tree::{Action, Destination, Identifier, Output, Party, Stimulus};
 use std::alloc::{AllocError, Global};
 
-/// A signal that goes out, and from whom.
+/// A signal that is sent, and its sender.
 #[derive(Clone, Copy)]
 struct Sent<'a, 'b> {
     block: &'a BlockTable<'b>,
@@ -26,18 +26,18 @@ impl Sent<'_, '_> {
     }
 }
 
-/// Why a signal TO SENDER gets to nobody.
+/// Why a signal TO SENDER has no receiver.
 #[derive(Clone, Copy)]
 enum Lost {
     /// START has no sender.
     Start,
-    /// Nobody sent a timer's signal.
+    /// A timer's signal has no sender.
     Timer(Name),
-    /// Who may have sent the signal of the turn has no route for the one that is sent back.
+    /// No route carries the reply to a party that may have sent this signal.
     NoWay(Name, Party),
 }
 
-/// Where a transition begins.
+/// The beginning of a transition.
 #[derive(Clone, Copy)]
 enum Beginning<'a> {
     Start,
@@ -45,7 +45,7 @@ enum Beginning<'a> {
     Connection(usize),
 }
 
-/// The OUTPUT at a place of a process, and the signal there.
+/// The OUTPUT that sends a signal at a place of a process, and that signal.
 fn output_at<'a>(process: &ProcessTable<'a>, at: u32) -> Option<(&'a Output, Identifier)> {
     let found = standing_at(process.process(), at)?;
     match found.standing {
@@ -89,7 +89,7 @@ fn connection_before(process: &ProcessTable, at: u32) -> Option<(usize, u32)> {
     found
 }
 
-/// Where the transition begins in which a place stands.
+/// The beginning of the transition that contains a place.
 fn beginning_of<'a>(process: &ProcessTable<'a>, at: u32) -> Beginning<'a> {
     match (input_before(process, at), connection_before(process, at)) {
         (Some(part), Some((_, begins))) if part.at > begins => Beginning::Input(part),
@@ -99,7 +99,7 @@ fn beginning_of<'a>(process: &ProcessTable<'a>, at: u32) -> Beginning<'a> {
     }
 }
 
-/// Who may have sent what began a turn, and gets nothing back.
+/// A possible sender of the input's signal to which no route leads back, if there is one.
 fn lost_sender(sent: &Sent<'_, '_>, stimulus: &Stimulus) -> Option<Lost> {
     let name = stimulus.name.name;
     if sent.process.timers().contains(name) {
@@ -113,7 +113,7 @@ fn lost_sender(sent: &Sent<'_, '_>, stimulus: &Stimulus) -> Option<Lost> {
     None
 }
 
-/// Why what a turn sends back that an INPUT begins gets to nobody.
+/// Why a reply in the transition of an INPUT has no receiver, if it has none.
 fn lost_by(sent: &Sent<'_, '_>, part: &InputPart) -> Option<Lost> {
     for stimulus in &part.stimuli {
         let lost = lost_sender(sent, stimulus);
@@ -124,7 +124,7 @@ fn lost_by(sent: &Sent<'_, '_>, part: &InputPart) -> Option<Lost> {
     None
 }
 
-/// Whether one of some marks is set.
+/// Whether the mark with this number is set.
 fn is_marked(marks: &[bool], number: usize) -> bool {
     match marks.get(number) {
         Some(mark) => *mark,
@@ -132,7 +132,7 @@ fn is_marked(marks: &[bool], number: usize) -> bool {
     }
 }
 
-/// Why what a connection sends back gets to nobody, and where the transition begins that comes to it.
+/// Why a reply in a connection has no receiver, and where a transition begins that leads to the connection.
 fn lost_in(
     alloc: Global,
     sent: &Sent<'_, '_>,
@@ -163,7 +163,7 @@ fn party_name(party: &Party) -> &str {
     }
 }
 
-/// What is said of a signal TO SENDER.
+/// Adds the note for a signal TO SENDER.
 fn add_lost(notes: &mut Notes, sent: &Sent<'_, '_>, lost: &Lost) -> Result<(), AllocError> {
     let said = &mut notes.said;
     match lost {
@@ -180,7 +180,7 @@ fn add_lost(notes: &mut Notes, sent: &Sent<'_, '_>, lost: &Lost) -> Result<(), A
     }
 }
 
-/// What is said of the transition of a line that comes to a connection.
+/// Adds the hint which transition leads to a connection.
 fn add_way(
     alloc: Global,
     notes: &mut Notes,
@@ -199,7 +199,7 @@ fn add_way(
     }
 }
 
-/// What is said of a connection that sends TO SENDER, and of the transition that comes there.
+/// Adds the notes for a connection that sends TO SENDER, and for the transition that leads there.
 fn to_sender_in(
     alloc: Global,
     notes: &mut Notes,
@@ -216,7 +216,7 @@ fn to_sender_in(
     }
 }
 
-/// What is said of an OUTPUT TO SENDER at a place.
+/// Adds the notes for an OUTPUT TO SENDER at a place.
 fn to_sender(
     alloc: Global,
     notes: &mut Notes,
@@ -234,7 +234,7 @@ fn to_sender(
     }
 }
 
-/// What is said of an OUTPUT at a place that no route carries, or that has no sender to go to.
+/// Adds the notes for an OUTPUT at a place that no route carries, or that has no sender as its receiver.
 pub(crate) fn no_receiver(
     alloc: Global,
     notes: &mut Notes,
@@ -268,7 +268,7 @@ pub(crate) fn no_receiver(
     }
 }
 
-/// The names of parties; of processes alone where these are wanted.
+/// The names of parties; if `processes`, only those of processes.
 fn party_items<'a>(
     alloc: Global,
     parties: &'a [Party],
@@ -286,7 +286,7 @@ fn party_items<'a>(
     Ok(items)
 }
 
-/// What is said of an OUTPUT at a place that says to nobody, and that routes carry to several.
+/// Adds the notes for an OUTPUT at a place that names no receiver and that routes carry to several.
 pub(crate) fn two_receivers(
     alloc: Global,
     notes: &mut Notes,
@@ -312,7 +312,7 @@ pub(crate) fn two_receivers(
     add_addresses(alloc, notes, parties)
 }
 
-/// What may be written to name each of the processes among these.
+/// Adds the hint how to name each process among these parties.
 fn add_addresses(alloc: Global, notes: &mut Notes, parties: &[Party]) -> Result<(), AllocError> {
     let processes = party_items(alloc, parties, true)?;
     notes.hint.push_str("write ")?;

@@ -1,4 +1,4 @@
-//! Sets of processes, as commands name them.
+//! Process sets, as commands name them.
 ghost use Rattle.std.specs.Prelude.{◌≡◌, ◌↔◌, List, ℕ, Ok, Err, IfOk, IfErr, IsFalse};
 ghost use Rattle.plain_text.specs.Reading.{Keeps};
 ghost use Rattle.script_point.specs.Loaded.{IsRefused};
@@ -17,21 +17,21 @@ use std::io::Read;
 use std::{fmt, str};
 use thiserror::Error;
 
-/// A set of processes, as a command names it.
+/// A process set, as a command names it.
 #[derive(Drop)]
 pub enum SetWord<R> {
-    /// `standard`: the signalling link terminal, a text of the program's own.
+    /// `standard`: the signalling link terminal, a built-in text.
     Standard,
-    /// `q703`: the signalling link terminal by the letter of Q.703, a text of the program's own.
+    /// `q703`: the signalling link terminal exactly as in Q.703, a built-in text.
     Q703,
-    /// `monitors`: the two error rate monitors, a text of the program's own.
+    /// `monitors`: the two error rate monitors, a built-in text.
     Monitors,
-    /// The set of the text that a reader gives.
+    /// The set of the text that a reader returns.
     Text(R),
 }
 
 impl<R> SetWord<R> {
-    /// The word for a set of the program's own.
+    /// The word for a built-in set.
     pub fn of_own(own: OwnSet) -> SetWord<R>
         ensures { result ≡ own_word own }
     {
@@ -42,7 +42,7 @@ impl<R> SetWord<R> {
         }
     }
 
-    /// The set of the program's own that is named; the reader of the text, where it is none.
+    /// The built-in set that is named; the reader of the text if it is another one.
     pub fn own(self) -> Result<OwnSet, R>
         ensures own { IfOk result (λ own. self ≡ own_word own) }
         ensures text { IfErr result (λ reader. self ≡ Text reader) }
@@ -59,7 +59,7 @@ impl<R> SetWord<R> {
 /// Why there is no set.
 #[derive(Debug, Drop, Error)]
 pub enum SetFault {
-    /// A read failed, the text had no end within 1,000,000 reads, or there was no memory for what was read.
+    /// A read failed, the text had no end within 1,000,000 reads, or memory ran out while reading.
     NotRead,
     /// The bytes are not UTF-8.
     NotText,
@@ -83,7 +83,7 @@ impl fmt::Display for SetFault {
 }
 
 impl SetFault {
-    /// Whether it was memory or a read that failed, and no text is refused.
+    /// Whether memory or a read failed, so that no text is refused.
     pub fn is_failure(&self) -> bool
         ensures { IsFalse result ↔ IsRefusal self.now }
     {
@@ -95,16 +95,16 @@ impl SetFault {
     }
 }
 
-/// Why there is no set, and where in its text.
+/// Why there is no set, and the place in its text.
 #[derive(Debug, Drop)]
 pub struct Refusal {
-    /// Why there is none.
+    /// Why there is no set.
     pub fault: SetFault,
-    /// The lines that point at it, behind the name of the text's file; none where no text is refused.
+    /// The lines that point at the fault, to follow the file's name; empty if no text is refused.
     pub pointed: Vec<u8>,
 }
 
-/// The fault of a text that is too long, of which these are the first bytes.
+/// The fault of a text that is too long and begins with these bytes.
 fn too_long(kept: &[u8]) -> LoadFault
     ensures { (bytes : List ℕ) → IsTooLong bytes kept.now → IsRefused bytes result }
 {
@@ -142,7 +142,7 @@ fn text_set(alloc: Global, text: &str) -> Result<Verified, SetFault>
     }
 }
 
-/// A set of the program's own.
+/// A built-in set.
 fn own_set(alloc: Global, own: OwnSet) -> Result<Verified, SetFault>
     ensures set { IfOk result (IsSetOf (text_of own)) }
     ensures fault { IfErr result (λ e. IsRefusal e → IsRefusalOf (text_of own) e) }
@@ -154,7 +154,7 @@ fn own_set(alloc: Global, own: OwnSet) -> Result<Verified, SetFault>
     }
 }
 
-/// Points at a fault of a text that begins so: with its first bytes, up to one more than a text may have.
+/// Points at a fault of a text, given its first bytes, up to one more than a text may have.
 fn point_at(alloc: Global, kept: &[u8], fault: &SetFault) -> Result<Vec<u8>, AllocError>
     ensures { IfOk result (λ v. PointsOut kept.now fault.now v.items) }
 {
@@ -165,7 +165,7 @@ fn point_at(alloc: Global, kept: &[u8], fault: &SetFault) -> Result<Vec<u8>, All
     }
 }
 
-/// Points at what `load` says of a text; where that is too long, at the first byte too many.
+/// Points at a fault that `load` found in a text; if the text is too long, at the first byte beyond the limit.
 fn point_in(alloc: Global, kept: &[u8], fault: &LoadFault) -> Result<Vec<u8>, AllocError>
     ensures { IfOk result (λ v. PointsIn kept.now fault.now v.items) }
 {
@@ -184,7 +184,7 @@ fn point_in(alloc: Global, kept: &[u8], fault: &LoadFault) -> Result<Vec<u8>, Al
     }
 }
 
-/// Points at what `load` says of a text, and says why.
+/// Points at a fault that `load` found in a text, with its notes.
 fn point_told(alloc: Global, text: &str, fault: &LoadFault) -> Result<Vec<u8>, AllocError>
     ensures { IfOk result (λ v. IsTold text.now fault.now v.items) }
 {
@@ -192,7 +192,7 @@ fn point_told(alloc: Global, text: &str, fault: &LoadFault) -> Result<Vec<u8>, A
     point_out(alloc, text, fault, &told)
 }
 
-/// A fault with the lines that point at it; want of memory in place of it, where there is none for these.
+/// A fault with the lines that point at it; `NoMemory` instead if memory runs out for these lines.
 fn refusal_of(alloc: Global, kept: &[u8], fault: SetFault) -> Refusal
     ensures refused { IsRefusal result.fault → (result.fault ≡ fault) × PointsOut kept.now result.fault result.pointed.items }
     ensures read { result.fault ≡ NotRead → fault ≡ NotRead }
@@ -206,7 +206,7 @@ fn refusal_of(alloc: Global, kept: &[u8], fault: SetFault) -> Refusal
     }
 }
 
-/// The set of a text that begins so, or why it has none, and where.
+/// The loaded set, or its fault with the place, given the first bytes of the text.
 fn pointed_set(
     alloc: Global,
     kept: &[u8],
@@ -222,7 +222,7 @@ fn pointed_set(
     }
 }
 
-/// The set of the text that a reader gives, or why it has none, and where.
+/// The set of the text that a reader returns, or why it has none, and the place.
 fn read_set<R: Read>(alloc: Global, reader: &mut R) -> Result<Verified, Refusal>
     ensures set { IfOk result (λ v. IsGiven (R.remaining reader.old) (λ bytes. IsSetOf bytes v)) }
     ensures fault { IfErr result (λ r. IsRefusal r.fault → IsGiven (R.remaining reader.old) (λ bytes. IsRefusedAt bytes r)) }
@@ -239,13 +239,13 @@ fn read_set<R: Read>(alloc: Global, reader: &mut R) -> Result<Verified, Refusal>
     }
 }
 
-/// The set that a command names, or why there is none, and where in its text. A text is read whole, to its end: bytes that are no text come
-/// before a text that is too long. No more than 262,145 bytes of it are kept.
+/// The set that a command names, or why there is none and the place in its text. The whole text is read: bytes that
+/// aren't UTF-8 are reported before a text that is too long. It keeps at most 262,145 bytes.
 ///
 /// # Errors
 ///
-/// Of the fault [`SetFault::NotText`] (F1) where the bytes aren't UTF-8, [`SetFault::Load`] with what `load` says of the text, or
-/// [`SetFault::NotRead`] where a read of the text failed, so never of the program's own sets. Any call may answer [`LoadFault::NoMemory`] instead.
+/// The fault is [`SetFault::NotText`] (F1) if the bytes aren't UTF-8, [`SetFault::Load`] if `load` refuses the text,
+/// [`SetFault::NotRead`] if a read failed (never for built-in sets), or [`LoadFault::NoMemory`].
 pub fn find_set<R: Read + Drop>(alloc: Global, set: SetWord<R>) -> Result<Verified, Refusal>
     ensures set { IfOk result (λ v. IsGiven (given R.remaining set) (λ bytes. IsSetOf bytes v)) }
     ensures fault { IfErr result (λ r. IsRefusal r.fault → IsGiven (given R.remaining set) (λ bytes. IsRefusedAt bytes r)) }
@@ -257,7 +257,7 @@ pub fn find_set<R: Read + Drop>(alloc: Global, set: SetWord<R>) -> Result<Verifi
     }
 }
 
-/// The set that a command names, or why there is none, as `find_set` gives it, without its place.
+/// The set that a command names, or why there is none: as `find_set`, without the place.
 pub fn load_set<R: Read + Drop>(alloc: Global, set: SetWord<R>) -> Result<Verified, SetFault>
     ensures set { IfOk result (λ v. IsGiven (given R.remaining set) (λ bytes. IsSetOf bytes v)) }
     ensures fault { IfErr result (λ e. IsRefusal e → IsGiven (given R.remaining set) (λ bytes. IsRefusalOf bytes e)) }

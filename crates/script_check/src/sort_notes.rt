@@ -1,4 +1,4 @@
-//! What is said of a wrong sort (S3).
+//! Notes for a wrong sort (S3).
 use crate::operands::Side;
 use crate::sorts::{Cause, Here};
 use script_point::{Notes, push_all, push_number};
@@ -14,7 +14,7 @@ fn article(sort: Option<Sort>) -> &'static str {
     }
 }
 
-/// What is wanted: these words and then a sort; and which sort there is.
+/// Adds the words and the required sort, and under the word the sort found.
 fn add_sorts(
     notes: &mut Notes,
     words: &[&str],
@@ -28,7 +28,7 @@ fn add_sorts(
     notes.under.push_str(article(found))
 }
 
-/// What is said of a parameter of a signal.
+/// Adds the notes for a parameter of a signal.
 fn add_parameter(
     alloc: Global,
     notes: &mut Notes,
@@ -43,7 +43,7 @@ fn add_parameter(
     add_sorts(notes, &words, Some(want), "this is ", found)
 }
 
-/// What is said of a number of parameters.
+/// Adds the notes for a wrong number of parameters.
 fn add_number(
     alloc: Global,
     notes: &mut Notes,
@@ -66,7 +66,7 @@ fn add_number(
     notes.under.push_str(" given")
 }
 
-/// What is said of an answer.
+/// Adds the notes for a value of an answer.
 fn add_answer(notes: &mut Notes, is_truth: bool, here: Here) -> Result<(), AllocError> {
     if is_truth {
         notes
@@ -108,7 +108,7 @@ fn sign(operator: BinaryOperator) -> &'static str {
     }
 }
 
-/// The operator of an operand as it is written.
+/// The operator of an operand, as it is written.
 fn side_sign(side: Side) -> &'static str {
     match side {
         Side::Behind(operator) => match operator {
@@ -120,7 +120,7 @@ fn side_sign(side: Side) -> &'static str {
     }
 }
 
-/// That an operand is wanted on its side.
+/// The note that an operand is missing on its side.
 fn side_text(side: Side) -> &'static str {
     match side {
         Side::Behind(_) => " is wanted behind `",
@@ -129,7 +129,7 @@ fn side_text(side: Side) -> &'static str {
     }
 }
 
-/// What is said of an operand.
+/// Adds the notes for an operand.
 fn add_operand(
     notes: &mut Notes,
     side: Side,
@@ -151,7 +151,7 @@ fn add_operand(
     Ok(())
 }
 
-/// What is said of a cause.
+/// Adds the notes for a cause.
 pub(crate) fn explain(alloc: Global, notes: &mut Notes, cause: &Cause) -> Result<(), AllocError> {
     match cause {
         Cause::Operand {

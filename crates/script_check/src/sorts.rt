@@ -1,4 +1,4 @@
-//! Why a value, an answer or a place of an INPUT has the wrong sort, or why there are too many or too few of them (S3).
+//! Why a value, an answer or a place of an INPUT has the wrong sort, or why their number is wrong (S3).
 use crate::operands::{Side, first_of, in_expression, place};
 use script_point::{Standing, standing_at};
 use sdl_lex::Name;
@@ -25,7 +25,7 @@ pub(crate) enum Cause {
         want: Sort,
         found: Option<Sort>,
     },
-    /// A variable whose value stands behind it.
+    /// A variable whose value has another sort.
     Value {
         variable: Name,
         want: Option<Sort>,
@@ -37,22 +37,22 @@ pub(crate) enum Cause {
         want: Sort,
         found: Sort,
     },
-    /// A signal or a timer with so many parameters, and so many that are given.
+    /// A signal or a timer with the wrong number of parameters.
     Number {
         signal: Name,
         wanted: usize,
         given: usize,
     },
-    /// A time.
+    /// A time of a SET that isn't an Integer.
     Time,
-    /// A value of an answer to a question of Booleans, or to one of Integers.
+    /// A value in an answer to a question of Booleans, or of Integers.
     Answer {
         is_truth: bool,
         here: Here,
     },
 }
 
-/// What stands where a value of an answer is wrong.
+/// The kind of value at the faulty place of an answer.
 #[derive(Clone, Copy)]
 pub(crate) enum Here {
     Integer,
@@ -62,7 +62,7 @@ pub(crate) enum Here {
     Nothing,
 }
 
-/// The sort of a variable.
+/// The sort of a variable, if it is declared.
 fn variable_sort(process: &ProcessTable, name: Name) -> Option<Sort> {
     match process.variables().number(name) {
         None => None,
@@ -81,7 +81,7 @@ fn parameters_of<'a>(block: &BlockTable<'a>, name: Name) -> &'a [Sort] {
     }
 }
 
-/// Why an assignment is wrong at a place.
+/// The cause of S3 at a place of an assignment.
 fn in_assignment(process: &ProcessTable, assignment: &Assignment, at: u32) -> Option<Cause> {
     if assignment.variable.at == at {
         return Some(Cause::Value {
@@ -93,7 +93,7 @@ fn in_assignment(process: &ProcessTable, assignment: &Assignment, at: u32) -> Op
     in_expression(process, &assignment.value, at)
 }
 
-/// Why one of the assignments is wrong at a place.
+/// The cause of S3 at a place of assignments.
 fn in_assignments(process: &ProcessTable, assignments: &[Assignment], at: u32) -> Option<Cause> {
     let mut cause = None;
     for assignment in assignments {
@@ -102,7 +102,7 @@ fn in_assignments(process: &ProcessTable, assignments: &[Assignment], at: u32) -
     cause
 }
 
-/// Why a parameter of a signal that goes out is wrong at a place.
+/// The cause of S3 at a place of a parameter of a sent signal.
 fn in_parameter(
     process: &ProcessTable,
     signal: Name,
@@ -123,7 +123,7 @@ fn in_parameter(
     }
 }
 
-/// Why a signal that goes out is wrong at a place.
+/// The cause of S3 at a place of a sent signal.
 fn in_sending(
     block: &BlockTable,
     process: &ProcessTable,
@@ -151,7 +151,7 @@ fn in_sending(
     cause
 }
 
-/// Why one of the signals that go out is wrong at a place.
+/// The cause of S3 at a place of the sent signals.
 fn in_sendings(
     block: &BlockTable,
     process: &ProcessTable,
@@ -165,7 +165,7 @@ fn in_sendings(
     cause
 }
 
-/// Why the time of a SET is wrong at a place.
+/// The cause of S3 at a place of the time of a SET.
 fn in_time(process: &ProcessTable, delay: &Expression, at: u32) -> Option<Cause> {
     if place(delay) == at && sort_in(process, delay) != Some(Sort::Integer) {
         return Some(Cause::Time);
@@ -173,7 +173,7 @@ fn in_time(process: &ProcessTable, delay: &Expression, at: u32) -> Option<Cause>
     in_expression(process, delay, at)
 }
 
-/// Why an action is wrong at a place.
+/// The cause of S3 at a place of an action.
 fn in_action(
     block: &BlockTable,
     process: &ProcessTable,
@@ -188,7 +188,7 @@ fn in_action(
     }
 }
 
-/// Why the place of an INPUT that stands for a parameter is wrong.
+/// The cause of S3 at an INPUT's place that stands for a parameter.
 fn in_place(
     process: &ProcessTable,
     signal: Name,
@@ -208,7 +208,7 @@ fn in_place(
     }
 }
 
-/// Why what an INPUT takes is wrong at a place.
+/// The cause of S3 at a place of a signal or timer that an INPUT takes.
 fn in_stimulus(
     block: &BlockTable,
     process: &ProcessTable,
@@ -233,7 +233,7 @@ fn in_stimulus(
     cause
 }
 
-/// Why one of the things that an INPUT takes is wrong at a place.
+/// The cause of S3 at a place of the signals and timers that an INPUT takes.
 fn in_stimuli(
     block: &BlockTable,
     process: &ProcessTable,
@@ -247,7 +247,7 @@ fn in_stimuli(
     cause
 }
 
-/// Why one of the INPUTs of a process is wrong at a place.
+/// The cause of S3 at a place of the INPUTs of a process.
 fn in_inputs(block: &BlockTable, process: &ProcessTable, at: u32) -> Option<Cause> {
     let mut cause = None;
     for part in process.parts() {
@@ -264,7 +264,7 @@ fn literal_sort(literal: Literal) -> Sort {
     }
 }
 
-/// Why the initial value of a variable is wrong at a place.
+/// The cause of S3 at the initial value of a variable at a place.
 fn in_initials(process: &ProcessTable, at: u32) -> Option<Cause> {
     for row in process.rows() {
         match row.initial {
@@ -281,7 +281,7 @@ fn in_initials(process: &ProcessTable, at: u32) -> Option<Cause> {
     None
 }
 
-/// What stands at a place of an answer.
+/// The kind of value at a place of an answer.
 fn standing_in(answer: &Answer, at: u32) -> Here {
     for range in &answer.ranges {
         match range {
@@ -299,7 +299,7 @@ fn standing_in(answer: &Answer, at: u32) -> Here {
     Here::Nothing
 }
 
-/// Why a process is wrong at a place.
+/// The cause of S3 at a place of a process.
 pub(crate) fn wrong_sort(block: &BlockTable, process: &ProcessTable, at: u32) -> Option<Cause> {
     let declared = first_of(in_initials(process, at), in_inputs(block, process, at));
     if declared.is_some() {

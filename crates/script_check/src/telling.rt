@@ -1,4 +1,4 @@
-//! What is said of a refusal, and where it is found where it names no place itself, or where more than that.
+//! Notes for a refusal, and the place where it was found if it names none or names only a beginning.
 ghost use Rattle.std.specs.Prelude.{List, Ok, IfOk, IfSome, IsTrue};
 ghost use Rattle.sdl_lex.specs.Lexed.{Answers};
 ghost use Rattle.sdl_lex.specs.declared.lexemes.Token as lexeme;
@@ -19,10 +19,10 @@ use sdl_tables::{BlockTable, ProcessTable, TableFault};
 use sdl_tree::{Block, ParseFault, parse};
 use std::alloc::{AllocError, Global};
 
-/// How many tokens of a process at most are read once more with each token that might stand behind them.
+/// The most tokens of a process that are parsed again with each token that might follow them.
 const MOST_TRIED: usize = 4096;
 
-/// Where a variable is read unset.
+/// Notes where a variable is read unset.
 fn of_unset(
     alloc: Global,
     told: &mut Told,
@@ -43,7 +43,7 @@ fn of_unset(
     }
 }
 
-/// What is said of a rule that is broken at a place of a process.
+/// Adds the notes for a rule that is broken at a place of a process.
 fn of_place(
     alloc: Global,
     told: &mut Told,
@@ -67,7 +67,7 @@ fn of_place(
     }
 }
 
-/// The place of a rule that the tree tells more of.
+/// The place of a fault about which the syntax tree yields notes.
 fn place_of(fault: &RuleFault) -> Option<u32> {
     match fault {
         RuleFault::WrongSort(at)
@@ -79,7 +79,7 @@ fn place_of(fault: &RuleFault) -> Option<u32> {
     }
 }
 
-/// What is said of a rule that a block with these tables breaks.
+/// Adds the notes for a rule that a block with these tables breaks.
 fn of_block(
     alloc: Global,
     told: &mut Told,
@@ -102,7 +102,7 @@ fn of_block(
     }
 }
 
-/// What is said of a rule that a block breaks.
+/// Adds the notes for a rule that a block breaks.
 fn of_tree(
     alloc: Global,
     told: &mut Told,
@@ -117,7 +117,7 @@ fn of_tree(
     }
 }
 
-/// Adds what the tree of a text tells of a rule that it breaks.
+/// Adds the notes that the syntax tree of a text yields for a rule that it breaks.
 fn add_of_tree(
     alloc: Global,
     told: &mut Told,
@@ -131,7 +131,7 @@ fn add_of_tree(
     }
 }
 
-/// Whether a token is a name, in whatever case.
+/// Whether a token is this name, without regard to case.
 fn is_named(token: &Token, name: Name) -> bool
     ensures { IsTrue result → IsNamed name token.now.lexeme }
 {
@@ -141,7 +141,7 @@ fn is_named(token: &Token, name: Name) -> bool
     }
 }
 
-/// A place where a token is a name; none where none is.
+/// The place, if a token there is this name; else none.
 fn name_at(tokens: &[Token], name: Name, place: u32) -> Option<u32>
     ensures { IfSome result (IsNameAt tokens.now name) }
 {
@@ -153,7 +153,7 @@ fn name_at(tokens: &[Token], name: Name, place: u32) -> Option<u32>
     None
 }
 
-/// A place where a token begins; none where none does.
+/// The place, if a token begins there; else none.
 fn token_at(tokens: &[Token], place: u32) -> Option<u32>
     ensures { IfSome result (IsTokenAt tokens.now) }
 {
@@ -165,7 +165,7 @@ fn token_at(tokens: &[Token], place: u32) -> Option<u32>
     None
 }
 
-/// The place where a rule is found to be broken, where what stands there may be that.
+/// The place where a broken rule was found, if the token there fits the rule.
 fn fitting_rule(tokens: &[Token], fault: &RuleFault, place: u32) -> Option<u32>
     ensures { IfSome result (FitsRule tokens.now fault.now) }
 {
@@ -176,7 +176,7 @@ fn fitting_rule(tokens: &[Token], fault: &RuleFault, place: u32) -> Option<u32>
     }
 }
 
-/// The place where a refusal is found, where what stands there may be that.
+/// The place where a refusal was found, if the token there fits the refusal.
 fn fitting(tokens: &[Token], fault: &LoadFault, found: Option<u32>) -> Option<u32>
     ensures { IfSome result (Fits tokens.now fault.now) }
 {
@@ -189,7 +189,7 @@ fn fitting(tokens: &[Token], fault: &LoadFault, found: Option<u32>) -> Option<u3
     }
 }
 
-/// The index of a token that can't stand where it does, if more tokens of its process stand before it than are tried.
+/// The index of a token that the parser can't accept, if its process has too many tokens before it to try candidates.
 fn far_token(read: &Reading<'_>, fault: &LoadFault) -> Option<usize> {
     let LoadFault::Parse {
         fault: ParseFault::Unexpected(index),
@@ -202,7 +202,7 @@ fn far_token(read: &Reading<'_>, fault: &LoadFault) -> Option<usize> {
     (before > MOST_TRIED).then_some(*index)
 }
 
-/// What is said of such a token: not what might stand there.
+/// Adds the note for such a token, without the tokens that might stand there.
 fn of_far(notes: &mut Notes, read: &Reading<'_>, index: usize) -> Result<(), AllocError> {
     if index < read.tokens.len() {
         let words = ["`", read.spelled(index), "` can't stand here"];
@@ -212,7 +212,7 @@ fn of_far(notes: &mut Notes, read: &Reading<'_>, index: usize) -> Result<(), All
     }
 }
 
-/// Adds what the tokens of a text tell of a refusal.
+/// Adds the notes that the tokens of a text yield for a refusal.
 fn add_of_tokens(
     alloc: Global,
     notes: &mut Notes,
@@ -225,7 +225,7 @@ fn add_of_tokens(
     }
 }
 
-/// What is said of a refusal of a text, and a place for one that may have none.
+/// Adds the notes for a refusal of a text, and its place if it may name none.
 fn say(
     alloc: Global,
     told: &mut Told,
@@ -239,7 +239,7 @@ fn say(
     }
 }
 
-/// What is said of a refusal of a text, and where it is found where it names no place.
+/// The notes for a refusal of a text, and the place where it was found if it names none.
 pub(crate) fn told_of(alloc: Global, text: &str, fault: &LoadFault) -> Result<Told, AllocError>
     ensures { IfOk result (λ told. (ts : List lexeme.Token) → Answers text.now (Ok ts) → IfSome told.found (Fits ts fault.now)) }
 {

@@ -1,4 +1,4 @@
--- A script by its length.
+-- Reading a terminal's or a book's script, by the length of the text.
 use Rattle.std.proofs.Common.{◌≡◌, ℕ, ◌<◌, ◌≤◌, List, length, refl, Err}
 use Rattle.std.proofs.lemmas.Bool.{lt-ltb, le-ltb}
 use Rattle.plain_text.specs.Reading.{LONGEST}

@@ -1,4 +1,4 @@
--- What readers make of words of which there are too few, or many.
+-- Readers of words, given too few words or many.
 use Rattle.std.proofs.Common.{◌≡◌, ℕ, ◌<◌, ◌≤◌, List, [], ◌∷◌, length, Bor, None, refl, arith}
 use Rattle.std.specs.Prelude.{option_and_then}
 use Rattle.script_lines.specs.Lines.{texts}

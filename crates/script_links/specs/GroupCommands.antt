@@ -1,4 +1,4 @@
--- What a line of a link set's script reads as.
+-- The command that a line of a link set's script means.
 use Rattle.std.specs.Prelude.{ℕ, Bool, true, false, nat_le, ◌&&◌, if◌then◌else◌, List, [], ◌∷◌}
 use Rattle.std.specs.Prelude.{length, Option}
 use Rattle.std.specs.Prelude.{None, Some, option_map, option_and_then, codes}
@@ -51,10 +51,10 @@ plain_group_command (code.Message octets) = message octets.items
 plain_group_command (code.Admit way) = admitting way
 plain_group_command (code.Own word) = own word
 
--- ---- those that only a link set has
+-- ---- commands that only a link set has
 
--- a service information octet, and behind it a field that begins with a label of four octets, 272
--- octets at most
+-- A service information octet, then a field that begins with a label of four octets; the field has
+-- at most 272 octets.
 abbrev pub is_labelled : List ℕ → Bool
 is_labelled octets = nat_le 5 (length octets) && nat_le (length octets) 273
 
@@ -64,11 +64,11 @@ as_sending octets = if is_labelled octets then Some (sending octets) else None
 abbrev pub sending_by : Option (List ℕ) → Option PlainGroupCommand
 sending_by octets = option_and_then as_sending octets
 
--- the points of a script's set
+-- The point codes of the set in a script.
 abbrev pub points : Points
 points = record { own = 1; peer = 2 }
 
--- octets of a message that is bound to a link
+-- The octets are a message bound to a link.
 abbrev pub is_bound_message : List ℕ → Bool
 is_bound_message [] = false
 is_bound_message (sio ∷ sif) = is_bound_by points sio sif
@@ -84,7 +84,7 @@ way_of word =
     if bytes_eq word (codes "yes") then Some true
     else (if bytes_eq word (codes "no") then Some false else None)
 
--- ---- those that it has in common with a terminal
+-- ---- commands that a terminal has too
 
 abbrev pub shared_of : PlainTermCommand → Option PlainGroupCommand
 shared_of (terminal.order o) = Some (order o)
@@ -105,7 +105,7 @@ shared_of (terminal.state process) = Some (state process)
 shared_of (terminal.shown process variable) = Some (shown process variable)
 shared_of (terminal.expected text) = Some (expected text)
 
--- ---- what the words of a line read as
+-- ---- the command that the words of a line mean
 
 abbrev pub group_word_text : GroupWord → List ℕ
 group_word_text words.Fail = codes "fail"
@@ -118,7 +118,7 @@ group_word_text words.Held = codes "held"
 group_word_text words.Unsure = codes "unsure"
 group_word_text words.Link = codes "link"
 
--- the first of these that has the text
+-- The first of these words that has the text.
 abbrev pub group_word_among : List ℕ → List GroupWord → Option GroupWord
 group_word_among word [] = None
 group_word_among word (x ∷ more) =
@@ -147,7 +147,7 @@ group_verb_of word =
     group_verb_among word
     (verbs.On ∷ verbs.Send ∷ verbs.Bound ∷ verbs.Message ∷ verbs.Admit ∷ [])
 
--- what the word behind it reads as
+-- The command that a verb and the word after it mean.
 abbrev pub by_group_verb : GroupVerb → List ℕ → Option PlainGroupCommand
 by_group_verb verbs.On word = option_map on (count_of word)
 by_group_verb verbs.Send word = sending_by (octets_of word)

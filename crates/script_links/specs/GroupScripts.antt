@@ -1,5 +1,4 @@
--- What a script reads as: one for a link set where its first line says so, else one of another
--- kind.
+-- The script that a text means: a link set's if its first line says so, else one of another kind.
 use Rattle.std.specs.Prelude.{ℕ, ◌≡◌, ◌≤◌, Bool, nat_lt, if◌then◌else◌, List, [], ◌∷◌, length, map}
 use Rattle.std.specs.Prelude.{Option, None, Some, option_map, is_none, find, Result, Ok, Err}
 use Rattle.std.specs.List.{filter_map}
@@ -18,7 +17,7 @@ use Rattle.script_links.specs.declared.group_script.GroupScript.{GroupScript}
 use Rattle.script_links.specs.declared.group_script.PlayScript.{PlayScript}
 use Rattle.script_links.specs.declared.group_script.PlayScript.TheVariants as code
 
--- a command and the number of its line
+-- A command and the number of its line.
 pub record PlainGroupSaid : Type 0 where
   pub line : ℕ
   pub command : PlainGroupCommand
@@ -53,12 +52,12 @@ pub record IsFew (links : ℕ) : Type 0 where
   pub some : 1 ≤ links
   pub few : links ≤ MOST_LINKS
 
--- the numbers that the first lines say are in their ranges
+-- The numbers in the first lines are in their ranges.
 abbrev pub IsFit : PlayScript → Type 0
 IsFit (code.Other s) = IsInRange s
 IsFit (code.Group s) = IsFew s.head.links
 
--- commands, or the number of the first line that is none
+-- The commands, or the number of the first line that isn't one.
 abbrev pub group_by : GroupHead → List PlainLine → Option PlainLine → Result PlainPlayScript ℕ
 group_by head lines None =
     Ok (group (record { head = head; commands = filter_map group_said_of lines }))
@@ -77,19 +76,19 @@ abbrev pub play_in : List PlainLine → Result PlainAnyScript ℕ → Result Pla
 play_in [] as_any = as_other as_any
 play_in (line ∷ more) as_any = play_by more as_any (head_of line.words)
 
--- what a text reads as, or the number of its first bad line; of a text that is too long that of the
--- first byte too many
+-- The script that a text means, or the number of its first bad line; for a text that is too long
+-- the line of the first byte beyond the limit.
 unfoldable pub play_script_of : List ℕ → Result PlainPlayScript ℕ
 play_script_of text =
     if nat_lt LONGEST (length text) then Err (line_at text LONGEST)
     else play_in (lines_of text) (any_script_of text)
 
--- what a refusal says of a reading; want of memory says nothing
+-- What a refusal states about a text; `NoMemory` states nothing.
 abbrev pub Tells : Result PlainPlayScript ℕ → ScriptFault → Type 0
 Tells reading (BadLine line) = reading ≡ Err line
 Tells reading NoMemory = Unit {0}
 
--- the first line that is no command has this number
+-- The first line that isn't a command has this number.
 abbrev pub IsBadGroupLine : List PlainLine → ScriptFault → Type 0
 IsBadGroupLine lines (BadLine number) =
     option_map (λ (line : PlainLine). line.number) (find is_bad_group lines) ≡ Some number

@@ -11,9 +11,9 @@ use Rattle.script_links.specs.Orders.{mode_named}
 use Rattle.script_links.specs.declared.heads.TermHead.{TermHead}
 use Rattle.script_links.specs.declared.heads.GroupHead.{GroupHead}
 
--- ---- a terminal's
+-- ---- of a terminal's script
 
--- these limits, or the usual ones where none are chosen
+-- The chosen limits, or the usual ones if none are chosen.
 abbrev pub limits_over : RoundLimits → Option RoundLimits → RoundLimits
 limits_over usual None = usual
 limits_over usual (Some limits) = limits
@@ -24,11 +24,11 @@ limits_by None octets = None
 limits_by (Some messages) None = None
 limits_by (Some messages) (Some octets) = chosen_limits messages octets
 
--- cyclic retransmission within limits
+-- Cyclic retransmission with these limits.
 abbrev pub cyclic_within : Option RoundLimits → Option TermHead
 cyclic_within limits = option_map (λ l. record { mode = Cyclic; limits = Some l }) limits
 
--- a kind of error correction, for which no limits are chosen
+-- A kind of error correction, without chosen limits.
 abbrev pub of_mode : Option Mode → Option TermHead
 of_mode mode = option_map (λ m. record { mode = m; limits = None }) mode
 
@@ -49,16 +49,16 @@ term_head_of (word ∷ mode ∷ []) = head_of_mode word mode
 term_head_of (word ∷ mode ∷ messages ∷ octets ∷ []) = head_within word mode messages octets
 term_head_of _ = None
 
--- ---- a link set's
+-- ---- of a link set's script
 
--- A set has one link at least; a link's number has the 4 bits of a selection (Q.704, 2.2).
+-- A set has at least one link. A link's number has 4 bits, as a selection has (Q.704, 2.2).
 abbrev pub MOST_LINKS : ℕ
 MOST_LINKS = 16
 
 abbrev pub as_links : ℕ → Option ℕ
 as_links n = if nat_le 1 n && nat_le n MOST_LINKS then Some n else None
 
--- how many links a word says
+-- The number of links that a word spells.
 abbrev pub links_of : List ℕ → Option ℕ
 links_of word = option_and_then as_links (count_of word)
 
@@ -67,7 +67,7 @@ head_with None links = None
 head_with (Some mode) None = None
 head_with (Some mode) (Some links) = Some (record { mode = mode; links = links })
 
--- `group`, the kind of error correction, and how many links
+-- `group`, the kind of error correction, and the number of links.
 abbrev pub head_by : List ℕ → List ℕ → List ℕ → Option GroupHead
 head_by word mode number =
     if bytes_eq word (codes "group") then head_with (mode_named mode) (links_of number) else None

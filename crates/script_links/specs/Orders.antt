@@ -1,4 +1,4 @@
--- What single words tell a terminal.
+-- The orders to a terminal that single words name.
 use Rattle.std.specs.Prelude.{ℕ, if◌then◌else◌, List, [], ◌∷◌, Option, None, Some, codes}
 use Rattle.std.specs.Str.{bytes_eq}
 use Rattle.resend_store.specs.declared.messages.Mode.{Mode}
@@ -22,7 +22,7 @@ order_text Flush = codes "flush"
 order_text Continue = codes "continue"
 order_text Overload = codes "overload"
 
--- the first of these that has the text
+-- The first of these orders that has the text.
 abbrev pub order_among : List ℕ → List Order → Option Order
 order_among word [] = None
 order_among word (order ∷ more) =
@@ -34,7 +34,7 @@ order_of word =
     (Power ∷ Start ∷ Stop ∷ Emergency ∷ Calm ∷ Outage ∷ Back ∷ Busy ∷ Free ∷ Flush ∷ Continue
     ∷ Overload ∷ [])
 
--- the kinds of error correction (Q.703, 1.4)
+-- The kind of error correction that a word names (Q.703, 1.4).
 abbrev pub mode_named : List ℕ → Option Mode
 mode_named word =
     if bytes_eq word (codes "basic") then Some Basic

@@ -1,4 +1,4 @@
--- What a line of a terminal's script reads as.
+-- The command that a line of a terminal's script means.
 use Rattle.std.specs.Prelude.{ℕ, nat_le, Bool, true, false, ◌&&◌, if◌then◌else◌, List, [], ◌∷◌}
 use Rattle.std.specs.Prelude.{Option, None, Some, option_map, option_and_then, codes}
 use Rattle.std.specs.Str.{bytes_eq}
@@ -58,7 +58,7 @@ plain_term_command (code.State process) = state process.now
 plain_term_command (code.Value process variable) = shown process.now variable.now
 plain_term_command (code.Expect text) = expected text.items
 
--- whether a command asks what the terminal tells
+-- Whether a command reads a report of the terminal.
 abbrev pub is_told : PlainTermCommand → Bool
 is_told (order o) = false
 is_told (unit octets) = false
@@ -78,9 +78,9 @@ is_told (state process) = false
 is_told (shown process variable) = false
 is_told (expected text) = false
 
--- ---- those that only a terminal has
+-- ---- commands that only a terminal has
 
--- a choice of octets
+-- A command from octets that pass a test.
 abbrev pub where_so :
     (List ℕ → Bool) → (List ℕ → PlainTermCommand) → List ℕ → Option PlainTermCommand
 where_so test make octets = if test octets then Some (make octets) else None
@@ -88,7 +88,7 @@ where_so test make octets = if test octets then Some (make octets) else None
 abbrev pub unit_by : Option (List ℕ) → Option PlainTermCommand
 unit_by octets = option_and_then (where_so is_unit unit) octets
 
--- how often: 1 to 1,000,000 times
+-- A number of repetitions: 1 to 1,000,000.
 abbrev pub as_times : ℕ → Option ℕ
 as_times n = if nat_le 1 n && nat_le n 1000000 then Some n else None
 
@@ -106,14 +106,14 @@ msu_by octets = option_and_then (where_so is_message msu) octets
 abbrev pub ABORTED : List ℕ
 ABORTED = codes "aborted_periods"
 
--- a measurement, or that all counts begin anew
+-- A measurement, or the reset of all counts.
 abbrev pub measure_by : List ℕ → Option PlainTermCommand
 measure_by word =
     if bytes_eq word (codes "reset") then Some resetting
     else (if bytes_eq word ABORTED then Some counting_aborted
     else option_map measuring (measure_named word))
 
--- ---- those that it has in common with a book
+-- ---- commands that a book has too
 
 abbrev pub shared_call : Call → List ℕ → Option PlainTermCommand
 shared_call Begin process = None
@@ -131,7 +131,7 @@ shared_of rest = None
 shared_of (value process variable) = Some (shown process variable)
 shared_of (expect text) = Some (expected text)
 
--- ---- what the words of a line read as
+-- ---- the command that the words of a line mean
 
 abbrev pub term_verb_text : TermVerb → List ℕ
 term_verb_text verbs.Order = codes "command"
@@ -143,7 +143,7 @@ term_verb_text verbs.Errors = codes "errors"
 term_verb_text verbs.Retrieve = codes "retrieve"
 term_verb_text verbs.Measure = codes "measure"
 
--- the first of these verbs that has the text
+-- The first of these verbs that has the text.
 abbrev pub term_verb_among : List ℕ → List TermVerb → Option TermVerb
 term_verb_among word [] = None
 term_verb_among word (verb ∷ more) =
@@ -155,7 +155,7 @@ term_verb_of word =
     (verbs.Order ∷ verbs.Unit ∷ verbs.Line ∷ verbs.Msu ∷ verbs.Out ∷ verbs.Errors ∷ verbs.Retrieve
     ∷ verbs.Measure ∷ [])
 
--- what the word behind it reads as
+-- The command that a verb and the word after it mean.
 abbrev pub by_term_verb : TermVerb → List ℕ → Option PlainTermCommand
 by_term_verb verbs.Order word = option_map order (order_of word)
 by_term_verb verbs.Unit word = unit_by (octets_of word)
@@ -170,24 +170,24 @@ abbrev pub by_first : Option TermVerb → List ℕ → Option PlainTermCommand �
 by_first (Some verb) word as_shared = by_term_verb verb word
 by_first None word as_shared = as_shared
 
--- a word that stands alone
+-- A command of one word.
 abbrev pub asked_of : List ℕ → Option PlainTermCommand
 asked_of word =
     if bytes_eq word (codes "told") then Some told
     else (if bytes_eq word (codes "accepted") then Some accepted
     else (if bytes_eq word (codes "retrieve") then Some (retrieving None) else None))
 
--- the octets of a unit: in digits, which are one word, or in words
+-- The octets of a unit: one word of digits, or several words.
 abbrev pub unit_octets_of : List (List ℕ) → Option (List ℕ)
 unit_octets_of (word ∷ []) = octets_of word
 unit_octets_of words = unit_of_words words
 
--- how often, and a unit
+-- A number of repetitions, and a unit.
 abbrev pub units_of : List (List ℕ) → Option PlainTermCommand
 units_of (number ∷ words) = units_by (times_of number) (unit_octets_of words)
 units_of [] = None
 
--- three words and more
+-- Three or more words.
 abbrev pub words_of : List (List ℕ) → Option PlainTermCommand
 words_of (first ∷ more) =
     if bytes_eq first (codes "unit") then unit_by (unit_of_words more)

@@ -1,4 +1,4 @@
--- What a script reads as: one for a terminal where its first line says so, else one for a book.
+-- The script that a text means: a terminal's if its first line says so, else a book's.
 use Rattle.std.specs.Prelude.{ℕ, ◌≡◌, Bool, nat_lt, if◌then◌else◌, List, [], ◌∷◌, length, map}
 use Rattle.std.specs.Prelude.{Option, None, Some, option_map, is_none, find, Result, Ok, Err}
 use Rattle.std.specs.List.{filter_map, list_any}
@@ -16,7 +16,7 @@ use Rattle.script_links.specs.declared.script.TermScript.{TermScript}
 use Rattle.script_links.specs.declared.script.AnyScript.{AnyScript}
 use Rattle.script_links.specs.declared.script.AnyScript.TheVariants as code
 
--- a command and the number of its line
+-- A command and the number of its line.
 pub record PlainTermSaid : Type 0 where
   pub line : ℕ
   pub command : PlainTermCommand
@@ -32,11 +32,11 @@ term_said_of line =
     option_map (λ command. record { line = line.number; command = command })
     (term_command_of line.words)
 
--- whether a command asks what the terminal tells
+-- Whether a command reads a report of the terminal.
 abbrev pub is_told : PlainTermSaid → Bool
 is_told said = asks_told_by said.command
 
--- whether one of them does
+-- Whether one of the commands reads a report of the terminal.
 abbrev pub asks_told : List PlainTermSaid → Bool
 asks_told commands = list_any is_told commands
 
@@ -55,12 +55,12 @@ abbrev pub plain_any_script : AnyScript → PlainAnyScript
 plain_any_script (code.Book s) = book (plain_script s)
 plain_any_script (code.Terminal s) = terminal (plain_term_script s)
 
--- the numbers that the first lines of a book's script set are in their ranges
+-- The numbers that the first lines of a book script set are in their ranges.
 abbrev pub IsInRange : AnyScript → Type 0
 IsInRange (code.Book s) = AreInRange s.settings
 IsInRange (code.Terminal s) = Unit {0}
 
--- commands, or the number of the first line that is none
+-- The commands, or the number of the first line that isn't one.
 abbrev pub term_by : TermHead → List PlainLine → Option PlainLine → Result PlainAnyScript ℕ
 term_by head lines None =
     Ok (terminal (record { head = head; commands = filter_map term_said_of lines }))
@@ -79,19 +79,19 @@ abbrev pub any_in : List PlainLine → Result PlainScript ℕ → Result PlainAn
 any_in [] as_other = as_book as_other
 any_in (line ∷ more) as_other = any_by more as_other (term_head_of line.words)
 
--- what a text reads as, or the number of its first bad line; of a text that is too long that of the
--- first byte too many
+-- The script that a text means, or the number of its first bad line; for a text that is too long
+-- the line of the first byte beyond the limit.
 unfoldable pub any_script_of : List ℕ → Result PlainAnyScript ℕ
 any_script_of text =
     if nat_lt LONGEST (length text) then Err (line_at text LONGEST)
     else any_in (lines_of text) (script_of text)
 
--- what a refusal says of a reading; want of memory says nothing
+-- What a refusal states about a text; `NoMemory` states nothing.
 abbrev pub Tells : Result PlainAnyScript ℕ → ScriptFault → Type 0
 Tells reading (BadLine line) = reading ≡ Err line
 Tells reading NoMemory = Unit {0}
 
--- the first line that is no command has this number
+-- The first line that isn't a command has this number.
 abbrev pub IsBadTermLine : List PlainLine → ScriptFault → Type 0
 IsBadTermLine lines (BadLine number) =
     option_map (λ (line : PlainLine). line.number) (find is_bad_term lines) ≡ Some number

@@ -16,49 +16,50 @@ use resend_store::{Measure, measure_named};
 use script_lines::{Call, Command, command_in, count};
 use std::alloc::{AllocError, Global};
 
-/// The most times that a line of a script says a signal unit.
+/// The most repetitions of a signal unit by one line of a script.
 const MOST_TIMES: u32 = 1_000_000;
 
-/// A command of a terminal's script. Processes and variables are words: what they name is for the run to say.
+/// A command of a terminal's script. Processes and variables are words, which the player of the script looks up.
 #[derive(Drop)]
 pub enum TermCommand<'a> {
-    /// `command W`: the terminal is told something.
+    /// `command W`: gives the terminal an order.
     Order(Order),
-    /// `unit HEX`, or the unit in words: a signal unit comes in. Its octets without the check octets, 3 to 276.
+    /// `unit HEX`, or a unit in words: receives a signal unit, given without its check octets, 3 to 276 octets.
     Unit(Vec<u8>),
-    /// `units N HEX`, or the unit in words: so many times this signal unit, 1 to 1,000,000.
+    /// `units N HEX`, or a unit in words: receives this signal unit N times, 1 to 1,000,000.
     Units(u32, Vec<u8>),
-    /// `errors N`: so many signal units with errors, 1 to 1,000,000.
+    /// `errors N`: receives N signal units with errors, 1 to 1,000,000.
     Errors(u32),
-    /// `line HEX`: octets come in as they stand on the line.
+    /// `line HEX`: receives octets as they are on the line.
     Line(Vec<u8>),
-    /// `msu HEX`: a message is to go out. Its service information octet and its signalling information field, 3 to 273 octets.
+    /// `msu HEX`: queues a message to send: service information octet and signalling information field, 3 to 273
+    /// octets.
     Msu(Vec<u8>),
-    /// `out N`: so many units go out.
+    /// `out N`: sends N units.
     Out(u32),
-    /// `tick N`: the clock goes on by N.
+    /// `tick N`: advances the clock by N.
     Tick(u32),
-    /// `told`: what the terminal tells next is printed.
+    /// `told`: prints the next report of the terminal.
     Told,
-    /// `accepted`: the number of the message that was accepted last is printed.
+    /// `accepted`: prints the sequence number of the message accepted last.
     Accepted,
-    /// `retrieve N`, `retrieve`: the messages behind this number, or those that never were sent, are handed out. The number is 127 at most.
+    /// `retrieve N`: retrieves the messages after number N, 127 at most. `retrieve`: retrieves those never sent.
     Retrieve(Option<u8>),
-    /// `measure NAME`: what was counted is printed.
+    /// `measure NAME`: prints a count.
     Measure(Measure),
-    /// `measure aborted_periods`: how many proving periods were aborted is printed.
+    /// `measure aborted_periods`: prints the number of aborted proving periods.
     Aborted,
-    /// `measure reset`: all counts begin anew.
+    /// `measure reset`: resets all counts.
     Reset,
-    /// `state P`: the state of P is printed.
+    /// `state P`: prints the state of P.
     State(&'a str),
-    /// `value P x`: the value of variable x of P is printed.
+    /// `value P x`: prints the value of variable x of P.
     Value(&'a str, &'a str),
-    /// `expect TEXT`: the line printed last is this one.
+    /// `expect TEXT`: the line printed last is TEXT.
     Expect(Vec<u8>),
 }
 
-/// `command W`.
+/// Reads `command W`.
 fn ordered<'a>(word: &str) -> Option<TermCommand<'a>>
     ensures { option_map plain_term_command result ≡ option_map order (order_of word.now) }
 {
@@ -68,7 +69,7 @@ fn ordered<'a>(word: &str) -> Option<TermCommand<'a>>
     }
 }
 
-/// `unit HEX`.
+/// Reads `unit HEX`.
 fn unit_in<'a>(alloc: Global, word: &str) -> Result<Option<TermCommand<'a>>, AllocError>
     ensures { IfOk result (λ r. option_map plain_term_command r ≡ unit_by (octets_of word.now)) }
 {
@@ -78,7 +79,7 @@ fn unit_in<'a>(alloc: Global, word: &str) -> Result<Option<TermCommand<'a>>, All
     }
 }
 
-/// How many times, by a word: 1 to 1,000,000.
+/// The number of repetitions that a word spells: 1 to 1,000,000.
 fn times_in(word: &str) -> Option<u32>
     ensures { result ≡ times_of word.now }
 {
@@ -88,7 +89,7 @@ fn times_in(word: &str) -> Option<u32>
     }
 }
 
-/// The octets of a unit that are digits in one word, or words.
+/// The octets of a unit, written as digits in one word or in several words.
 fn unit_octets_in(alloc: Global, words: &[&str]) -> Result<Option<Vec<u8>>, AllocError>
     ensures { IfOk result (λ r. option_map (λ v. v.items) r ≡ unit_octets_of (texts words.now)) }
 {
@@ -98,7 +99,7 @@ fn unit_octets_in(alloc: Global, words: &[&str]) -> Result<Option<Vec<u8>>, Allo
     }
 }
 
-/// `unit`, and the unit in words.
+/// Reads `unit` and a unit in words.
 fn unit_said<'a>(alloc: Global, words: &[&str]) -> Result<Option<TermCommand<'a>>, AllocError>
     ensures { IfOk result (λ r. option_map plain_term_command r ≡ unit_by (unit_of_words (texts words.now))) }
 {
@@ -108,7 +109,7 @@ fn unit_said<'a>(alloc: Global, words: &[&str]) -> Result<Option<TermCommand<'a>
     }
 }
 
-/// So many times a unit.
+/// Reads the number and the unit of `units`.
 fn units_said<'a>(
     alloc: Global,
     number: &str,
@@ -125,7 +126,7 @@ fn units_said<'a>(
     }
 }
 
-/// `units N`, and a unit in digits or in words.
+/// Reads `units N` and a unit in digits or in words.
 fn units_in<'a>(alloc: Global, words: &[&str]) -> Result<Option<TermCommand<'a>>, AllocError>
     ensures { IfOk result (λ r. option_map plain_term_command r ≡ units_of (texts words.now)) }
 {
@@ -135,7 +136,7 @@ fn units_in<'a>(alloc: Global, words: &[&str]) -> Result<Option<TermCommand<'a>>
     }
 }
 
-/// `errors N`.
+/// Reads `errors N`.
 fn errors_in<'a>(word: &str) -> Option<TermCommand<'a>>
     ensures { option_map plain_term_command result ≡ option_map errors (times_of word.now) }
 {
@@ -145,7 +146,7 @@ fn errors_in<'a>(word: &str) -> Option<TermCommand<'a>>
     }
 }
 
-/// `retrieve N`.
+/// Reads `retrieve N`.
 fn retrieve_in<'a>(word: &str) -> Option<TermCommand<'a>>
     ensures { option_map plain_term_command result ≡ option_map (λ n. retrieving (Some n)) (number_to 127 word.now) }
 {
@@ -155,7 +156,7 @@ fn retrieve_in<'a>(word: &str) -> Option<TermCommand<'a>>
     }
 }
 
-/// `measure NAME`, `measure aborted_periods`, `measure reset`.
+/// Reads `measure NAME`, `measure aborted_periods` or `measure reset`.
 fn measure_in<'a>(word: &str) -> Option<TermCommand<'a>>
     ensures { option_map plain_term_command result ≡ measure_by word.now }
 {
@@ -171,7 +172,7 @@ fn measure_in<'a>(word: &str) -> Option<TermCommand<'a>>
     }
 }
 
-/// A word that stands alone.
+/// Reads a command of one word.
 fn asked_in<'a>(word: &str) -> Option<TermCommand<'a>>
     ensures { option_map plain_term_command result ≡ asked_of word.now }
 {
@@ -186,7 +187,7 @@ fn asked_in<'a>(word: &str) -> Option<TermCommand<'a>>
     }
 }
 
-/// `line HEX`.
+/// Reads `line HEX`.
 fn line_in<'a>(alloc: Global, word: &str) -> Result<Option<TermCommand<'a>>, AllocError>
     ensures { IfOk result (λ r. option_map plain_term_command r ≡ option_map line (octets_of word.now)) }
 {
@@ -196,7 +197,7 @@ fn line_in<'a>(alloc: Global, word: &str) -> Result<Option<TermCommand<'a>>, All
     }
 }
 
-/// `msu HEX`.
+/// Reads `msu HEX`.
 fn msu_in<'a>(alloc: Global, word: &str) -> Result<Option<TermCommand<'a>>, AllocError>
     ensures { IfOk result (λ r. option_map plain_term_command r ≡ msu_by (octets_of word.now)) }
 {
@@ -206,7 +207,7 @@ fn msu_in<'a>(alloc: Global, word: &str) -> Result<Option<TermCommand<'a>>, Allo
     }
 }
 
-/// `out N`.
+/// Reads `out N`.
 fn out_in<'a>(word: &str) -> Option<TermCommand<'a>>
     ensures { option_map plain_term_command result ≡ option_map out (count_of word.now) }
 {
@@ -216,7 +217,7 @@ fn out_in<'a>(word: &str) -> Option<TermCommand<'a>>
     }
 }
 
-/// A call that a terminal's script has too.
+/// The call of a book script as a terminal's command, if a terminal's script has it too.
 fn shared_call<'a>(call: Call, process: &'a str) -> Option<TermCommand<'a>>
     ensures { option_map plain_term_command result ≡ shared_call call process.now }
 {
@@ -226,7 +227,7 @@ fn shared_call<'a>(call: Call, process: &'a str) -> Option<TermCommand<'a>>
     }
 }
 
-/// The command of a book script that the words read as, where a terminal's script has it too.
+/// The command of a book script that the words mean, if a terminal's script has it too.
 fn shared_in<'a>(alloc: Global, words: &[&'a str]) -> Result<Option<TermCommand<'a>>, AllocError>
     ensures { IfOk result (λ r. option_map plain_term_command r ≡ option_and_then shared_of (command_of (texts words.now))) }
 {
@@ -242,7 +243,7 @@ fn shared_in<'a>(alloc: Global, words: &[&'a str]) -> Result<Option<TermCommand<
     }
 }
 
-/// What the word behind a verb reads as.
+/// The command that a verb and the word after it mean.
 fn command_by<'a>(
     alloc: Global,
     verb: TermVerb,
@@ -262,7 +263,7 @@ fn command_by<'a>(
     }
 }
 
-/// What two words read as.
+/// The command that two words mean.
 fn pair_in<'a>(
     alloc: Global,
     first: &'a str,
@@ -276,7 +277,7 @@ fn pair_in<'a>(
     }
 }
 
-/// What three words and more read as.
+/// The command that three or more words mean.
 fn words_in<'a>(alloc: Global, words: &[&'a str]) -> Result<Option<TermCommand<'a>>, AllocError>
     ensures { IfOk result (λ r. option_map plain_term_command r ≡ words_of (texts words.now)) }
 {
@@ -294,7 +295,7 @@ fn words_in<'a>(alloc: Global, words: &[&'a str]) -> Result<Option<TermCommand<'
     }
 }
 
-/// The command that the words of a line read as, if they read as one.
+/// The command that the words of a line mean, if they mean one.
 pub fn term_command_in<'a>(
     alloc: Global,
     words: &[&'a str],

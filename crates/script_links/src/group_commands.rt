@@ -14,45 +14,46 @@ use group_changeover::Points;
 use script_lines::count;
 use std::alloc::{AllocError, Global};
 
-/// The points of a script's set.
+/// The point codes of the set in a script.
 const POINTS: Points = Points { own: 1, peer: 2 };
 
-/// A command of a link set's script. Processes and variables are words: what they name is for the run to say. 'The link' is the one that the
-/// last `on` named, 0 before any.
+/// A command of a link set's script. Processes and variables are words, which the player of the script looks up. 'The
+/// link' is the one that the last `on` named, or 0 before any.
 #[derive(Drop)]
 pub enum GroupCommand<'a> {
-    /// `command W`: the link's terminal is told something.
+    /// `command W`: gives the link's terminal an order.
     Order(Order),
-    /// `unit HEX`: a signal unit comes in on the link. Its octets without the check octets, 3 to 276.
+    /// `unit HEX`: receives a signal unit on the link, given without its check octets, 3 to 276 octets.
     Unit(Vec<u8>),
-    /// `line HEX`: octets come in on the link as they stand on the line.
+    /// `line HEX`: receives octets on the link as they are on the line.
     Line(Vec<u8>),
-    /// `out N`: so many units go out on the link.
+    /// `out N`: sends N units on the link.
     Out(u32),
-    /// `tick N`: the clock of all links goes on by N.
+    /// `tick N`: advances the clock of all links by N.
     Tick(u32),
-    /// `state P`: the state of the link's P is printed.
+    /// `state P`: prints the state of the link's process P.
     State(&'a str),
-    /// `value P x`: the value of variable x of the link's P is printed.
+    /// `value P x`: prints the value of variable x of the link's process P.
     Value(&'a str, &'a str),
     /// `expect TEXT`: the line printed last is this one.
     Expect(Vec<u8>),
-    /// `on L`: the lines below speak of link L.
+    /// `on L`: later lines refer to link L.
     On(u32),
-    /// `send HEX`: a message is to go out on the link of its selection. Its service information octet and its signalling information field,
-    /// which begins with a label: 5 to 273 octets.
+    /// `send HEX`: queues a message to send on the link of its selection: service information octet and signalling
+    /// information field, which begins with a label; 5 to 273 octets in all.
     Send(Vec<u8>),
-    /// `bound HEX`: a message that is bound to the link is to go out on it. Its service information octet and its signalling information field.
+    /// `bound HEX`: queues a message bound to the link on it: service information octet and signalling information
+    /// field.
     Bound(Vec<u8>),
-    /// `message HEX`: the signalling information field of a message of changeover came in.
+    /// `message HEX`: receives the signalling information field of a changeover message.
     Message(Vec<u8>),
-    /// `admit yes`, `admit no`: the link is admitted to selections and to what other links hand out, or is no longer.
+    /// `admit yes`, `admit no`: admits the link to selections and to messages from other links, or no longer.
     Admit(bool),
-    /// A command that is one word.
+    /// A command of one word.
     Own(GroupWord),
 }
 
-/// `on L`.
+/// Reads `on L`.
 fn on_in<'a>(word: &str) -> Option<GroupCommand<'a>>
     ensures { option_map plain_group_command result ≡ option_map on (count_of word.now) }
 {
@@ -62,7 +63,7 @@ fn on_in<'a>(word: &str) -> Option<GroupCommand<'a>>
     }
 }
 
-/// `send HEX`.
+/// Reads `send HEX`.
 fn send_in<'a>(alloc: Global, word: &str) -> Result<Option<GroupCommand<'a>>, AllocError>
     ensures { IfOk result (λ r. option_map plain_group_command r ≡ sending_by (octets_of word.now)) }
 {
@@ -74,7 +75,7 @@ fn send_in<'a>(alloc: Global, word: &str) -> Result<Option<GroupCommand<'a>>, Al
     }
 }
 
-/// Whether octets are a message that is bound to a link.
+/// Whether the octets are a message bound to a link.
 fn is_bound_message(octets: &[u8]) -> bool
     ensures { result ≡ is_bound_message octets.now }
 {
@@ -84,7 +85,7 @@ fn is_bound_message(octets: &[u8]) -> bool
     }
 }
 
-/// `bound HEX`.
+/// Reads `bound HEX`.
 pub(crate) fn bound_in<'a>(
     alloc: Global,
     word: &str,
@@ -97,7 +98,7 @@ pub(crate) fn bound_in<'a>(
     }
 }
 
-/// `message HEX`.
+/// Reads `message HEX`.
 fn message_in<'a>(alloc: Global, word: &str) -> Result<Option<GroupCommand<'a>>, AllocError>
     ensures { IfOk result (λ r. option_map plain_group_command r ≡ option_map message (octets_of word.now)) }
 {
@@ -107,7 +108,7 @@ fn message_in<'a>(alloc: Global, word: &str) -> Result<Option<GroupCommand<'a>>,
     }
 }
 
-/// `admit yes` and `admit no`.
+/// Reads `admit yes` or `admit no`.
 fn admit_in<'a>(word: &str) -> Option<GroupCommand<'a>>
     ensures { option_map plain_group_command result ≡ option_map admitting (way_of word.now) }
 {
@@ -121,7 +122,7 @@ fn admit_in<'a>(word: &str) -> Option<GroupCommand<'a>>
     }
 }
 
-/// A word alone.
+/// Reads a command of one word.
 fn own_in<'a>(word: &str) -> Option<GroupCommand<'a>>
     ensures { option_map plain_group_command result ≡ option_map own (group_word_of word.now) }
 {
@@ -131,7 +132,7 @@ fn own_in<'a>(word: &str) -> Option<GroupCommand<'a>>
     }
 }
 
-/// What the word behind a verb reads as.
+/// The command that a verb and the word after it mean.
 fn command_by<'a>(
     alloc: Global,
     verb: GroupVerb,
@@ -148,7 +149,7 @@ fn command_by<'a>(
     }
 }
 
-/// The command of a terminal's script that the words read as, where a link set's script has it too.
+/// The command of a terminal's script that the words mean, if a link set's script has it too.
 fn shared_in<'a>(alloc: Global, words: &[&'a str]) -> Result<Option<GroupCommand<'a>>, AllocError>
     ensures { IfOk result (λ r. option_map plain_group_command r ≡ option_and_then shared_of (term_command_of (texts words.now))) }
 {
@@ -170,7 +171,7 @@ fn shared_in<'a>(alloc: Global, words: &[&'a str]) -> Result<Option<GroupCommand
     }
 }
 
-/// What two words read as.
+/// The command that two words mean.
 fn pair_in<'a>(
     alloc: Global,
     first: &'a str,
@@ -184,7 +185,7 @@ fn pair_in<'a>(
     }
 }
 
-/// The command that the words of a line read as, if they read as one.
+/// The command that the words of a line mean, if they mean one.
 pub fn group_command_in<'a>(
     alloc: Global,
     words: &[&'a str],

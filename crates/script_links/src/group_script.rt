@@ -1,4 +1,4 @@
-//! Scripts of any kind that `play` runs.
+//! Scripts of any kind for `play`.
 ghost use Rattle.std.specs.Prelude.{◌≡◌, ◌≤◌, IfOk, IfErr, Ok, map, find, None, length};
 ghost use Rattle.std.specs.List.{filter_map};
 ghost use Rattle.script_lines.specs.Lines.{plain_line, lines_of};
@@ -13,7 +13,7 @@ use plain_text::{MOST_BYTES, line_at_limit};
 use script_lines::{Line, ScriptFault, lines_in};
 use std::alloc::{AllocError, Global};
 
-/// A command and where it stands.
+/// A command and the number of its line.
 #[derive(Drop)]
 pub struct GroupSaid<'a> {
     /// The number of its line, from 1.
@@ -25,7 +25,7 @@ pub struct GroupSaid<'a> {
 /// A link set's script.
 #[derive(Drop)]
 pub struct GroupScript<'a> {
-    /// What its first line says.
+    /// The error correction and the number of links, from its first line.
     pub head: GroupHead,
     /// Its commands, in order.
     pub commands: Vec<GroupSaid<'a>>,
@@ -34,13 +34,13 @@ pub struct GroupScript<'a> {
 /// A script of any kind.
 #[derive(Drop)]
 pub enum PlayScript<'a> {
-    /// For the actors of a link, or for a terminal.
+    /// A script for the actors of a link, or for a terminal.
     Other(AnyScript<'a>),
-    /// For a set of links.
+    /// A script for a set of links.
     Group(GroupScript<'a>),
 }
 
-/// The commands that the lines read as.
+/// The commands that the lines mean.
 fn commands_in<'a>(alloc: Global, lines: &[Line<'a>]) -> Result<Vec<GroupSaid<'a>>, ScriptFault>
     ensures good { IfOk result (λ v. find is_bad_group (map plain_line lines.now) ≡ None) }
     ensures commands { IfOk result (λ v. map plain_group_said v.items ≡ filter_map group_said_of (map plain_line lines.now)) }
@@ -61,14 +61,14 @@ fn commands_in<'a>(alloc: Global, lines: &[Line<'a>]) -> Result<Vec<GroupSaid<'a
     Ok(commands)
 }
 
-/// Reads a script: a link set's, where the first line that says something is `group basic N` or `group cyclic N` with N from 1 to 16, else
-/// a terminal's or a book's ([`any_script`]).
+/// Reads a script. It is a link set's if its first line, not counting blanks and comments, is `group basic N` or `group
+/// cyclic N` with N from 1 to 16; else it is a terminal's or a book's ([`any_script`]).
 ///
 /// # Errors
 ///
-/// [`ScriptFault::BadLine`] (X1) with the number of the first line that is none of a script of that kind; of a text of more than
-/// 262,144 bytes with that of the first byte too many, before any line is looked at. Any call may answer
-/// [`ScriptFault::NoMemory`] instead.
+/// [`ScriptFault::BadLine`] (X1) with the number of the first line that doesn't belong to a script of that kind. For a
+/// text of more than 262,144 bytes it has the line of the first byte beyond that limit, before any line is read.
+/// [`ScriptFault::NoMemory`] if memory runs out.
 pub fn play_script_in<'a>(alloc: Global, text: &'a str) -> Result<PlayScript<'a>, ScriptFault>
     ensures script { IfOk result (λ s. play_script_of text.now ≡ Ok (plain_play_script s)) }
     ensures fit { IfOk result IsFit }
@@ -109,7 +109,7 @@ fn script_by<'a>(
     }
 }
 
-/// The link set's script of the lines behind the first.
+/// The link set's script of the lines after the first one.
 fn group<'a>(
     alloc: Global,
     head: GroupHead,
@@ -127,7 +127,7 @@ fn group<'a>(
     }
 }
 
-/// The script of another kind that a text is.
+/// The terminal's or book's script of a text.
 fn other<'a>(alloc: Global, text: &'a str) -> Result<PlayScript<'a>, ScriptFault>
     ensures script { IfOk result (λ s. as_other (any_script_of text.now) ≡ Ok (plain_play_script s)) }
     ensures fit { IfOk result IsFit }

@@ -8,17 +8,17 @@ use crate::orders::mode_named;
 use resend_store::{Mode, RoundLimits};
 use script_lines::count;
 
-/// What the first line of a terminal's script says.
+/// The settings of a terminal in the first line of its script.
 #[derive(Clone, Copy, PartialEq, Eq, Debug)]
 pub struct TermHead {
     /// The kind of error correction.
     pub mode: Mode,
-    /// With how many messages or octets cyclic retransmission is forced, where that is chosen.
+    /// The numbers of messages and octets at which cyclic retransmission is forced, if they are chosen.
     pub limits: Option<RoundLimits>,
 }
 
 impl TermHead {
-    /// The limits that it chooses, or the usual ones where it chooses none.
+    /// The limits that the line chooses, or the usual ones if it chooses none.
     pub fn limits_over(&self, usual: RoundLimits) -> RoundLimits
         ensures { result ≡ limits_over usual self.now.limits }
     {
@@ -29,16 +29,16 @@ impl TermHead {
     }
 }
 
-/// What the first line of a link set's script says.
+/// The settings of a link set in the first line of its script.
 #[derive(Clone, Copy, PartialEq, Eq, Debug)]
 pub struct GroupHead {
     /// The kind of error correction on all links.
     pub mode: Mode,
-    /// How many links there are, 1 to 16.
+    /// The number of links, 1 to 16.
     pub links: u32,
 }
 
-/// The limits that two words say: N1, 1 to 127 messages, and N2, 300 to 8,192 octets (Q.703, 6.4).
+/// The limits that two words spell: N1, 1 to 127 messages, and N2, 300 to 8,192 octets (Q.703, 6.4).
 fn limits_in(messages: &str, octets: &str) -> Option<RoundLimits>
     ensures { result ≡ limits_by (count_of messages.now) (count_of octets.now) }
 {
@@ -51,7 +51,7 @@ fn limits_in(messages: &str, octets: &str) -> Option<RoundLimits>
     }
 }
 
-/// A kind of error correction, for which no limits are chosen.
+/// A kind of error correction, without chosen limits.
 fn of_mode(mode: Option<Mode>) -> Option<TermHead>
     ensures { result ≡ of_mode mode }
 {
@@ -61,7 +61,7 @@ fn of_mode(mode: Option<Mode>) -> Option<TermHead>
     }
 }
 
-/// What `terminal` and another word say.
+/// The settings that `terminal` and another word mean.
 fn head_of_mode(word: &str, mode: &str) -> Option<TermHead>
     ensures { result ≡ head_of_mode word.now mode.now }
 {
@@ -72,7 +72,7 @@ fn head_of_mode(word: &str, mode: &str) -> Option<TermHead>
     }
 }
 
-/// Cyclic retransmission within limits.
+/// Cyclic retransmission with these limits.
 fn cyclic_within(limits: Option<RoundLimits>) -> Option<TermHead>
     ensures { result ≡ cyclic_within limits }
 {
@@ -85,7 +85,7 @@ fn cyclic_within(limits: Option<RoundLimits>) -> Option<TermHead>
     }
 }
 
-/// What `terminal cyclic` and two numbers say.
+/// The settings that `terminal cyclic` and two numbers mean.
 fn head_within(word: &str, mode: &str, messages: &str, octets: &str) -> Option<TermHead>
     ensures { result ≡ head_within word.now mode.now messages.now octets.now }
 {
@@ -96,8 +96,8 @@ fn head_within(word: &str, mode: &str, messages: &str, octets: &str) -> Option<T
     }
 }
 
-/// What the words of a line say, where they are `terminal basic`, `terminal cyclic` or `terminal cyclic N1 N2`, with N1 from 1 to 127 and N2 from
-/// 300 to 8,192. Any other line is no first line of a terminal's script.
+/// The settings in the words of a line `terminal basic`, `terminal cyclic` or `terminal cyclic N1 N2`, with N1 from 1
+/// to 127 and N2 from 300 to 8,192. Any other line isn't a first line of a terminal's script.
 pub fn term_head_in(words: &[&str]) -> Option<TermHead>
     ensures { result ≡ term_head_of (texts words.now) }
 {
@@ -108,7 +108,7 @@ pub fn term_head_in(words: &[&str]) -> Option<TermHead>
     }
 }
 
-/// How many links a word says, where it is a count from 1 to 16.
+/// The number of links that a word spells, if it is from 1 to 16.
 fn links_in(word: &str) -> Option<u32>
     ensures value { result ≡ links_of word.now }
     ensures some { IfSome result (λ n. 1 ≤ n) }
@@ -120,7 +120,7 @@ fn links_in(word: &str) -> Option<u32>
     }
 }
 
-/// What `group` and two other words say.
+/// The settings that `group` and two other words mean.
 fn head_by(word: &str, mode: &str, number: &str) -> Option<GroupHead>
     ensures value { result ≡ head_by word.now mode.now number.now }
     ensures some { IfSome result (λ h. 1 ≤ h.links) }
@@ -138,8 +138,8 @@ fn head_by(word: &str, mode: &str, number: &str) -> Option<GroupHead>
     }
 }
 
-/// What the words of a line say, where they are `group basic N` or `group cyclic N` with N from 1 to 16. Any other line is no first line
-/// of a link set's script.
+/// The settings in the words of a line `group basic N` or `group cyclic N`, with N from 1 to 16. Any other line isn't a
+/// first line of a link set's script.
 pub fn head_in(words: &[&str]) -> Option<GroupHead>
     ensures value { result ≡ head_of (texts words.now) }
     ensures some { IfSome result (λ h. 1 ≤ h.links) }

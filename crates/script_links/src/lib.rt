@@ -1,4 +1,4 @@
-//! The lines of terminals' and link sets' scripts.
+//! Scripts for terminals and link sets.
 #![tactic(auto)]
 
 mod commands;

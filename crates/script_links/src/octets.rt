@@ -5,7 +5,7 @@ ghost use Rattle.script_links.specs.Octets.{octets_of, is_unit, is_message};
 use hex::FromHexError;
 use std::alloc::{AllocError, Global};
 
-/// The octets that a word's hexadecimal digits are, two digits an octet and in either case, where it is made of such pairs.
+/// The octets that a word spells in hexadecimal, two digits in either case for each, if it consists of digit pairs.
 pub fn octets_in(alloc: Global, word: &str) -> Result<Option<Vec<u8>>, AllocError>
     ensures { IfOk result (λ r. option_map (λ v. v.items) r ≡ octets_of word.now) }
 {

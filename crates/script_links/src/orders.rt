@@ -1,39 +1,39 @@
-//! What a terminal is told, and its kind of error correction, by one word each.
+//! The orders to a terminal, and the kinds of error correction, each named by one word.
 ghost use Rattle.std.specs.Prelude.{◌≡◌};
 ghost use Rattle.script_links.specs.Orders.{mode_named, order_of};
 
 use resend_store::Mode;
 
-/// What level 3 and the management tell a terminal (Q.703, 7.2 and 8; Q.704).
+/// An order from level 3 or from management to a terminal (Q.703, 7.2 and 8; Q.704).
 #[derive(Clone, Copy, PartialEq, Eq, Debug)]
 pub enum Order {
-    /// `power`: the terminal has power.
+    /// `power`: power is on.
     Power,
-    /// `start`: the link is to come into service.
+    /// `start`: brings the link into service.
     Start,
-    /// `stop`: the link is to go out of service.
+    /// `stop`: takes the link out of service.
     Stop,
-    /// `emergency`: proving is to be short.
+    /// `emergency`: uses emergency proving, which is short.
     Emergency,
-    /// `calm`: it isn't to be short any more, from the next start on.
+    /// `calm`: uses normal proving again, from the next start on.
     Calm,
-    /// `outage`: the processor behind the link is out.
+    /// `outage`: the local processor is out.
     Outage,
-    /// `back`: it works again.
+    /// `back`: the local processor has recovered.
     Back,
     /// `busy`: level 2 is congested.
     Busy,
-    /// `free`: it isn't any more.
+    /// `free`: level 2 is no longer congested.
     Free,
-    /// `flush`: behind an outage the buffers are to be emptied, and messages go again.
+    /// `flush`: after an outage, clears the buffers and resumes sending messages.
     Flush,
-    /// `continue`: behind an outage messages go again.
+    /// `continue`: after an outage, resumes sending messages.
     Continue,
-    /// `overload`: level 2 is congested, and discards messages that come.
+    /// `overload`: level 2 is congested and discards received messages.
     Overload,
 }
 
-/// What a word tells a terminal, in this case alone.
+/// The order that a word names; the case of letters matters.
 pub fn order_in(word: &str) -> Option<Order>
     ensures { result ≡ order_of word.now }
 {
@@ -54,7 +54,7 @@ pub fn order_in(word: &str) -> Option<Order>
     }
 }
 
-/// The kind of error correction that a word names, in this case alone.
+/// The kind of error correction that a word names; the case of letters matters.
 pub fn mode_named(word: &str) -> Option<Mode>
     ensures { result ≡ mode_named word.now }
 {

@@ -1,4 +1,4 @@
-//! Why a line is none of a script that `play` runs, for a person to read.
+//! Why a line doesn't belong to a script for `play`, for a person to read.
 
 use crate::group_commands::bound_in;
 use crate::heads::{head_in, term_head_in};
@@ -18,10 +18,10 @@ use std::alloc::{AllocError, Global};
 /// The greatest count.
 const MOST: u32 = 2_147_483_647;
 
-/// The most times that a line of a script says a signal unit.
+/// The most repetitions of a signal unit by one line of a script.
 const MOST_TIMES: u32 = 1_000_000;
 
-/// A reason that scripts of all kinds have.
+/// The fault as one that scripts of all kinds have.
 fn of_line<'a>(fault: Option<LineFault<'a>>) -> Option<PlayFault<'a>> {
     match fault {
         Some(fault) => Some(PlayFault::Line(fault)),
@@ -29,7 +29,7 @@ fn of_line<'a>(fault: Option<LineFault<'a>>) -> Option<PlayFault<'a>> {
     }
 }
 
-/// Why a word isn't so many octets in hexadecimal digits.
+/// The fault of a word that doesn't spell `least` to `most` octets in hexadecimal digits.
 fn octets_fault<'a>(
     alloc: Global,
     word: &'a str,
@@ -52,7 +52,7 @@ fn octets_fault<'a>(
     }))
 }
 
-/// Why the length indicator of a unit without its check octets is wrong.
+/// The fault of a unit, without its check octets, whose length indicator is wrong.
 fn indicator_fault<'a>(octets: &[u8]) -> Option<PlayFault<'a>> {
     match octets {
         [_, _, third, more @ ..] => {
@@ -67,7 +67,7 @@ fn indicator_fault<'a>(octets: &[u8]) -> Option<PlayFault<'a>> {
     }
 }
 
-/// Why a word is no unit without its check octets.
+/// The fault of a word that doesn't spell a unit without its check octets.
 fn unit_fault<'a>(
     alloc: Global,
     word: &'a str,
@@ -82,7 +82,7 @@ fn unit_fault<'a>(
     }
 }
 
-/// Why a word is no order.
+/// The fault of a word that isn't an order.
 fn order_fault<'a>(word: &'a str) -> Option<PlayFault<'a>> {
     match order_in(word) {
         Some(_) => None,
@@ -90,7 +90,7 @@ fn order_fault<'a>(word: &'a str) -> Option<PlayFault<'a>> {
     }
 }
 
-/// Why a word is no kind of error correction.
+/// The fault of a word that isn't a kind of error correction.
 fn mode_fault<'a>(word: &'a str) -> Option<PlayFault<'a>> {
     match mode_named(word) {
         Some(_) => None,
@@ -98,7 +98,7 @@ fn mode_fault<'a>(word: &'a str) -> Option<PlayFault<'a>> {
     }
 }
 
-/// Why the word behind a terminal's verb is none of its.
+/// The fault of the word after a verb of a terminal's script.
 fn behind_term_verb<'a>(
     alloc: Global,
     verb: TermVerb,
@@ -117,7 +117,7 @@ fn behind_term_verb<'a>(
     }
 }
 
-/// Why the words behind `units`, or behind `unit`, are none of its.
+/// The fault of the words of a unit after `unit` or `units N`.
 fn said_fault<'a>(
     alloc: Global,
     word: &'a str,
@@ -132,7 +132,7 @@ fn said_fault<'a>(
     }
 }
 
-/// Why the words behind `units` are none of its.
+/// The fault of the words after `units`.
 fn units_fault<'a>(
     alloc: Global,
     word: &'a str,
@@ -147,7 +147,7 @@ fn units_fault<'a>(
     }
 }
 
-/// Why the words behind a word of a terminal's own that has more than one behind it, or none, are none of its.
+/// The fault of a line of a terminal's script that doesn't consist of a verb and one word.
 fn own_fault<'a>(
     alloc: Global,
     word: &'a str,
@@ -163,7 +163,7 @@ fn own_fault<'a>(
     Ok(Some(PlayFault::Line(LineFault::NoCommand { word, script })))
 }
 
-/// Why a word is no measurement.
+/// The fault of a word that isn't a measurement.
 fn measure_fault<'a>(word: &'a str) -> Option<PlayFault<'a>> {
     if word == "reset" || word == "aborted_periods" || measure_named(word).is_some() {
         None
@@ -172,7 +172,7 @@ fn measure_fault<'a>(word: &'a str) -> Option<PlayFault<'a>> {
     }
 }
 
-/// Why a word is neither `yes` nor `no`.
+/// The fault of a word that is neither `yes` nor `no`.
 fn way_fault<'a>(word: &'a str) -> Option<PlayFault<'a>> {
     if word == "yes" || word == "no" {
         None
@@ -181,7 +181,7 @@ fn way_fault<'a>(word: &'a str) -> Option<PlayFault<'a>> {
     }
 }
 
-/// Why the word behind `bound` is no message that is bound to a link.
+/// The fault of the word after `bound`, if it isn't a message bound to a link.
 fn bound_fault<'a>(
     alloc: Global,
     word: &'a str,
@@ -196,7 +196,7 @@ fn bound_fault<'a>(
     }
 }
 
-/// Why the word behind a link set's verb is none of its.
+/// The fault of the word after a verb of a link set's script.
 fn behind_group_verb<'a>(
     alloc: Global,
     verb: GroupVerb,
@@ -212,7 +212,7 @@ fn behind_group_verb<'a>(
     }
 }
 
-/// The verb of a book script that a word is, where a terminal's script has it too.
+/// The verb of a book script that a word is, if a terminal's script has it too.
 fn shared_verb(word: &str) -> Option<Verb> {
     match verb_in(word) {
         Some(Verb::Tick) => Some(Verb::Tick),
@@ -223,7 +223,7 @@ fn shared_verb(word: &str) -> Option<Verb> {
     }
 }
 
-/// Why the words of a line are none of a terminal's script; `script` is what a script of this kind is called.
+/// The fault of the words of a line in a terminal's script; `script` is the name for this kind of script.
 fn term_fault<'a>(
     alloc: Global,
     word: &'a str,
@@ -244,7 +244,7 @@ fn term_fault<'a>(
     }
 }
 
-/// Whether a word of a terminal's script is none of a link set's.
+/// Whether a word begins commands of a terminal's script that a link set's script lacks.
 fn is_terminals(word: &str) -> bool {
     word == "msu"
         || word == "units"
@@ -255,7 +255,7 @@ fn is_terminals(word: &str) -> bool {
         || word == "measure"
 }
 
-/// Why the words of a line are none of a terminal's script, behind its first line.
+/// The fault of the words of a line after the first one in a terminal's script.
 pub fn term_line_fault<'a>(
     alloc: Global,
     words: &[&'a str],
@@ -271,7 +271,7 @@ pub fn term_line_fault<'a>(
     }
 }
 
-/// Why the words of a line that don't begin with a word of a link set's own are none of its script.
+/// The fault of a line in a link set's script that doesn't begin with a verb only of link sets.
 fn shared_fault<'a>(
     alloc: Global,
     word: &'a str,
@@ -284,7 +284,7 @@ fn shared_fault<'a>(
     term_fault(alloc, word, more, script)
 }
 
-/// Why the words of a line are none of a link set's script, behind its first line.
+/// The fault of the words of a line after the first one in a link set's script.
 pub fn group_line_fault<'a>(
     alloc: Global,
     words: &[&'a str],
@@ -307,7 +307,7 @@ pub fn group_line_fault<'a>(
     }
 }
 
-/// Why a kind of error correction, N1 and N2 are none of a terminal's script.
+/// The fault of a kind of error correction with N1 and N2 in a terminal's first line.
 fn limits_fault<'a>(mode: &'a str, messages: &'a str, octets: &'a str) -> Option<PlayFault<'a>> {
     if let Some(fault) = mode_fault(mode) {
         return Some(fault);
@@ -321,7 +321,7 @@ fn limits_fault<'a>(mode: &'a str, messages: &'a str, octets: &'a str) -> Option
     }
 }
 
-/// Why words behind `terminal` are no first line.
+/// The fault of the words after `terminal`, as a first line.
 fn term_head_fault<'a>(word: &'a str, more: &[&'a str]) -> Option<PlayFault<'a>> {
     match more {
         [mode] => mode_fault(mode),
@@ -331,7 +331,7 @@ fn term_head_fault<'a>(word: &'a str, more: &[&'a str]) -> Option<PlayFault<'a>>
     }
 }
 
-/// Why words that begin with `terminal` or `group` are no first line.
+/// The fault of words that begin with `terminal` or `group`, as a first line.
 fn head_fault<'a>(word: &'a str, more: &[&'a str]) -> Option<PlayFault<'a>> {
     if word == "terminal" {
         return term_head_fault(word, more);
@@ -345,7 +345,7 @@ fn head_fault<'a>(word: &'a str, more: &[&'a str]) -> Option<PlayFault<'a>> {
     }
 }
 
-/// Why the words of a line are none of a book script; a line that should have been the first of another kind counts as one.
+/// The fault of the words of a line in a book script; a line meant as the first of another kind of script counts too.
 pub fn other_line_fault<'a>(words: &[&'a str]) -> Option<PlayFault<'a>> {
     match words {
         [word, more @ ..] if *word == "terminal" || *word == "group" => {
@@ -358,7 +358,7 @@ pub fn other_line_fault<'a>(words: &[&'a str]) -> Option<PlayFault<'a>> {
     }
 }
 
-/// Why a line is none of a script whose first line has these words.
+/// The fault of a line in a script whose first line has these words.
 fn line_fault<'a>(
     alloc: Global,
     first: &[&'a str],
@@ -373,11 +373,11 @@ fn line_fault<'a>(
     }
 }
 
-/// Why the line of this number is none of the script that a text is, where there is something to tell.
+/// The fault of the line with this number in the script that a text contains, if one is found.
 ///
 /// # Errors
 ///
-/// Where there is no memory.
+/// `AllocError`: out of memory.
 pub fn play_fault<'a>(
     alloc: Global,
     text: &'a str,

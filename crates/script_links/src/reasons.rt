@@ -1,9 +1,9 @@
-//! Why the words of a line are none of a script that `play` runs.
+//! Why the words of a line don't belong to a script for `play`.
 
 use script_lines::LineFault;
 use std::fmt;
 
-/// Why the words of a line are none of a script's.
+/// Why the words of a line don't belong to a script.
 #[derive(Clone, Copy, PartialEq, Eq, Debug)]
 pub enum PlayFault<'a> {
     /// A reason that scripts of all kinds have.
@@ -12,39 +12,39 @@ pub enum PlayFault<'a> {
     NoOctets {
         word: &'a str,
     },
-    /// Behind the first word stand fewer octets than `least`, or more than `most`.
+    /// The octets after the first word are fewer than `least` or more than `most`.
     Octets {
         word: &'a str,
         least: usize,
         most: usize,
         there: usize,
     },
-    /// The length indicator of a unit says this number, and so many octets follow it.
+    /// The length indicator of a unit is `says`, but `there` octets follow it.
     Indicator {
         says: u8,
         there: usize,
     },
-    /// The word tells a terminal nothing.
+    /// The word isn't an order to a terminal.
     NoOrder {
         word: &'a str,
     },
-    /// The word is no kind of error correction.
+    /// The word isn't a kind of error correction.
     NoMode {
         word: &'a str,
     },
-    /// The word is a kind of error correction without N1 and N2.
+    /// The word is a kind of error correction that takes no N1 and N2.
     NoLimits {
         word: &'a str,
     },
-    /// These words are no unit, as one is written in words.
+    /// The words aren't a unit in the form for units in words.
     NoUnit {
         word: &'a str,
     },
-    /// The word is no measurement.
+    /// The word isn't a measurement.
     NoMeasure {
         word: &'a str,
     },
-    /// The octets behind the word are no message that is bound to a link.
+    /// The octets after the word aren't a message bound to a link.
     NotBound {
         word: &'a str,
     },

@@ -1,4 +1,4 @@
-//! Scripts of either kind.
+//! Scripts for a book or for a terminal.
 ghost use Rattle.std.specs.Prelude.{◌≡◌, ◌≤◌, IfOk, IfErr, Ok, map, find, None, length};
 ghost use Rattle.std.specs.List.{filter_map};
 ghost use Rattle.script_lines.specs.Lines.{plain_line, lines_of};
@@ -11,7 +11,7 @@ use plain_text::{MOST_BYTES, line_at_limit};
 use script_lines::{Line, Script, ScriptFault, book_script, lines_in};
 use std::alloc::{AllocError, Global};
 
-/// A command and where it stands.
+/// A command and the number of its line.
 #[derive(Drop)]
 pub struct TermSaid<'a> {
     /// The number of its line, from 1.
@@ -23,22 +23,22 @@ pub struct TermSaid<'a> {
 /// A terminal's script.
 #[derive(Drop)]
 pub struct TermScript<'a> {
-    /// What its first line says.
+    /// The settings of the terminal, from its first line.
     pub head: TermHead,
     /// Its commands, in order.
     pub commands: Vec<TermSaid<'a>>,
 }
 
-/// A script of either kind.
+/// A script for a book or for a terminal.
 #[derive(Drop)]
 pub enum AnyScript<'a> {
-    /// For the actors of a link.
+    /// A script for the actors of a link.
     Book(Script<'a>),
-    /// For a terminal.
+    /// A script for a terminal.
     Terminal(TermScript<'a>),
 }
 
-/// The commands that the lines read as.
+/// The commands that the lines mean.
 fn commands_in<'a>(alloc: Global, lines: &[Line<'a>]) -> Result<Vec<TermSaid<'a>>, ScriptFault>
     ensures good { IfOk result (λ v. find is_bad_term (map plain_line lines.now) ≡ None) }
     ensures commands { IfOk result (λ v. map plain_term_said v.items ≡ filter_map term_said_of (map plain_line lines.now)) }
@@ -59,14 +59,14 @@ fn commands_in<'a>(alloc: Global, lines: &[Line<'a>]) -> Result<Vec<TermSaid<'a>
     Ok(commands)
 }
 
-/// Reads a script: a terminal's, where the first line that says something is `terminal basic`, `terminal cyclic` or `terminal cyclic N1 N2` with
-/// N1 from 1 to 127 and N2 from 300 to 8,192, else a book's.
+/// Reads a script. It is a terminal's if its first line, not counting blanks and comments, is `terminal basic`,
+/// `terminal cyclic` or `terminal cyclic N1 N2` (N1 from 1 to 127, N2 from 300 to 8,192); else it is a book's.
 ///
 /// # Errors
 ///
-/// [`ScriptFault::BadLine`] (X1) with the number of the first line that is none of a script of that kind; of a text of more than
-/// 262,144 bytes with that of the first byte too many, before any line is looked at. Any call may answer
-/// [`ScriptFault::NoMemory`] instead.
+/// [`ScriptFault::BadLine`] (X1) with the number of the first line that doesn't belong to a script of that kind. For a
+/// text of more than 262,144 bytes it has the line of the first byte beyond that limit, before any line is read.
+/// [`ScriptFault::NoMemory`] if memory runs out.
 pub fn any_script<'a>(alloc: Global, text: &'a str) -> Result<AnyScript<'a>, ScriptFault>
     ensures script { IfOk result (λ s. any_script_of text.now ≡ Ok (plain_any_script s)) }
     ensures within { IfOk result IsInRange }
@@ -107,7 +107,7 @@ fn script_by<'a>(
     }
 }
 
-/// The terminal's script of the lines behind the first.
+/// The terminal's script of the lines after the first one.
 fn terminal<'a>(
     alloc: Global,
     head: TermHead,

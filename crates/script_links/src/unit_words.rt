@@ -1,4 +1,4 @@
-//! Signal units in words, as `out` prints them; a message's field stands behind `sif`.
+//! Signal units in words, as `out` prints them; a message's field follows `sif`.
 ghost use Rattle.std.specs.Prelude.{◌≡◌, ◌≤◌, ◌∷◌, IfOk, IfSome, codes, length, option_map};
 ghost use Rattle.su_octets.specs.Frame.{length_indicator};
 ghost use Rattle.script_lines.specs.Lines.{texts};
@@ -9,7 +9,7 @@ use crate::octets::octets_in;
 use script_lines::count;
 use std::alloc::{AllocError, Global};
 
-/// The number that a word says, where it is no greater than `most`.
+/// The number that a word spells, if it is at most `most`.
 pub fn number_in(word: &str, most: u32) -> Option<u8>
     requires { most ≤ 127 }
     ensures value { result ≡ number_to most word.now }
@@ -21,7 +21,7 @@ pub fn number_in(word: &str, most: u32) -> Option<u8>
     }
 }
 
-/// A number of 7 bits, and the bit on top of it.
+/// An octet from a number of 7 bits and its highest bit.
 fn octet_in(number: &str, bit: &str) -> Option<u8>
     ensures { result ≡ octet_by (number_to 127 number.now) (number_to 1 bit.now) }
 {
@@ -34,7 +34,7 @@ fn octet_in(number: &str, bit: &str) -> Option<u8>
     }
 }
 
-/// `bsn N bib B`.
+/// Reads `bsn N bib B`: the backward sequence number and indicator bit.
 fn back_in(first: &str, number: &str, second: &str, bit: &str) -> Option<u8>
     ensures { result ≡ half_of (codes "bsn") (codes "bib") first.now number.now second.now bit.now }
 {
@@ -45,7 +45,7 @@ fn back_in(first: &str, number: &str, second: &str, bit: &str) -> Option<u8>
     }
 }
 
-/// `fsn N fib B`.
+/// Reads `fsn N fib B`: the forward sequence number and indicator bit.
 fn forward_in(first: &str, number: &str, second: &str, bit: &str) -> Option<u8>
     ensures { result ≡ half_of (codes "fsn") (codes "fib") first.now number.now second.now bit.now }
 {
@@ -56,7 +56,7 @@ fn forward_in(first: &str, number: &str, second: &str, bit: &str) -> Option<u8>
     }
 }
 
-/// A status by its name, or by its code where it has none (Q.703, 11.1.3).
+/// A status by its name, or by its code if it has no name (Q.703, 11.1.3).
 fn status_in(word: &str) -> Option<u8>
     ensures { result ≡ status_of word.now }
 {
@@ -81,7 +81,7 @@ fn status_in(word: &str) -> Option<u8>
     }
 }
 
-/// The octet behind the length indicator of an LSSU.
+/// The status octet of an LSSU, after its length indicator.
 fn status_body(alloc: Global, status: &str) -> Result<Option<Vec<u8>>, AllocError>
     ensures { IfOk result (λ r. option_map (λ v. v.items) r ≡ status_body (status_of status.now)) }
 {
@@ -94,7 +94,7 @@ fn status_body(alloc: Global, status: &str) -> Result<Option<Vec<u8>>, AllocErro
     }
 }
 
-/// The octets behind the length indicator of an MSU, of two words of hexadecimal digits.
+/// The octets of an MSU after its length indicator, from two words of hexadecimal digits.
 fn message_body(alloc: Global, sio: &str, sif: &str) -> Result<Option<Vec<u8>>, AllocError>
     ensures { IfOk result (λ r. option_map (λ v. v.items) r ≡ message_body (octets_of sio.now) (octets_of sif.now)) }
 {
@@ -112,7 +112,7 @@ fn message_body(alloc: Global, sio: &str, sif: &str) -> Result<Option<Vec<u8>>, 
     }
 }
 
-/// What stands behind the length indicator of a FISU: nothing.
+/// The octets of a FISU after its length indicator: none.
 fn fisu_body(alloc: Global, kind: &str) -> Option<Vec<u8>>
     ensures { option_map (λ v. v.items) result ≡ fisu_body kind.now }
 {
@@ -123,7 +123,7 @@ fn fisu_body(alloc: Global, kind: &str) -> Option<Vec<u8>>
     }
 }
 
-/// What stands behind the length indicator of an LSSU.
+/// The octets of an LSSU after its length indicator.
 fn lssu_body(
     alloc: Global,
     kind: &str,
@@ -139,7 +139,7 @@ fn lssu_body(
     }
 }
 
-/// What stands behind the length indicator of an MSU.
+/// The octets of an MSU after its length indicator.
 fn msu_body(
     alloc: Global,
     kind: &str,
@@ -157,7 +157,7 @@ fn msu_body(
     }
 }
 
-/// The octets behind the length indicator, by the kind and the words behind the numbers.
+/// The octets after the length indicator, from the kind of unit and the words after the sequence numbers.
 fn body_in(alloc: Global, kind: &str, words: &[&str]) -> Result<Option<Vec<u8>>, AllocError>
     ensures { IfOk result (λ r. option_map (λ v. v.items) r ≡ body_of kind.now (texts words.now)) }
 {
@@ -181,7 +181,7 @@ fn whole(alloc: Global, back: u8, forward: u8, body: &[u8]) -> Result<Vec<u8>, A
     Ok(octets)
 }
 
-/// The same, where there are all three parts.
+/// The octets of a unit without its check octets, if all three parts exist.
 fn joined(
     alloc: Global,
     back: Option<u8>,
@@ -200,7 +200,7 @@ fn joined(
     }
 }
 
-/// The octets of the unit that words say, without its check octets, if they say one.
+/// The octets of the unit that words spell, without its check octets, if they spell one.
 pub fn unit_in_words(alloc: Global, words: &[&str]) -> Result<Option<Vec<u8>>, AllocError>
     ensures { IfOk result (λ r. option_map (λ v. v.items) r ≡ unit_of_words (texts words.now)) }
 {

@@ -1,8 +1,8 @@
-//! The word that a terminal's own command begins with.
+//! The verbs of the commands that only a terminal's script has.
 ghost use Rattle.std.specs.Prelude.{◌≡◌};
 ghost use Rattle.script_links.specs.TermCommands.{term_verb_of};
 
-/// Which of the commands that only a terminal has.
+/// The kind of a command that only a terminal's script has.
 #[derive(Clone, Copy, PartialEq, Eq, Debug)]
 pub enum TermVerb {
     /// `command`.
@@ -23,7 +23,7 @@ pub enum TermVerb {
     Measure,
 }
 
-/// The command that a word begins, in this case alone.
+/// The command that a word begins; the case of letters matters.
 pub fn term_verb_in(word: &str) -> Option<TermVerb>
     ensures { result ≡ term_verb_of word.now }
 {

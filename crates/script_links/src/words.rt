@@ -1,31 +1,31 @@
-//! The words that a link set's own commands begin with.
+//! The words that begin a link set's own commands.
 ghost use Rattle.std.specs.Prelude.{◌≡◌};
 ghost use Rattle.script_links.specs.GroupCommands.{group_verb_of, group_word_of};
 
-/// Which of the commands that are a word alone.
+/// A command of one word.
 #[derive(Clone, Copy, PartialEq, Eq, Debug)]
 pub enum GroupWord {
     /// `fail`: the link fails.
     Fail,
-    /// `retrieve`: its messages are handed out.
+    /// `retrieve`: retrieves the link's messages.
     Retrieve,
-    /// `abandon`: what was sent is given up, the rest handed out.
+    /// `abandon`: drops the sent messages and retrieves the others.
     Abandon,
-    /// `divert`: what was handed out goes to other links.
+    /// `divert`: sends the retrieved messages on other links.
     Divert,
-    /// `rebalance`: all selections are shared out anew.
+    /// `rebalance`: distributes all selections anew.
     Rebalance,
-    /// `table`: the link of each selection is printed.
+    /// `table`: prints the link of each selection.
     Table,
-    /// `held`: how many messages the link holds.
+    /// `held`: prints how many messages the link holds.
     Held,
-    /// `unsure`: of how many messages it was never known whether they arrived.
+    /// `unsure`: prints how many of its messages may or may not have arrived.
     Unsure,
-    /// `link`: what the link is.
+    /// `link`: prints the state of the link.
     Link,
 }
 
-/// Which of the commands that a word more goes with.
+/// The kind of a command with one more word.
 #[derive(Clone, Copy, PartialEq, Eq, Debug)]
 pub enum GroupVerb {
     /// `on`.
@@ -40,7 +40,7 @@ pub enum GroupVerb {
     Admit,
 }
 
-/// The command that a word is, in this case alone.
+/// The command that a word is; the case of letters matters.
 pub fn group_word_in(word: &str) -> Option<GroupWord>
     ensures { result ≡ group_word_of word.now }
 {
@@ -58,7 +58,7 @@ pub fn group_word_in(word: &str) -> Option<GroupWord>
     }
 }
 
-/// The command that a word begins, in this case alone.
+/// The command that a word begins; the case of letters matters.
 pub fn group_verb_in(word: &str) -> Option<GroupVerb>
     ensures { result ≡ group_verb_of word.now }
 {

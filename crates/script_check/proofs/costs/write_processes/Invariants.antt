@@ -1,4 +1,4 @@
--- What was written is what the processes so far print.
+-- The output so far is that of the processes so far.
 use Rattle.std.proofs.Common.{take}
 use Rattle.std.specs.List.{flat_map}
 use Rattle.std.specs.Io.KnownBytes.{Appends}

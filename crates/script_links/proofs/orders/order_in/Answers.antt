@@ -52,7 +52,7 @@ pub returns-in-overload : goal.returns-in-overload
 unfolding order_of
 returns-in-overload c = rw c.in-overload.is refl
 
--- a word that is none of these
+-- A word that is none of the orders.
 no_order : (word : List ℕ)
     → word ≢ codes "power"
     → word ≢ codes "start"

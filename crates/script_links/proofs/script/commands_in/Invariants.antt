@@ -1,4 +1,4 @@
--- The commands so far, and the lines to come.
+-- The commands so far, and the lines not yet read.
 use Rattle.std.proofs.Common.{◌≡◌, ◌++◌, drop, map}
 use Rattle.std.specs.Prelude.{find}
 use Rattle.std.specs.List.{filter_map}

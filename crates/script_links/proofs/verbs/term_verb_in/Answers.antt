@@ -36,7 +36,7 @@ pub returns-in-measure : goal.returns-in-measure
 unfolding term_verb_of
 returns-in-measure c = rw c.in-measure.is refl
 
--- a word that is none of these
+-- A word that is none of the verbs.
 no_verb : (word : List ℕ)
     → word ≢ codes "command"
     → word ≢ codes "unit"

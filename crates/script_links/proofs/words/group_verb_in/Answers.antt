@@ -24,7 +24,7 @@ pub returns-in-admit : goal.returns-in-admit
 unfolding group_verb_of
 returns-in-admit c = rw c.in-admit.is refl
 
--- a word that is none of these
+-- A word that is none of the verbs.
 no_verb : (word : List ℕ)
     → word ≢ codes "on"
     → word ≢ codes "send"

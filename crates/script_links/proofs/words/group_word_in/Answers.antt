@@ -40,7 +40,7 @@ pub returns-in-link : goal.returns-in-link
 unfolding group_word_of
 returns-in-link c = rw c.in-link.is refl
 
--- a word that is none of these
+-- A word that is none of the commands.
 no_word : (word : List ℕ)
     → word ≢ codes "fail"
     → word ≢ codes "retrieve"
