@@ -1,4 +1,4 @@
--- What is counted of turns: of transitions, and at places.
+-- The counts of turns: per transition, and per place of the text.
 use Rattle.std.proofs.Common.{◌≡◌, ◌≢◌, ◌∙◌, ℕ, zero, suc, ◌+◌, ◌<◌, Bool, true, false, true≢false, ◌&&◌, cond, List, [], ◌∷◌, ◌++◌, append_assoc, append-nil, length, replicate, get_or, slice_set, Option, None, Some, arith, refl, sym, ap, subst}
 use Rattle.std.specs.Prelude.{◌==◌, nat_eq, if◌then◌else◌, position, slice_get}
 use Rattle.std.specs.List.{position_from}
@@ -27,7 +27,7 @@ use Rattle.script_covered.specs.declared.coverage.Places.{Places}
 use Rattle.script_covered.specs.declared.coverage.TurnCounts.{TurnCounts}
 use Rattle.script_covered.specs.declared.coverage.Turns.{Turns}
 
--- ---- turns, counted once more
+-- ---- the count of a transition, one higher
 
 abbrev pub more : Turns → Turns
 more t = record t { times = t.times + 1 }
@@ -40,7 +40,7 @@ counted_at p s n (t ∷ ts) (suc i) d within same before =
     ap (λ (b : Bool). if b then more t ∷ ts else t ∷ counted_turn p s n ts) (before zero (omega arith))
     ∙ ap (λ (l : List Turns). t ∷ l) (counted_at p s n ts i d (omega (arith, within)) same (λ k lt. before (suc k) (omega (arith, lt))))
 
--- it had one before
+-- the transition had turns before
 pub counted_again : (p : ℕ) (s : Option ℕ) (n : ℕ) (ts : List Turns) (i : ℕ) (d : Turns) → position (λ (t : Turns). is_known t p s n) ts ≡ Some i
     → slice_set ts i (more (get_or ts i d)) ≡ counted_turn p s n ts
 counted_again p s n ts i d is =
@@ -60,11 +60,11 @@ new_from : (p : ℕ) (s : Option ℕ) (n : ℕ) (ts : List Turns) (i : ℕ) → 
 new_from p s n [] i none = refl
 new_from p s n (t ∷ ts) i none = new_by p s n t ts i (is_known t p s n) none (new_from p s n ts (i + 1))
 
--- it had none
+-- the transition had no turns before
 pub counted_first : (p : ℕ) (s : Option ℕ) (n : ℕ) (ts : List Turns) → position (λ (t : Turns). is_known t p s n) ts ≡ None → ts ++ first p s n ∷ [] ≡ counted_turn p s n ts
 counted_first p s n ts none = sym (new_from p s n ts 0 (sym (position_from-zero (λ (t : Turns). is_known t p s n) ts) ∙ none))
 
--- ---- turns, looked up
+-- ---- looking up the count of a transition
 
 known_at : (p : ℕ) (s : Option ℕ) (n : ℕ) (ts : List Turns) (i : ℕ) (d : Turns) → i < length ts → is_known (get_or ts i d) p s n ≡ true
     → ((k : ℕ) → k < i → is_known (get_or ts k d) p s n ≡ false) → known_turns ts p s n ≡ (get_or ts i d).times
@@ -92,12 +92,12 @@ none_from p s n (t ∷ ts) i none = none_by p s n t ts i (is_known t p s n) none
 pub known_nowhere : (p : ℕ) (s : Option ℕ) (n : ℕ) (ts : List Turns) → position (λ (t : Turns). is_known t p s n) ts ≡ None → 0 ≡ known_turns ts p s n
 known_nowhere p s n ts none = sym (none_from p s n ts 0 (sym (position_from-zero (λ (t : Turns). is_known t p s n) ts) ∙ none))
 
--- ---- a turn more, of all transitions
+-- ---- one more turn changes the count of its transition only
 
 abbrev one_if : Bool → ℕ
 one_if b = cond b 1 0
 
--- whether two names of transitions are one
+-- whether two keys name the same transition
 abbrev same_key : ℕ → Option ℕ → ℕ → ℕ → Option ℕ → ℕ → Bool
 same_key p s n q r m = (p == q) && (same_state s r && (n == m))
 
@@ -129,7 +129,7 @@ are_same t p s n e =
       input = same_number t.input n (and_second (same_state t.state s) (t.input == n) rest);
     }
 
--- the turns of a transition, one of which is counted once more
+-- the counts agree for a transition that has one more turn
 one_known : (t : Turns) (rest : ℕ) (p q : ℕ) (s r : Option ℕ) (n m : ℕ) → AreSame t p s n
     → (if is_known t q r m then t.times + 1 else rest) ≡ (if is_known t q r m then t.times else rest) + one_if (same_key p s n q r m)
 one_known t rest p q s r n m same =
@@ -142,7 +142,7 @@ one_known t rest p q s r n m same =
     by_test true = refl
     by_test false = omega arith
 
--- another transition isn't that which is counted
+-- another transition is not the one counted
 none_more : (t : Turns) (p q : ℕ) (s r : Option ℕ) (n m : ℕ) → is_known t p s n ≡ false → is_known t q r m ≡ true → same_key p s n q r m ≡ false
 none_more t p q s r n m other known =
     let is = are_same t q r m known in
@@ -177,7 +177,7 @@ known_counted p q s r n m (t ∷ ts) = by_test (is_known t p s n) refl (known_co
     by_test true is rest = one_known t (known_turns ts q r m) p q s r n m (are_same t p s n is)
     by_test false is rest = left false (is_known t q r m) is refl (known_turns (counted_turn p s n ts) q r m) (known_turns ts q r m) rest
 
--- a turn of the transition is counted
+-- a turn is counted for its transition
 pub turns_more : (ts : List Turn) (t : Turn) (c d : TurnCounts) → d.turns.items ≡ counted_turn t.process.0 (state_in t.place) t.input_number c.turns.items
     → HasTurns ts c → HasTurns (ts ++ t ∷ []) d
 turns_more ts t c d is has = λ q r m.
@@ -202,7 +202,7 @@ set_more f ts spot n within is has k = by_test (k == spot) refl
         let other : k ≢ spot = λ same. true≢false (sym (same_as k) ∙ (ap (nat_eq k) same ∙ e)) in
         get_or-set_other ts spot k n 0 other ∙ has k
 
--- what was taken at a place is counted there
+-- one more execution is counted at its place
 pub counts_more : (f : ℕ → ℕ) (c d : Places) (spot n : ℕ) → spot < length c.times.items → n ≡ get_or c.times.items spot 0 + 1 → d.times.items ≡ slice_set c.times.items spot n → d.over ≡ c.over
     → HasCounts f c → HasCounts (one_more spot f) d
 counts_more f c d spot n within is are same has = λ under k.
@@ -239,9 +239,9 @@ taken_at_else xs c d k counts same has = record {
   others = counts_as (one_more k (others xs)) (others (xs ++ else_of k ∷ [])) d.others (λ j. add_if (others xs) j k ∙ sym (sum_by_push (λ (x : Taken). one_if (is_else j x)) xs (else_of k))) (counts (others xs) has.others);
 }
 
--- ---- of a turn
+-- ---- one turn
 
--- first one thing, and then others
+-- one item is taken, and then others
 pub taken_both : (xs ys : List Taken) (x : Taken) (old mid new : Counts) → (HasTaken xs old → HasTaken (xs ++ x ∷ []) mid) → ((zs : List Taken) → HasTaken zs mid → HasTaken (zs ++ ys) new)
     → HasTaken xs old → HasTaken (xs ++ x ∷ ys) new
 taken_both xs ys x old mid new one next has = subst (λ (l : List Taken). HasTaken l new) (append_assoc xs (x ∷ []) ys) (next (xs ++ x ∷ []) (one has))
@@ -277,7 +277,7 @@ pub at_start : (p : PlainProcess) (n : ℕ) (place : Place) (x : given.Input) (x
     → HasTaken (xs ++ taken_at p place n x) new
 at_start p n place x xs new here has = subst (λ (it : Place). HasTaken (xs ++ taken_at p it n x) new) (sym here) has
 
--- the same by other names
+-- the counted turn, with its parts replaced by equal ones
 pub counted_as : (old new : List Turns) (p q : ℕ) (s : Option ℕ) (place : Place) (n m : ℕ) → new ≡ counted_turn p s n old → p ≡ q → s ≡ state_in place → n ≡ m
     → new ≡ counted_turn q (state_in place) m old
 counted_as old new p q s place n m is one state number =

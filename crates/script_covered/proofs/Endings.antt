@@ -1,4 +1,4 @@
--- Where a transition ends by its meaning, the way of its turn comes to that end.
+-- If a transition ends by its meaning, the path of its turn comes to that end.
 use Rattle.std.proofs.Common.{◌≡◌, ◌∙◌, ℕ, zero, suc, ◌≤◌, nat_lt, Bool, true, false, cond, List, [], ◌∷◌, length, map, Option, None, Some, arith, refl, sym, ap, subst}
 use Rattle.std.specs.Prelude.{ℤ, slice_get, option_and_then}
 use Rattle.std.specs.Option.{option_map}
@@ -32,9 +32,9 @@ use Rattle.script_covered.specs.Covered.{turn_way}
 use Rattle.script_covered.specs.Meant.{meant_end, ComesTo}
 use Rattle.script_covered.proofs.Readings.{Values, Reads, ids, value_reads, Keeps, perform_keeps, places_keep, tried, found_so}
 
--- ---- statements, where a JOIN never goes on
+-- ---- statements, for which no JOIN is followed
 
--- it came to the end of a text, with what was done then
+-- the path reached the end of a text; this is the progress then
 record EndsBy (c : Scope) (join : List ℕ → Progress → Outcome (Unit {0})) (w : Way) (e : code.End) (s : Progress) : Type 0 where
   end : End
   now : Progress
@@ -43,7 +43,7 @@ record EndsBy (c : Scope) (join : List ℕ → Progress → Outcome (Unit {0})) 
   by : end_with c join end now ≡ over (at_end e) s
 
 module _ (c : Scope) (join : List ℕ → Progress → Outcome (Unit {0})) (joins_over : (x : List ℕ) (s : Progress) → IsOver (join x s)) (sender : Option Address) where
-  -- the way goes on as the meaning does, with the same variables, or comes to its end; or that is stuck
+  -- the path goes on or ends as the meaning does, with the same variables; or the meaning is stuck
   abbrev Comes : Outcome (Unit {0}) → Way → Type 0
   Comes (goes_on x s) w = (w.end ≡ None) × (w.values ≡ s.variables)
   Comes (over (at_end e) s) w = EndsBy c join w e s
@@ -71,7 +71,7 @@ module _ (c : Scope) (join : List ℕ → Progress → Outcome (Unit {0})) (join
   more_comes (over (at_end e) s) w xs h = record { end = h.end; now = h.now; is_end = h.is_end; variables = h.variables; by = h.by }
   more_comes (over (in_trouble t) s) w xs h = tt
 
-  -- a way, and then one behind it
+  -- a path followed by another
   way_comes : (o : Outcome (Unit {0})) (w : Way) (f : Unit {0} → Progress → Outcome (Unit {0})) (g : Values → Way) → Comes o w
       → ((x : Unit {0}) (r : Progress) → Comes (f x r) (g r.variables)) → Comes (then_do o f) (then_way w g)
   way_comes (goes_on x s) w f g h step =
@@ -105,7 +105,7 @@ module _ (c : Scope) (join : List ℕ → Progress → Outcome (Unit {0})) (join
   decide_comes false (Int z) r by_integer by_truth w one other = one z
   decide_comes false (Truth d) r by_integer by_truth w one other = tt
 
-  -- an answer is for the value, or one of the others is
+  -- an answer applies to the value, or one of the other answers does
   answer_comes : (tests : Outcome Bool) (b : Bool) (k : ℕ) (us : Values) (body others : Progress → Outcome (Unit {0})) (w v : Way) → Reads tests (Some b) us
       → ((r : Progress) → r.variables ≡ us → Comes (body r) w) → ((r : Progress) → r.variables ≡ us → Comes (others r) v)
       → Comes (then_do tests (λ d r. cond d (leave (body r)) (others r))) (cond b (behind (at k ∷ []) w) v)
@@ -164,7 +164,7 @@ module _ (c : Scope) (join : List ℕ → Progress → Outcome (Unit {0})) (join
 
 -- ---- JOINs
 
--- the connection with a name is that which has its number
+-- the connection with a name is the one that has its number
 connection_there : (p : PlainProcess) (x : List ℕ) → connection_named p x ≡ connection_at p x
 connection_there p x =
     found_at connection_name x p.connections ∙ by_place (nat_lt (place_in connection_name x p.connections) (length (map connection_name p.connections))) refl
@@ -206,7 +206,7 @@ module _ (c : Scope) (sender : Option Address) where
   abbrev way : Text → Values → Way
   way t vs = way_of (variable_names c.process) t vs
 
-  -- a text that ends by its meaning, where n JOINs at most are followed
+  -- a text that ends by its meaning, following at most n JOINs
   abbrev Ends : ℕ → Type 0
   Ends n = (t : Text) (s : Progress) (e : code.End) (r : Progress) → act c (follow c sender n) sender t s ≡ over (at_end e) r → ComesTo c (whole_way c.process n t s.variables) e r
 
@@ -226,7 +226,7 @@ module _ (c : Scope) (sender : Option Address) where
           (behind_joined c w.taken (whole_way c.process m k.text w.values) e r
           (subst (λ (us : Values). ComesTo c (whole_way c.process m k.text us) e r) (sym are) (inner m refl k.text (tick now) e r (closed_end (act c (follow c sender m) sender k.text (tick now)) e r so))))
 
-  -- by the end to which it came
+  -- the case by the end that the path reached
   ended_by : (n : ℕ) (t : Text) (s now : Progress) (end : End) (e : code.End) (r : Progress) → (way t s.variables).end ≡ Some end → (way t s.variables).values ≡ now.variables
       → end_with c (follow c sender n) end now ≡ over (at_end e) r → ((m : ℕ) → n ≡ suc m → Ends m) → ComesTo c (whole_way c.process n t s.variables) e r
   ended_by n t s now (NextState m) e r is are by inner =

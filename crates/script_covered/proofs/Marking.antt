@@ -1,4 +1,4 @@
--- What stands in a text: one statement and one answer further.
+-- The marks of a text: one more statement, one more answer.
 use Rattle.std.proofs.Common.{◌≡◌, ◌∙◌, ℕ, ◌+◌, ◌<◌, ◌≤◌, List, [], ◌∷◌, ◌++◌, append_assoc, length, drop, get_or, Option, sym, ap}
 use Rattle.std.proofs.lemmas.List.{drop_more, drop_all}
 use Rattle.sdl_ast.specs.declared.tree.Answer.{Answer}

@@ -1,8 +1,8 @@
--- Pieces, one behind another.
+-- The concatenation of pieces.
 use Rattle.std.proofs.Common.{◌≡◌, ◌∙◌, ℕ, ◌+◌, ◌<◌, ◌≤◌, List, [], ◌∷◌, ◌++◌, append_assoc, append-nil, length, drop, get_or, sym, ap}
 use Rattle.std.proofs.lemmas.List.{drop_more, drop_all}
 
--- of each item, by its place
+-- the pieces of each item, by its index
 pub pieces_on : {A B : Type 0} (F : ℕ → List A → List B) (f : ℕ → A → List B) → ((n : ℕ) (x : A) (xs : List A) → F n (x ∷ xs) ≡ f n x ++ F (n + 1) xs)
     → (start old new : List B) (xs : List A) (i : ℕ) (x : A) → i < length xs → x ≡ get_or xs i x → new ≡ old ++ f i x → old ++ F i (drop i xs) ≡ start
     → new ++ F (i + 1) (drop (i + 1) xs) ≡ start

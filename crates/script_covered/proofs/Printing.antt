@@ -1,4 +1,4 @@
--- What is told of a text: lines, and how many.
+-- The report of a text: its lines, and their number.
 use Rattle.std.proofs.Common.{◌≡◌, ◌∙◌, ℕ, zero, suc, ◌+◌, ◌<◌, ◌≤◌, Bool, true, false, true≢false, ◌||◌, cond, List, [], ◌∷◌, ◌++◌, append_assoc, append-nil, length, map, take, get_or, replicate, Option, None, Some, arith, refl, sym, ap, subst}
 use Rattle.std.specs.Prelude.{◌==◌, nat_eq, nat_lt, if◌then◌else◌, codes, count_by, slice_get, slice_index, option_to_list}
 use Rattle.std.specs.List.{flat_map, range_with_len}
@@ -28,7 +28,7 @@ pub section_as : (text ns said so : List ℕ) (s : Section) → said ≡ text �
 section_as text ns said so s is are h =
     subst (λ (l : List ℕ). IsSection said l s) (sym are) (subst (λ (l : List ℕ). IsSection l ns s) (sym is) h)
 
--- one line more
+-- one more line
 pub section_push : (text ns line : List ℕ) (times : ℕ) (s t : Section) → t.text.items ≡ s.text.items ++ line → t.found ≡ s.found + 1
     → t.hit ≡ (if nat_lt 0 times then s.hit + 1 else s.hit) → IsSection text ns s → IsSection (text ++ line) (ns ++ times ∷ []) t
 section_push text ns line times s t is more hits h = record {
@@ -44,7 +44,7 @@ section_push text ns line times s t is more hits h = record {
     by_test true = refl
     by_test false = omega arith
 
--- with its counts, at the end of a text
+-- the lines, with their counts, at the end of a text
 pub section_to : (found hit lines ns old a b new : List ℕ) (s : Section) → a ≡ old ++ s.text.items → b ≡ a ++ counted found s.found → new ≡ b ++ counted hit s.hit → IsSection lines ns s
     → new ≡ old ++ (lines ++ summary found hit ns)
 section_to found hit lines ns old a b new s one two three h =
@@ -56,11 +56,11 @@ section_to found hit lines ns old a b new s one two three h =
     ∙ (ap (λ n. old ++ (lines ++ (counted found n ++ counted hit s.hit))) h.found
     ∙ ap (λ n. old ++ (lines ++ (counted found (length ns) ++ counted hit n))) h.hit)))))
 
--- the same line
+-- a line, replaced by an equal one
 pub line_as : (said line same : List ℕ) (ns : List ℕ) (t : Section) → line ≡ same → IsSection (said ++ line) ns t → IsSection (said ++ same) ns t
 line_as said line same ns t is h = section_as _ _ _ _ t (ap (λ l. said ++ l) (sym is)) refl h
 
--- an answer, an ELSE
+-- an answer or an ELSE
 pub answer_pushed : (text : List ℕ) (f g : ℕ → ℕ) (m : Mark) (a k n times : ℕ) (said ns : List ℕ) (t : Section) → m ≡ Answer a k n → times ≡ f a
     → IsSection (said ++ branch_line (line_at text k) k n (taken_word (f k) times)) (ns ++ times ∷ []) t → IsSection (said ++ mark_line text f g m) (ns ++ mark_times f g m) t
 answer_pushed text f g m a k n times said ns t is so h =
@@ -75,14 +75,14 @@ else_pushed text f g m k n times said ns t is so h =
     (ap (λ x. said ++ mark_line text f g x) is ∙ ap (λ x. said ++ branch_line (line_at text k) k n (taken_word (f k) x)) (sym so))
     (ap (λ x. ns ++ mark_times f g x) is ∙ ap (λ x. ns ++ x ∷ []) (sym so)) h
 
--- a line that was taken
+-- the line of a line that was executed
 pub some_counted : (line times : ℕ) (o : Option ℕ) (text : List ℕ) (s t : Section) → o ≡ Some times → text ≡ count_line line (Some times)
     → ((said ns : List ℕ) → IsSection said ns s → IsSection (said ++ text) (ns ++ times ∷ []) t) → (said ns : List ℕ) → IsSection said ns s
     → IsSection (said ++ count_line line o) (ns ++ option_to_list o) t
 some_counted line times o text s t is so step said ns h =
     section_as _ _ _ _ t (ap (λ l. said ++ l) (ap (count_line line) is ∙ sym so)) (ap (λ (p : Option ℕ). ns ++ option_to_list p) is) (step said ns h)
 
--- of items so far
+-- the items up to this index
 pub items_more : {A : Type 0} (L T : A → List ℕ) (xs : List A) (i : ℕ) (x : A) (s t : Section) → i < length xs → x ≡ get_or xs i x
     → IsSection (flat_map L (take i xs)) (flat_map T (take i xs)) s → ((text ns : List ℕ) → IsSection text ns s → IsSection (text ++ L x) (ns ++ T x) t)
     → IsSection (flat_map L (take (i + 1) xs)) (flat_map T (take (i + 1) xs)) t
@@ -130,7 +130,7 @@ line_more text i o line next lt is at so =
     by_test true = omega arith
     by_test false = omega arith
 
--- the numbers so far
+-- the line numbers up to this index
 pub record AreSo (text lines : List ℕ) (i : ℕ) : Type 0 where
   pub number : length lines ≡ i
   pub are : (k : ℕ) → k < i → slice_get lines k ≡ Some (line_at text k)
@@ -161,7 +161,7 @@ lines_so_more text lines more i line is at h = record {
 pub lines_are : (text lines : List ℕ) (i : ℕ) → i ≡ length text + 1 → AreSo text lines i → AreLines text lines
 lines_are text lines i all h = record { number = h.number ∙ all; are = λ k le. h.are k (omega (arith, le, all)) }
 
--- past the end it is that of the end
+-- past the end, a place has the line number of the end
 past_end : (text : List ℕ) (k : ℕ) → length text ≤ k → line_at text (length text) ≡ line_at text k
 past_end text k past = ap (λ l. count_by is_newline l + 1) (take_all (length text) text (omega arith) ∙ sym (take_all k text past))
 
@@ -190,7 +190,7 @@ pub lines_section_past : (os : List (Option ℕ)) (i : ℕ) (s : Section) → le
     → IsSection (count_lines 0 os) (flat_map option_to_list os) s
 lines_section_past os i s past h = section_as _ _ _ _ s (ap (count_lines 0) (sym (take_all i os past))) (ap (flat_map option_to_list) (sym (take_all i os past))) h
 
--- so far these marks were seen
+-- the marks seen so far
 pub record AreSeen (text : List ℕ) (f : ℕ → ℕ) (ms : List Mark) (count : ℕ) (os : List (Option ℕ)) : Type 0 where
   pub number : length os ≡ count
   pub seen : (line : ℕ) → line < count → get_or os line None ≡ line_count text f ms line
@@ -207,7 +207,7 @@ all_seen text f ms i count os past is h =
     fill_by_all (line_count text f ms) os count None h.number (λ line less. h.seen line less ∙ ap (λ l. line_count text f l line) (take_all i ms past))
     ∙ ap (λ n. map (line_count text f ms) (range_with_len 0 n)) is
 
--- ---- the whole
+-- ---- the whole report
 
 pub three_pieces : (o a b n r s t : List ℕ) → a ≡ o ++ r → b ≡ a ++ s → n ≡ b ++ t → n ≡ o ++ (r ++ s ++ t)
 three_pieces o a b n r s t one two three =

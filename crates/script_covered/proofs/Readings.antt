@@ -1,4 +1,4 @@
--- What expressions, actions and answers come to by their meaning, and on the way of a turn.
+-- The results of expressions, actions and answers: their meaning agrees with the path of a turn.
 use Rattle.std.proofs.Common.{◌≡◌, ◌∙◌, ℕ, ◌+◌, Bool, true, false, cond, ◌||◌, List, [], ◌∷◌, Option, None, Some, unwrap_or, refl, sym, ap, subst}
 use Rattle.std.specs.Prelude.{ℤ, pos, int_lt, slice_get, slice_set, option_and_then}
 use Rattle.sdl_ast.specs.declared.expression.Identifier.{Identifier}
@@ -24,9 +24,9 @@ use Rattle.script_covered.specs.Ways.{is_for, made_of_one, made_of_two, quotient
 abbrev pub Values : Type 0
 Values = List (Option Value)
 
--- ---- what is read
+-- ---- evaluation
 
--- a part comes to a value, and leaves the variables; or it is stuck
+-- a part evaluates to a value and leaves the variables unchanged; or it is stuck
 abbrev pub Reads : {A : Type 0} → Outcome A → Option A → Values → Type 0
 Reads (goes_on x s) o vs = (o ≡ Some x) × (s.variables ≡ vs)
 Reads (over (at_end e) s) o vs = ⊥
@@ -38,7 +38,7 @@ then_reads (goes_on x s) p vs f g h step = subst (λ q. Reads (f x s) (option_an
 then_reads (over (at_end e) s) p vs f g h step = h
 then_reads (over (in_trouble t) s) p vs f g h step = tt
 
--- from variables that are these
+-- a result carries over to equal variables
 reads_at : {A : Type 0} (o : Outcome A) (p : Values → Option A) (us vs : Values) → us ≡ vs → Reads o (p us) us → Reads o (p vs) vs
 reads_at o p us vs is h = subst (λ ws. Reads o (p ws) ws) is h
 
@@ -124,9 +124,9 @@ module _ (c : Scope) where
           then_reads (value_of c u r) (valued ids u s.variables) s.variables (λ y r. apply_two (working (meaning.is_truth c t) op) x y (tick r)) (made_of_two op x)
           (reads_at (value_of c u r) (valued ids u) r.variables s.variables is other) (λ y q at. two_reads (meaning.is_truth c t) op x y q s.variables at)
 
--- ---- what keeps the variables
+-- ---- parts that leave the variables unchanged
 
--- it goes on with these variables, or is stuck
+-- the part goes on with these variables, or is stuck
 abbrev pub Keeps : {A : Type 0} → Outcome A → Values → Type 0
 Keeps (goes_on x s) vs = s.variables ≡ vs
 Keeps (over (at_end e) s) vs = ⊥

@@ -1,4 +1,4 @@
--- The transitions of a text, one more.
+-- The transitions of a text: one more.
 use Rattle.std.proofs.Common.{◌≡◌, ◌∙◌, ℕ, List, [], ◌∷◌, ◌++◌, map, ap}
 use Rattle.std.proofs.lemmas.List.{map_push}
 use Rattle.script_covered.specs.Lcov.{Transition, row_of}

@@ -1,4 +1,4 @@
--- A turn more of a text, and what is told of it.
+-- One more turn of a text, and its report.
 use Rattle.std.proofs.Common.{◌≡◌, ◌∙◌, ℕ, List, [], ◌∷◌, ◌++◌, map, Some, sym, ap, subst}
 use Rattle.std.specs.Prelude.{slice_get}
 use Rattle.std.specs.Option.{option_map}
@@ -13,7 +13,7 @@ use Rattle.script_covered.specs.Texts.{IsTextOf, inputs_in, IsCovering, IsLcov}
 use Rattle.script_covered.specs.declared.coverage.Coverage.{Coverage}
 use Rattle.script_covered.specs.declared.text_coverage.TextCoverage.{TextCoverage}
 
--- of the process of the turn, and of what its states take
+-- a turn is counted with its process and the inputs of its states
 pub turn_taken : (ts : List Turn) (t : Turn) (c : TextCoverage) (after : Coverage) (all : List PlainProcess) (rows : List (List (List Input))) (n : ℕ) (p : PlainProcess) (is : List (List Input))
     → all ≡ processes_of (block_of c.block.now) → rows ≡ map inputs_in c.inputs.items → Some p ≡ slice_get all n → Some is ≡ slice_get rows n → n ≡ t.process.0
     → ((b : PlainBlock) (us : List Turn) → slice_get (processes_of b) t.process.0 ≡ Some p → is ≡ inputs_by_state p → Covers b us c.coverage → Covers b (us ++ t ∷ []) after)

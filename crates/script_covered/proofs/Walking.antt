@@ -1,4 +1,4 @@
--- A walk: one statement and one answer further, and the ends.
+-- A walk along a path: one more statement, one more answer, and the ends.
 use Rattle.std.proofs.Common.{◌≡◌, ◌∙◌, ℕ, suc, ◌+◌, ◌<◌, ◌≤◌, Bool, true, false, cond, List, [], ◌∷◌, ◌++◌, append_assoc, append-nil, length, drop, get_or, Option, None, Some, refl, sym, ap, subst}
 use Rattle.std.specs.Option.{option_map}
 use Rattle.std.proofs.lemmas.List.{drop_more, drop_all}
@@ -23,7 +23,7 @@ use Rattle.script_covered.specs.declared.coverage.Counts.{Counts}
 abbrev Values : Type 0
 Values = List (Option Value)
 
--- ---- ways put together
+-- ---- paths put together
 
 behind_behind : (xs ys : List Taken) (w : Way) → behind xs (behind ys w) ≡ behind (xs ++ ys) w
 behind_behind xs ys w = ap (λ (l : List Taken). record { taken = l; end = w.end; values = w.values }) (sym (append_assoc xs ys w.taken))
@@ -42,14 +42,14 @@ ends_so (Some e) xs vs = refl
 then_none : (w : Way) → then_way w (stands None) ≡ w
 then_none w = ends_so w.end w.taken w.values
 
--- a statement, and what follows it
+-- a statement and the text that follows it
 stated : (ids : List Identifier) (s : PlainStatement) (rest : Text) (vs : Values) → way_of ids (before s rest) vs ≡ then_way (way_of ids (before s falls) vs) (way_of ids rest)
 stated ids (act a) rest vs = refl
 stated ids (decide k q choice) rest vs =
     let w = behind (at k ∷ []) (with_value (valued ids q vs) vs (λ x. chosen_way ids k choice x vs)) in
     ap (λ (u : Way). then_way u (way_of ids rest)) (sym (then_none w))
 
--- ---- on the way
+-- ---- partial walks
 
 pub on_start : (w v : Way) (c : Counts) → w ≡ v → IsOnWay w v c c
 on_start w v c is = record { taken = []; is = is; counts = λ xs has. subst (λ (l : List Taken). HasTaken l c) (sym (append-nil xs)) has }
@@ -64,7 +64,7 @@ on_part whole part left old mid new h k = record {
 pub on_taken : (x : Taken) (left : Way) (old new : Counts) → ((xs : List Taken) → HasTaken xs old → HasTaken (xs ++ x ∷ []) new) → IsOnWay (behind (x ∷ []) left) left old new
 on_taken x left old new counts = record { taken = x ∷ []; is = refl; counts = counts }
 
--- a part and what is left behind that
+-- a part of a path, and what is left after it
 on_then : (part : Way) (f : Values → Way) (left : Way) (old new : Counts) → IsOnWay part left old new → IsOnWay (then_way part f) (then_way left f) old new
 on_then part f left old new h = record {
   taken = h.taken;
@@ -97,7 +97,7 @@ statement_on whole ids ss i s last e vs ws old mid new lt is h k =
     ap (λ (l : List Statement). way_of ids (statements_before l last) vs) first ∙ stated ids (plain_statement s) rest vs in
     on_part whole _ _ old mid new (as_left whole _ _ old mid there h) (on_then (way_of ids (statement_of s falls) vs) (way_of ids rest) (stands e ws) mid new k)
 
--- it came to an end
+-- the statement came to an end of the transition
 pub statement_ends : (whole : Way) (ids : List Identifier) (ss : List Statement) (i : ℕ) (s : Statement) (last : Text) (r : Option End) (e : End) (vs ws : Values) (old mid new : Counts)
     → i < length ss → s ≡ get_or ss i s → r ≡ Some e → IsOnWay whole (way_of ids (statements_before (drop i ss) last) vs) old mid
     → IsOnWay (way_of ids (statement_of s falls) vs) (stands r ws) mid new → IsOnWay whole (stands (Some e) ws) old new
@@ -105,7 +105,7 @@ statement_ends whole ids ss i s last r e vs ws old mid new lt is so h k =
     statement_on whole ids ss i s last (Some e) vs ws old mid new lt is h
     (subst (λ (o : Option End). IsOnWay (way_of ids (statement_of s falls) vs) (stands o ws) mid new) so k)
 
--- it didn't
+-- the statement didn't come to an end of the transition
 pub statement_goes : (whole : Way) (ids : List Identifier) (ss : List Statement) (i : ℕ) (s : Statement) (last : Text) (r : Option End) (vs ws : Values) (old mid new : Counts)
     → i < length ss → s ≡ get_or ss i s → r ≡ None → IsOnWay whole (way_of ids (statements_before (drop i ss) last) vs) old mid
     → IsOnWay (way_of ids (statement_of s falls) vs) (stands r ws) mid new → IsOnWay whole (way_of ids (statements_before (drop (i + 1) ss) last) ws) old new
@@ -113,7 +113,7 @@ statement_goes whole ids ss i s last r vs ws old mid new lt is so h k =
     statement_on whole ids ss i s last None vs ws old mid new lt is h
     (subst (λ (o : Option End). IsOnWay (way_of ids (statement_of s falls) vs) (stands o ws) mid new) so k)
 
--- all statements
+-- all statements were walked
 pub statements_past : (whole : Way) (ids : List Identifier) (ss : List Statement) (i : ℕ) (o r : Option End) (vs : Values) (old new : Counts) → length ss ≤ i → o ≡ r
     → IsOnWay whole (way_of ids (statements_before (drop i ss) (end_text o)) vs) old new → IsOnWay whole (way_of ids (end_text r) vs) old new
 statements_past whole ids ss i o r vs old new past is h =
@@ -218,7 +218,7 @@ else_taken whole ids k body x vs left old now mid new h counts walked =
 
 -- ---- JOINs
 
--- a way that came to its end
+-- a path that was walked to its end
 gone : (w : Way) (e : Option End) (ws : Values) (old new : Counts) (h : IsOnWay w (stands e ws) old new) → w ≡ record { taken = h.taken; end = e; values = ws }
 gone w e ws old new h = h.is ∙ ap (λ (l : List Taken). record { taken = l; end = e; values = ws }) (append-nil h.taken)
 
@@ -253,7 +253,7 @@ pub with_names : (p : PlainProcess) (ids : List Identifier) (t : Text) (vs : Val
     → IsOnWay (way_of (variable_names p) t vs) left old new
 with_names p ids t vs left old new is h = subst (λ (l : List Identifier). IsOnWay (way_of l t vs) left old new) is h
 
--- with the parameters in their variables, and as many JOINs as there are connections
+-- with the parameters in their variables, and at most as many JOINs as there are connections
 pub goes_as : (p : PlainProcess) (n k : ℕ) (t : Text) (vs ws : Values) (xs : List Taken) (c : Counts) → n ≡ k → vs ≡ ws → HasTaken (xs ++ through p n t vs) c → HasTaken (xs ++ through p k t ws) c
 goes_as p n k t vs ws xs c is same has =
     subst (λ (us : Values). HasTaken (xs ++ through p k t us) c) same (subst (λ (m : ℕ). HasTaken (xs ++ through p m t vs) c) is has)

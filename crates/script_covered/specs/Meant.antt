@@ -1,4 +1,4 @@
--- What the way of a turn has to do with the meaning of its text: both come to one end, with the
+-- How the path of a turn relates to the meaning of its text: both come to the same end, with the
 -- same variables.
 use Rattle.std.specs.Prelude.{◌≡◌, Option, None, Some}
 use Rattle.std.specs.Option.{option_map}
@@ -14,14 +14,14 @@ use Rattle.turn_code.specs.declared.machine.End.TheVariants as code_end
 use Rattle.script_covered.specs.Ways.{Way}
 use Rattle.script_covered.specs.Covered.{turn_way}
 
--- how a turn ends that comes to this end of a text; a JOIN is none
+-- the end of a turn for an end of its text; a JOIN is no end of a turn
 abbrev pub meant_end : Scope → End → Option code.End
 meant_end c (NextState n) =
     option_map (λ q. code_end.State (record { 0 = q })) (state_at c n.state)
 meant_end c (Stop k) = Some code_end.Stop
 meant_end c (Join j) = None
 
--- the way comes to an end that is this one, with the variables as they are then
+-- the path comes to this end, with the variables of this progress
 pub record ComesTo (c : Scope) (w : Way) (e : code.End) (s : Progress) : Type 0 where
   pub end : End
   pub is_end : w.end ≡ Some end

@@ -1,10 +1,10 @@
--- How far a turn has come on its way.
+-- How far a turn has walked along its path.
 use Rattle.std.specs.Prelude.{◌≡◌, ◌++◌, List}
 use Rattle.script_covered.specs.Ways.{Taken, Way, behind}
 use Rattle.script_covered.specs.Covered.{HasTaken}
 use Rattle.script_covered.specs.declared.coverage.Counts.{Counts}
 
--- what of a way was taken is counted, and this is left of it
+-- the part of a path that was walked is counted, and this rest of it is left
 pub record IsOnWay (whole left : Way) (old new : Counts) : Type 0 where
   pub taken : List Taken
   pub is : whole ≡ behind taken left

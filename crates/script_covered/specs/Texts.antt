@@ -1,4 +1,4 @@
--- What turns took of a text, as it is told of that text.
+-- The coverage of a text, as it is reported for that text.
 use Rattle.std.specs.Prelude.{◌≡◌, ℕ, List, Ok, map}
 use Rattle.std.specs.Global.{Vec}
 use Rattle.sdl_lex.specs.Lexed.{Answers}
@@ -23,14 +23,14 @@ pub record IsTextOf (text : List ℕ) (b : PlainBlock) : Type 0 where
 abbrev pub inputs_in : Vec (Vec InputRow) → List (List Input)
 inputs_in states = map rows_inputs states.items
 
--- what turns took so far of a text, and what the states of its block take
+-- the coverage of a text by the turns so far, and the inputs of its block's states
 pub record IsCovering (ts : List Turn) (c : TextCoverage) : Type 0 where
   pub is_text : IsTextOf c.text.now (block_of c.block.now)
   pub covers : Covers (block_of c.block.now) ts c.coverage
   pub inputs :
       map inputs_in c.inputs.items ≡ map inputs_by_state (processes_of (block_of c.block.now))
 
--- this is what turns took of the text, in a file of this name
+-- the report of the text's coverage by these turns, with this file name
 pub record IsLcov (name text : List ℕ) (ts : List Turn) (out : List ℕ) : Type 0 where
   pub block : PlainBlock
   pub is_block : IsTextOf text block

@@ -1,5 +1,5 @@
--- The way of a turn through a text: what it takes there, in order, and how it goes on. Only the
--- values of variables have a say in it; what goes out, and what is set, has none.
+-- The path of a turn through a text: the parts that it takes, in order, and how it goes on. It
+-- depends only on the values of variables, not on signals sent or timers set.
 use Rattle.std.specs.Prelude.{ℕ, zero, suc, ◌+◌, pos, Bool, true, false, List, [], ◌∷◌, ◌++◌}
 use Rattle.std.specs.Prelude.{Option, None, Some, if◌then◌else◌, slice_get, slice_set, unwrap_or}
 use Rattle.std.specs.Prelude.{option_and_then}
@@ -24,9 +24,9 @@ use Rattle.turn_code.specs.Values.{wrap}
 use Rattle.turn_code.specs.declared.value.Value.{Value}
 use Rattle.turn_code.specs.declared.value.Value.TheVariants.{Int, Bool as Truth}
 
--- ---- what expressions come to
+-- ---- the values of expressions
 
--- nothing was done
+-- a progress in which nothing was done
 abbrev pub fresh : Progress
 fresh = record { variables = []; effects = []; count = 0 }
 
@@ -43,8 +43,8 @@ abbrev pub is_truth : Value → Bool
 is_truth (Int x) = false
 is_truth (Truth b) = true
 
--- what an operator makes of a value, of two values, and of a value and a divisor; none where these
--- have another sort than it wants
+-- the result of an operator on one value, on two values, and on a value and a divisor; none if a
+-- value has the wrong sort
 abbrev pub made_of_one : UnaryOperator → Value → Option Value
 made_of_one op x = found (apply_one op x fresh)
 
@@ -54,7 +54,7 @@ made_of_two op x y = found (apply_two (working (is_truth x) op) x y fresh)
 abbrev pub quotient_of : BinaryOperator → Tree → Value → Option Value
 quotient_of op t x = found (divide op (divisor_of t) x fresh)
 
--- what an expression comes to, where variables of these names have these values
+-- the value of an expression, if the variables of these names have these values
 abbrev pub valued : List Identifier → Tree → List (Option Value) → Option Value
 valued ids (number k n) vs = Some (Int (wrap (pos n)))
 valued ids (truth k b) vs = Some (Truth b)
@@ -64,7 +64,7 @@ valued ids (binary k op t u) vs =
     option_and_then (λ x. if is_division op then quotient_of op u x
     else option_and_then (made_of_two op x) (valued ids u vs)) (valued ids t vs)
 
--- ---- what variables become
+-- ---- the values of variables
 
 abbrev pub put_at : Option ℕ → Option Value → List (Option Value) → List (Option Value)
 put_at None x vs = vs
@@ -74,7 +74,7 @@ abbrev pub put :
     List Identifier → Identifier → Option Value → List (Option Value) → List (Option Value)
 put ids v x vs = put_at (number_of ids v.name) x vs
 
--- assignments one after another
+-- the variables after a list of assignments
 abbrev pub assigned :
     List Identifier → List PlainAssignment → List (Option Value) → List (Option Value)
 assigned ids [] vs = vs
@@ -87,7 +87,7 @@ behind_action ids (output k xs to) vs = vs
 behind_action ids (set_timer k t n) vs = vs
 behind_action ids (reset_timer k n) vs = vs
 
--- each place of an INPUT from place j on that has a name gets the parameter there
+-- each named place of an INPUT, from place j on, gets its parameter
 abbrev pub taken_in :
     List Identifier → List Value → ℕ → List (Option Identifier) → List (Option Value)
     → List (Option Value)
@@ -96,9 +96,9 @@ taken_in ids ps j (None ∷ places) vs = taken_in ids ps (j + 1) places vs
 taken_in ids ps j (Some v ∷ places) vs =
     taken_in ids ps (j + 1) places (put ids v (slice_get ps j) vs)
 
--- ---- ways
+-- ---- paths
 
--- What is taken: what begins at a place, or the ELSE of the DECISION at a place.
+-- A part that is taken: the one that begins at a place, or the ELSE of the DECISION at a place.
 pub data Taken : Type 0 where
   at : ℕ → Taken
   else_of : ℕ → Taken
@@ -114,17 +114,17 @@ end_place (NextState n) = n.at
 end_place (Stop k) = k
 end_place (Join j) = j.at
 
--- A way: what is taken on it, the end to which it comes, if it does, and the variables then.
+-- A path: the parts taken on it, the end that it reaches, if any, and the variables then.
 pub record Way : Type 0 where
   pub taken : List Taken
   pub end : Option End
   pub values : List (Option Value)
 
--- it takes nothing
+-- a path that takes nothing
 abbrev pub stands : Option End → List (Option Value) → Way
 stands e vs = record { taken = []; end = e; values = vs }
 
--- this is taken first
+-- a path that takes these parts first
 abbrev pub behind : List Taken → Way → Way
 behind xs w = record { taken = xs ++ w.taken; end = w.end; values = w.values }
 
@@ -133,11 +133,11 @@ abbrev pub goes_with :
 goes_with None xs vs f = behind xs (f vs)
 goes_with (Some e) xs vs f = record { taken = xs; end = Some e; values = vs }
 
--- a way, and then one behind it, unless it comes to an end
+-- a path, followed by another unless it comes to an end
 abbrev pub then_way : Way → (List (Option Value) → Way) → Way
 then_way w f = goes_with w.end w.taken w.values f
 
--- whether an answer is for a value
+-- whether an answer applies to a value
 abbrev pub has_value : Value → Range → Bool
 has_value (Int x) r = unwrap_or (covers_integer r x) false
 has_value (Truth b) r = unwrap_or (covers_truth r b) false
@@ -150,7 +150,7 @@ with_value None vs f = stands None vs
 with_value (Some x) vs f = f x
 
 abbrev mutual
-  -- through a text, where variables of these names have these values
+  -- the path through a text, if the variables of these names have these values
   pub way_of : List Identifier → Text → List (Option Value) → Way
   way_of ids falls vs = stands None vs
   way_of ids (ends e) vs = behind (at (end_place e) ∷ []) (stands (Some e) vs)
@@ -162,7 +162,7 @@ abbrev mutual
       (with_value (valued ids q vs) vs (λ x. chosen_way ids k choice x vs)))
       (λ ws. way_of ids rest ws)
 
-  -- by the first answer of the DECISION at place k that is for the value, or by its ELSE
+  -- the path by the first answer of the DECISION at place k that applies to the value, or its ELSE
   pub chosen_way : List Identifier → ℕ → Choice → Value → List (Option Value) → Way
   chosen_way ids k nothing_else x vs = stands None vs
   chosen_way ids k (otherwise body) x vs = behind (else_of k ∷ []) (way_of ids body vs)
@@ -175,14 +175,14 @@ abbrev mutual
 abbrev pub connection_at : PlainProcess → List ℕ → Option PlainConnection
 connection_at p x = option_and_then (slice_get p.connections) (number_of (connector_names p) x)
 
--- the connection to which an end leads
+-- the connection to which an end jumps
 abbrev pub joined_at : PlainProcess → Option End → Option PlainConnection
 joined_at p None = None
 joined_at p (Some (NextState n)) = None
 joined_at p (Some (Stop k)) = None
 joined_at p (Some (Join j)) = connection_at p j.connector.name
 
--- on through that, if there is one
+-- the path on through that connection, if there is one
 abbrev pub joined_way : Option PlainConnection → Way → (Text → Way) → Way
 joined_way None w f = w
 joined_way (Some k) w f = behind w.taken (f k.text)
@@ -190,12 +190,12 @@ joined_way (Some k) w f = behind w.taken (f k.text)
 abbrev pub way_on : PlainProcess → Way → (Text → List (Option Value) → Way) → Way
 way_on p w f = joined_way (joined_at p w.end) w (λ t. f t w.values)
 
--- through a text, and on through those that it joins, n at most
+-- the path through a text and through the connections that it joins, at most n
 abbrev pub whole_way : PlainProcess → ℕ → Text → List (Option Value) → Way
 whole_way p zero t vs = way_of (variable_names p) t vs
 whole_way p (suc n) t vs =
     way_on p (way_of (variable_names p) t vs) (λ u ws. whole_way p n u ws)
 
--- what is taken on that
+-- the parts taken on that path
 abbrev pub through : PlainProcess → ℕ → Text → List (Option Value) → List Taken
 through p n t vs = (whole_way p n t vs).taken

@@ -1,4 +1,4 @@
-//! What of a text turns took: transitions, statements and answers.
+//! The parts of a text that turns took: transitions, statements and answers.
 ghost use Rattle.std.specs.Prelude.{◌≡◌, ◌∷◌, ◌++◌, [], ◌+◌, ◌<◌, ◌||◌, ℕ, List, Some, map, length, position, slice_get, slice_index, IfSome, IfOk, OnOk};
 ghost use Rattle.std.specs.Option.{option_map};
 ghost use Rattle.sdl_ast.specs.Plain.{PlainBlock};
@@ -17,7 +17,7 @@ use std::alloc::{AllocError, Global};
 use turn_code::{Input, Place, StateNumber};
 use turn_machine::Job;
 
-/// The turns of a transition: of a process, at START or in a state, on an input.
+/// The number of turns of a transition: of a process, at START or in a state, on an input.
 #[derive(Clone, Copy, PartialEq, Eq, Debug)]
 pub(crate) struct Turns {
     process: usize,
@@ -26,37 +26,37 @@ pub(crate) struct Turns {
     times: u64,
 }
 
-/// How many turns each transition had, in the order of their first.
+/// The number of turns of each transition, in the order of their first turns.
 #[derive(Drop)]
 pub(crate) struct TurnCounts {
     turns: Vec<Turns>,
 }
 
-/// How often what begins at each place of a text was taken: a number for each of its octets.
+/// How often the part at each place of a text was taken: a count for each octet of the text.
 #[derive(Drop)]
 pub(crate) struct Places {
     times: Vec<u64>,
-    /// Whether something was taken so often that no number says it.
+    /// Whether a count overflowed, or a place was outside the text.
     over: bool,
 }
 
-/// What was taken of a text.
+/// The counts of a text.
 #[derive(Drop)]
 pub(crate) struct Counts {
-    /// Where statements, answers, INPUTs and STARTs begin.
+    /// Counts of statements, answers, INPUTs and STARTs, by the places where they begin.
     begun: Places,
-    /// At a DECISION: its ELSE.
+    /// Counts of ELSEs, by the places of their DECISIONs.
     others: Places,
 }
 
-/// Which transitions had turns, and what these took.
+/// The turns of transitions, and the parts that they took.
 #[derive(Drop)]
 pub(crate) struct Coverage {
     turns: TurnCounts,
     counts: Counts,
 }
 
-/// Whether they are one state, or START.
+/// Whether two states are the same, or both are START.
 fn same_state(one: Option<usize>, other: Option<usize>) -> bool
     ensures { result ≡ same_state one other }
 {
@@ -72,7 +72,7 @@ fn same_state(one: Option<usize>, other: Option<usize>) -> bool
     }
 }
 
-/// The state of a place; none at START.
+/// The state of a turn's place; none at START.
 fn state_in(place: Place) -> Option<usize>
     ensures { result ≡ state_in place }
 {
@@ -83,14 +83,14 @@ fn state_in(place: Place) -> Option<usize>
 }
 
 impl Turns {
-    /// Whether they are those of a transition.
+    /// Whether these are the turns of this transition.
     fn is_of(&self, process: usize, state: Option<usize>, input: usize) -> bool
         ensures { result ≡ is_known self.now process state input }
     {
         self.process == process && same_state(self.state, state) && self.input == input
     }
 
-    /// One more. It fails where that is more than 64 bits count.
+    /// One more turn; an error if the count exceeds 64 bits.
     fn once_more(&self) -> Result<Turns, AllocError>
         ensures { IfOk result (λ t. t ≡ record self.now { times = self.now.times + 1 }) }
     {
@@ -116,7 +116,7 @@ impl TurnCounts {
         }
     }
 
-    /// Where those of a transition are counted, if it had one.
+    /// The index of a transition's turns, if it had any.
     fn number(&self, process: usize, state: Option<usize>, input: usize) -> Option<usize>
         ensures first { result ≡ position (λ (t : Known). is_known t process state input) self.now.turns.items }
         ensures within { IfSome result (λ n. n < length self.now.turns.items) }
@@ -126,7 +126,7 @@ impl TurnCounts {
             .position(|known| known.is_of(process, state, input))
     }
 
-    /// A transition has one more. It fails where there is no memory, or it has more than 64 bits count.
+    /// Counts one more turn of a transition; an error if memory runs out or the count exceeds 64 bits.
     fn count(
         &mut self,
         process: usize,
@@ -153,7 +153,7 @@ impl TurnCounts {
         }
     }
 
-    /// How many a transition had.
+    /// The number of turns of a transition.
     pub(crate) fn times(&self, process: usize, state: Option<usize>, input: usize) -> u64
         ensures { result ≡ known_turns self.now.turns.items process state input }
     {
@@ -165,7 +165,7 @@ impl TurnCounts {
 }
 
 impl Places {
-    /// Nothing was taken of a text of this length.
+    /// Zero counts for a text of this length.
     fn new(alloc: Global, length: usize) -> Result<Places, AllocError>
         ensures { IfOk result (HasCounts (λ k. 0)) }
     {
@@ -173,7 +173,7 @@ impl Places {
         Ok(Places { times, over: false })
     }
 
-    /// What the count at a place is, once more; none where there is no such place, or no number says it.
+    /// The count at a place, plus one; none if there is no such place or the count overflows.
     fn more(&self, place: usize) -> Option<u64>
         ensures { IfSome result (λ n. (place < length self.now.times.items) × (n ≡ slice_index self.now.times.items place + 1)) }
     {
@@ -183,7 +183,7 @@ impl Places {
         }
     }
 
-    /// What begins at a place is taken.
+    /// Counts the part that begins at a place.
     fn take(&mut self, at: u32)
         ensures { (f : ℕ → ℕ) → HasCounts f self.old → HasCounts (one_more at f) self.new }
     {
@@ -194,7 +194,7 @@ impl Places {
         }
     }
 
-    /// How often what begins at a place was taken.
+    /// How often the part at a place was taken.
     fn times(&self, at: u32) -> u64
         ensures { result ≡ slice_index self.now.times.items at }
     {
@@ -206,7 +206,7 @@ impl Places {
 }
 
 impl Counts {
-    /// Nothing was taken of a text of this length.
+    /// Zero counts for a text of this length.
     fn new(alloc: Global, length: usize) -> Result<Counts, AllocError>
         ensures { IfOk result (HasTaken []) }
     {
@@ -215,28 +215,28 @@ impl Counts {
         Ok(Counts { begun, others })
     }
 
-    /// What begins at a place is taken.
+    /// Counts the part that begins at a place.
     pub(crate) fn take_at(&mut self, place: u32)
         ensures { (xs : List Taken) → HasTaken xs self.old → HasTaken (xs ++ at place ∷ []) self.new }
     {
         self.begun.take(place);
     }
 
-    /// The ELSE of the DECISION at a place is taken.
+    /// Counts the ELSE of the DECISION at a place.
     pub(crate) fn take_else(&mut self, place: u32)
         ensures { (xs : List Taken) → HasTaken xs self.old → HasTaken (xs ++ else_of place ∷ []) self.new }
     {
         self.others.take(place);
     }
 
-    /// Whether something was taken so often that no number says it.
+    /// Whether a count overflowed, or a place was outside the text.
     pub(crate) fn is_over(&self) -> bool
         ensures { result ≡ (self.now.begun.over || self.now.others.over) }
     {
         self.begun.over || self.others.over
     }
 
-    /// How often what begins at a place was taken.
+    /// How often the part at a place was taken.
     pub(crate) fn times(&self, at: u32) -> u64
         ensures { result ≡ slice_index self.now.begun.times.items at }
     {
@@ -250,7 +250,7 @@ impl Counts {
         self.others.times(at)
     }
 
-    /// What a turn at START takes.
+    /// Counts the parts that a turn at START takes.
     fn take_start(&mut self, process: &ProcessTable<'_>, input: &Input)
         ensures { (xs : List Taken) → HasTaken xs self.old → HasTaken (xs ++ taken_at (process_of process.now) Start 0 input.now) self.new }
     {
@@ -259,7 +259,7 @@ impl Counts {
         pass(process, self, &start.transition, &[], input);
     }
 
-    /// What a turn on an input of a state takes.
+    /// Counts the parts that a turn on an input of a state takes.
     fn take_row(&mut self, process: &ProcessTable<'_>, row: &InputRow<'_>, input: &Input)
         ensures { (xs : List Taken) → HasTaken xs self.old
             → HasTaken (xs ++ taken_input (process_of process.now) (Some (row_input row.now)) input.now) self.new }
@@ -274,7 +274,7 @@ impl Counts {
         );
     }
 
-    /// What a turn takes, at a place, on an input with a number, of a process with these inputs of each of its states.
+    /// Counts the parts that a turn takes; `inputs` holds the inputs of each state of its process.
     fn take_turn(
         &mut self,
         process: &ProcessTable<'_>,
@@ -310,7 +310,7 @@ fn row_at<'a, 'b>(
 }
 
 impl Coverage {
-    /// No turns, of a text of this length.
+    /// Coverage without turns, for a text of this length.
     pub(crate) fn new(alloc: Global, length: usize) -> Result<Coverage, AllocError>
         ensures { (b : PlainBlock) → IfOk result (Covers b []) }
     {
@@ -321,25 +321,25 @@ impl Coverage {
         })
     }
 
-    /// How many turns transitions had.
+    /// The number of turns of each transition.
     pub(crate) fn turns(&self) -> &TurnCounts
         ensures { result.now ≡ self.now.turns }
     {
         &self.turns
     }
 
-    /// What turns took.
+    /// The counts of parts taken.
     pub(crate) fn counts(&self) -> &Counts
         ensures { result.now ≡ self.now.counts }
     {
         &self.counts
     }
 
-    /// A turn ran, of a process with these inputs of each of its states.
+    /// Counts a turn that ran; `inputs` holds the inputs of each state of its process.
     ///
     /// # Errors
     ///
-    /// Where there is no memory, or a transition has more turns than 64 bits count.
+    /// Out of memory, or a transition has more turns than 64 bits can count.
     pub(crate) fn take(
         &mut self,
         process: &ProcessTable<'_>,

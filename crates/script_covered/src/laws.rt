@@ -1,7 +1,7 @@
-//! What follows from the definitions alone. A call costs nothing.
+//! Laws that follow from the definitions. A call costs nothing at run time.
 ghost use Rattle.script_covered.specs.Meant.{WayLaw};
 
-/// A turn that ends by the meaning of its text comes to that end on its way through the text, with the same variables.
+/// If a turn ends by the meaning of its text, its path through the text comes to the same end with the same variables.
 pub fn way_law()
     ensures { WayLaw }
 {}

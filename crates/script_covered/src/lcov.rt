@@ -1,4 +1,4 @@
-//! What of a text was taken, in the format of lcov.
+//! The coverage of a text in the format of lcov.
 ghost use Rattle.std.specs.Prelude.{◌≡◌, ◌∷◌, ◌++◌, [], ℕ, List, None, Some, codes, map, max, slice_index, slice_index_or, slice_set, unwrap_or, option_to_list, OnOk, IfOk};
 ghost use Rattle.std.specs.List.{flat_map};
 ghost use Rattle.sdl_ast.specs.Views.{block_of};
@@ -14,7 +14,7 @@ use crate::sections::{Section, push_named, push_number};
 use sdl_tables::BlockTable;
 use std::alloc::{AllocError, Global};
 
-/// The lines of where transitions are.
+/// Appends the lines with the places of transitions.
 fn push_places(
     alloc: Global,
     out: &mut Vec<u8>,
@@ -29,7 +29,7 @@ fn push_places(
     Ok(())
 }
 
-/// The lines of how many turns transitions had.
+/// The lines with the numbers of turns of transitions.
 fn turns_section(alloc: Global, rows: &[Row]) -> Result<Section, AllocError>
     ensures { IfOk result (IsSection (flat_map turns_line (map row_of rows.now)) (map (λ r. r.turns) (map row_of rows.now))) }
 {
@@ -42,7 +42,7 @@ fn turns_section(alloc: Global, rows: &[Row]) -> Result<Section, AllocError>
     Ok(section)
 }
 
-/// How often an answer was taken; a dash where its DECISION was never asked.
+/// Appends how often an answer was taken; a dash if its DECISION was never asked.
 fn push_taken(alloc: Global, line: &mut Vec<u8>, asked: u64, times: u64) -> Result<(), AllocError>
     ensures { OnOk result (line.new.items ≡ line.old.items ++ taken_word asked times) }
 {
@@ -53,7 +53,7 @@ fn push_taken(alloc: Global, line: &mut Vec<u8>, asked: u64, times: u64) -> Resu
     }
 }
 
-/// The line of an answer: its line, its DECISION, its number there, and how often that was asked and it was taken.
+/// The line of an answer: line number, DECISION, number of the answer, and its count or a dash.
 fn branch_line(
     alloc: Global,
     at: u64,
@@ -77,7 +77,7 @@ fn branch_line(
     Ok(line)
 }
 
-/// An answer with this number of the DECISION at a place, which was taken so often.
+/// Adds the answer with this number of the DECISION at a place; it was taken `times` times.
 fn push_answer(
     alloc: Global,
     section: &mut Section,
@@ -101,7 +101,7 @@ fn push_answer(
     section.push(&line, times)
 }
 
-/// The line of what stands in a text, if it is an answer.
+/// Adds the line of a mark, if it is an answer.
 fn push_mark(
     alloc: Global,
     section: &mut Section,
@@ -140,7 +140,7 @@ fn push_mark(
     }
 }
 
-/// The lines of answers.
+/// The lines of all answers.
 fn answers_section(
     alloc: Global,
     lines: &[u32],
@@ -158,7 +158,7 @@ fn answers_section(
     Ok(section)
 }
 
-/// The most of what was seen, and of something more that was taken so often.
+/// The greater of the count seen so far, if any, and another count.
 fn more_of(seen: Option<u64>, times: u64) -> u64
     ensures { result ≡ max (unwrap_or seen 0) times }
 {
@@ -168,7 +168,7 @@ fn more_of(seen: Option<u64>, times: u64) -> u64
     }
 }
 
-/// Something on a line was taken so often.
+/// Records a count on a line.
 fn see(seen: &mut Vec<Option<u64>>, line: u64, times: u64)
     ensures { seen.new.items ≡ slice_set seen.old.items line (Some (max (unwrap_or (slice_index_or seen.old.items line None) 0) times)) }
 {
@@ -179,7 +179,7 @@ fn see(seen: &mut Vec<Option<u64>>, line: u64, times: u64)
     }
 }
 
-/// Something that stands in a text is seen on its line, if it begins there.
+/// Records the count of a mark on its line, if it has a place.
 fn see_mark(seen: &mut Vec<Option<u64>>, lines: &[u32], counts: &Counts, mark: Mark)
     ensures { (text : List ℕ) → AreLines text lines.now → Sees text (slice_index counts.now.begun.times.items) mark seen.old.items seen.new.items }
 {
@@ -190,7 +190,7 @@ fn see_mark(seen: &mut Vec<Option<u64>>, lines: &[u32], counts: &Counts, mark: M
     }
 }
 
-/// How often each line was taken, from 0 on; none where nothing begins on it.
+/// The count of each line, from line 0 on; none if nothing begins on it.
 fn line_counts(
     alloc: Global,
     lines: &[u32],
@@ -207,7 +207,7 @@ fn line_counts(
     Ok(seen)
 }
 
-/// The line of a line that was taken so often.
+/// The report's line for a text line with this count.
 fn count_line(alloc: Global, line: u64, times: u64) -> Result<Vec<u8>, AllocError>
     ensures { IfOk result (λ v. v.items ≡ count_line line (Some times)) }
 {
@@ -220,7 +220,7 @@ fn count_line(alloc: Global, line: u64, times: u64) -> Result<Vec<u8>, AllocErro
     Ok(text)
 }
 
-/// The line of a line, if something begins on it.
+/// Adds the report's line for a text line, if something begins on it.
 fn push_count(
     alloc: Global,
     section: &mut Section,
@@ -238,7 +238,7 @@ fn push_count(
     }
 }
 
-/// The lines of lines.
+/// The report's lines for the lines of the text.
 fn lines_section(alloc: Global, seen: &[Option<u64>]) -> Result<Section, AllocError>
     ensures { IfOk result (IsSection (count_lines 0 seen.now) (flat_map option_to_list seen.now)) }
 {
@@ -249,7 +249,7 @@ fn lines_section(alloc: Global, seen: &[Option<u64>]) -> Result<Section, AllocEr
     Ok(section)
 }
 
-/// What is told of transitions.
+/// Appends the report on transitions.
 fn push_rows(
     alloc: Global,
     out: &mut Vec<u8>,
@@ -263,7 +263,7 @@ fn push_rows(
     section.push_to(alloc, out, "FNF:", "FNH:")
 }
 
-/// What is told of answers.
+/// Appends the report on answers.
 fn push_answers(
     alloc: Global,
     out: &mut Vec<u8>,
@@ -278,7 +278,7 @@ fn push_answers(
     section.push_to(alloc, out, "BRF:", "BRH:")
 }
 
-/// What is told of lines.
+/// Appends the report on lines.
 fn push_lines(
     alloc: Global,
     out: &mut Vec<u8>,
@@ -294,7 +294,7 @@ fn push_lines(
     section.push_to(alloc, out, "LF:", "LH:")
 }
 
-/// What is told of all of it.
+/// Appends the reports on transitions, answers and lines.
 fn push_report(
     alloc: Global,
     out: &mut Vec<u8>,
@@ -313,7 +313,7 @@ fn push_report(
     push_lines(alloc, out, &lines, counts, marks)
 }
 
-/// The head of what is told, in which the text's file has this name.
+/// The head of the report, with the file name of the text.
 fn head(alloc: Global, name: &str) -> Result<Vec<u8>, AllocError>
     ensures { IfOk result (λ v. v.items ≡ codes "TN:scripts\nSF:" ++ name.now ++ codes "\n") }
 {
@@ -324,11 +324,11 @@ fn head(alloc: Global, name: &str) -> Result<Vec<u8>, AllocError>
     Ok(out)
 }
 
-/// What turns took of the text of a block, in the format of lcov. The text's file has this name there.
+/// Returns the coverage of a block's text in the format of lcov; `name` is the file name of the text in it.
 ///
 /// # Errors
 ///
-/// Where there is no memory, or something was taken so often that 64 bits don't count it.
+/// Out of memory, or a count exceeds 64 bits.
 pub(crate) fn lcov_text(
     alloc: Global,
     name: &str,

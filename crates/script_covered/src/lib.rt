@@ -1,4 +1,4 @@
-//! What turns took of a text: transitions, answers and lines, each with how often it was taken, in the format of lcov.
+//! The coverage of a text by turns: transitions, answers and lines, each with its count, in the format of lcov.
 #![tactic(auto)]
 
 mod coverage;

@@ -1,10 +1,10 @@
-//! The lines in which places of a text stand.
+//! The line numbers of places in a text.
 ghost use Rattle.std.specs.Prelude.{◌≡◌, ◌==◌, ◌+◌, ℕ, List, if◌then◌else◌, length, IfOk};
 ghost use Rattle.script_covered.specs.Lcov.{AreLines, line_at};
 
 use std::alloc::{AllocError, Global};
 
-/// The number of the line of each of a text's places, from 1, that of its end too.
+/// The line number of each place of a text, from 1, including that of its end.
 pub(crate) fn lines_of(alloc: Global, text: &[u8]) -> Result<Vec<u32>, AllocError>
     ensures { IfOk result (λ v. AreLines text.now v.items) }
 {
@@ -18,7 +18,7 @@ pub(crate) fn lines_of(alloc: Global, text: &[u8]) -> Result<Vec<u32>, AllocErro
     Ok(lines)
 }
 
-/// The number of the line behind an octet.
+/// The line number after an octet.
 fn line_behind(line: u32, octet: u8) -> Result<u32, AllocError>
     ensures { IfOk result (λ n. n ≡ (if octet == 10 then line + 1 else line)) }
 {
@@ -31,7 +31,7 @@ fn line_behind(line: u32, octet: u8) -> Result<u32, AllocError>
     }
 }
 
-/// The number of the line of a place; of the end's, where it is past that.
+/// The line number of a place; past the end, that of the end.
 pub(crate) fn line_at(lines: &[u32], at: u32) -> u64
     ensures { (text : List ℕ) → AreLines text lines.now → result ≡ line_at text at }
 {
@@ -51,7 +51,7 @@ fn last_line(lines: &[u32]) -> u64
     }
 }
 
-/// How many numbers of lines there are, 0 too.
+/// The number of line numbers, 0 included.
 pub(crate) fn line_count(lines: &[u32]) -> usize
     ensures { (text : List ℕ) → AreLines text lines.now → result ≡ line_at text (length text) + 1 }
 {

@@ -1,4 +1,4 @@
-//! What stands in a text: where something begins that may be taken, and which answers DECISIONs have.
+//! The marks of a text: where something that may be taken begins, and the answers of DECISIONs.
 ghost use Rattle.std.specs.Prelude.{◌≡◌, ◌∷◌, ◌++◌, [], IfOk, OnOk, map};
 ghost use Rattle.std.specs.List.{flat_map};
 ghost use Rattle.sdl_ast.specs.Plain.{Text};
@@ -12,7 +12,7 @@ use sdl_ast::{Connection, Decision, End, InputPart, Statement, Transition};
 use sdl_tables::{BlockTable, ProcessTable};
 use std::alloc::{AllocError, Global};
 
-/// What stands in a text.
+/// A mark of a text.
 #[derive(Clone, Copy)]
 pub(crate) enum Mark {
     /// A statement, an end, an INPUT or START begins at this place.
@@ -30,19 +30,19 @@ pub(crate) enum Mark {
     Else {
         /// Where its DECISION begins.
         decision: u32,
-        /// Its number, behind those of the answers.
+        /// Its number, after those of the answers.
         number: usize,
     },
 }
 
-/// Something begins at a place.
+/// Appends the mark of something that begins at a place.
 fn push_begin(marks: &mut Vec<Mark>, at: u32) -> Result<(), AllocError>
     ensures { OnOk result (marks.new.items ≡ marks.old.items ++ Begun at ∷ []) }
 {
     Ok(marks.push(Mark::Begins(at))?)
 }
 
-/// The end of a transition.
+/// Appends the mark of a transition's end.
 fn push_end(marks: &mut Vec<Mark>, end: Option<End>) -> Result<(), AllocError>
     ensures { OnOk result (marks.new.items ≡ marks.old.items ++ text_marks (end_text end)) }
 {
@@ -52,7 +52,7 @@ fn push_end(marks: &mut Vec<Mark>, end: Option<End>) -> Result<(), AllocError>
     }
 }
 
-/// A transition, or a body of a DECISION.
+/// Appends the marks of a transition, or of a body of a DECISION.
 #[cycle(marking)]
 fn push_text(marks: &mut Vec<Mark>, transition: &Transition) -> Result<(), AllocError>
     ensures { OnOk result (marks.new.items ≡ marks.old.items ++ text_marks (text_of transition.now)) }
@@ -63,7 +63,7 @@ fn push_text(marks: &mut Vec<Mark>, transition: &Transition) -> Result<(), Alloc
     push_end(marks, transition.end)
 }
 
-/// A statement.
+/// Appends the marks of a statement.
 #[cycle(marking)]
 fn push_statement(marks: &mut Vec<Mark>, statement: &Statement) -> Result<(), AllocError>
     ensures { OnOk result ((rest : Text) → marks.new.items ++ text_marks rest ≡ marks.old.items ++ text_marks (statement_of statement.now rest)) }
@@ -77,7 +77,7 @@ fn push_statement(marks: &mut Vec<Mark>, statement: &Statement) -> Result<(), Al
     }
 }
 
-/// The answers of a DECISION.
+/// Appends the marks of a DECISION's answers.
 #[cycle(marking)]
 fn push_answers(marks: &mut Vec<Mark>, decision: &Decision) -> Result<(), AllocError>
     ensures { OnOk result (marks.new.items ≡ marks.old.items ++ choice_marks (out-Decision decision.now).at 0 (choice_of decision.now)) }
@@ -104,7 +104,7 @@ fn push_answers(marks: &mut Vec<Mark>, decision: &Decision) -> Result<(), AllocE
     }
 }
 
-/// INPUTs with their transitions.
+/// Appends the marks of INPUTs and their transitions.
 fn push_inputs(marks: &mut Vec<Mark>, parts: &[&InputPart]) -> Result<(), AllocError>
     ensures { OnOk result (marks.new.items ≡ marks.old.items ++ flat_map input_marks (map (λ i. input_of i.now) parts.now)) }
 {
@@ -115,7 +115,7 @@ fn push_inputs(marks: &mut Vec<Mark>, parts: &[&InputPart]) -> Result<(), AllocE
     Ok(())
 }
 
-/// The transitions of CONNECTIONs.
+/// Appends the marks of the transitions of CONNECTIONs.
 fn push_connections(marks: &mut Vec<Mark>, connections: &[Connection]) -> Result<(), AllocError>
     ensures { OnOk result (marks.new.items ≡ marks.old.items ++ flat_map connection_marks (map connection_of connections.now)) }
 {
@@ -125,7 +125,7 @@ fn push_connections(marks: &mut Vec<Mark>, connections: &[Connection]) -> Result
     Ok(())
 }
 
-/// What stands in a process.
+/// Appends the marks of a process.
 fn push_process(marks: &mut Vec<Mark>, process: &ProcessTable<'_>) -> Result<(), AllocError>
     ensures { OnOk result (marks.new.items ≡ marks.old.items ++ process_marks (process_of process.now)) }
 {
@@ -136,7 +136,7 @@ fn push_process(marks: &mut Vec<Mark>, process: &ProcessTable<'_>) -> Result<(),
     push_connections(marks, &process.process().connections)
 }
 
-/// What stands in processes.
+/// Appends the marks of processes.
 fn push_processes(marks: &mut Vec<Mark>, processes: &[ProcessTable<'_>]) -> Result<(), AllocError>
     ensures { OnOk result (marks.new.items ≡ marks.old.items ++ flat_map process_marks (map process_of processes.now)) }
 {
@@ -146,7 +146,7 @@ fn push_processes(marks: &mut Vec<Mark>, processes: &[ProcessTable<'_>]) -> Resu
     Ok(())
 }
 
-/// What stands in a block, process by process.
+/// Returns the marks of a block, process by process.
 pub(crate) fn block_marks(alloc: Global, block: &BlockTable<'_>) -> Result<Vec<Mark>, AllocError>
     ensures { IfOk result (λ v. v.items ≡ block_marks (block_of block.now)) }
 {

@@ -1,4 +1,4 @@
-//! The transitions of a text, by their names, and how many turns each had.
+//! The transitions of a text, with their names and numbers of turns.
 ghost use Rattle.std.specs.Prelude.{◌≡◌, ◌++◌, [], Some, unwrap_or, map, IfOk, OnOk};
 ghost use Rattle.sdl_ast.specs.Views.{block_of, process_of};
 ghost use Rattle.sdl_tables.specs.Names.{number_of, signal_names, processes_of};
@@ -11,7 +11,7 @@ use sdl_ast::{Identifier, Name};
 use sdl_tables::{BlockTable, InputRow, NameTable, ProcessTable};
 use std::alloc::{AllocError, Global};
 
-/// A transition: the place of its START or INPUT, its name, and how many turns it had.
+/// A transition: the place of its START or INPUT, its name, and the number of its turns.
 #[derive(Drop)]
 pub(crate) struct Row {
     pub(crate) at: u32,
@@ -19,7 +19,7 @@ pub(crate) struct Row {
     pub(crate) turns: u64,
 }
 
-/// A name as it is declared, if it is.
+/// A name as it is declared, if it is declared.
 fn named_as(names: &NameTable, name: Name) -> Option<Name>
     ensures { result ≡ named_as (number_of names.now name) names.now }
 {
@@ -45,7 +45,7 @@ fn declared_name(signals: &NameTable, timers: &NameTable, written: &Identifier) 
     }
 }
 
-/// PROCESS START.
+/// `PROCESS START`.
 fn start_name(alloc: Global, process: &ProcessTable<'_>) -> Result<Vec<u8>, AllocError>
     ensures { IfOk result (λ v. v.items ≡ start_name (process_of process.now)) }
 {
@@ -55,7 +55,7 @@ fn start_name(alloc: Global, process: &ProcessTable<'_>) -> Result<Vec<u8>, Allo
     Ok(name)
 }
 
-/// The name of a state.
+/// Appends the name of a state.
 fn push_state(name: &mut Vec<u8>, states: &NameTable, state: usize) -> Result<(), AllocError>
     ensures { OnOk result (name.new.items ≡ name.old.items ++ unwrap_or (named_as (Some state) states.now) []) }
 {
@@ -65,7 +65,7 @@ fn push_state(name: &mut Vec<u8>, states: &NameTable, state: usize) -> Result<()
     }
 }
 
-/// PROCESS STATE/INPUT, as `check` prints it.
+/// `PROCESS STATE/INPUT`, as `check` prints it.
 fn input_name(
     alloc: Global,
     signals: &NameTable,
@@ -85,7 +85,7 @@ fn input_name(
     Ok(name)
 }
 
-/// The inputs of a state of a process.
+/// Appends the rows of the inputs of a state.
 fn push_state_rows(
     alloc: Global,
     rows: &mut Vec<Row>,
@@ -110,7 +110,7 @@ fn push_state_rows(
     Ok(())
 }
 
-/// The inputs of each state of a process.
+/// Appends the rows of the inputs of each state of a process.
 fn push_states_rows(
     alloc: Global,
     rows: &mut Vec<Row>,
@@ -129,7 +129,7 @@ fn push_states_rows(
     Ok(())
 }
 
-/// START, and the inputs of each state.
+/// Appends the rows of START and of the inputs of each state.
 fn push_process_rows(
     alloc: Global,
     rows: &mut Vec<Row>,
@@ -151,7 +151,7 @@ fn push_process_rows(
     push_states_rows(alloc, rows, turns, signals, process, owner, &inputs)
 }
 
-/// The transitions of processes.
+/// Appends the rows of the transitions of processes.
 fn push_processes_rows(
     alloc: Global,
     rows: &mut Vec<Row>,
@@ -168,7 +168,7 @@ fn push_processes_rows(
     Ok(())
 }
 
-/// The transitions of a block, process by process.
+/// Returns the rows of the transitions of a block, process by process.
 pub(crate) fn block_rows(
     alloc: Global,
     block: &BlockTable<'_>,

@@ -1,11 +1,11 @@
-//! Lines of numbers, and how many they are.
+//! Sections of the report: lines, with the number of lines.
 ghost use Rattle.std.specs.Prelude.{◌≡◌, ◌∷◌, ◌++◌, [], ◌+◌, ℕ, List, if◌then◌else◌, OnOk, IfOk};
 ghost use Rattle.std.specs.Fmt.{decimal};
 ghost use Rattle.script_covered.specs.Lcov.{counted, named_line, summary, IsSection};
 
 use std::alloc::{AllocError, Global};
 
-/// Lines on their way, of what was taken so often: how many, and how many of them were taken at all.
+/// A section under way: its lines, their number, and the number of those with a count above 0.
 #[derive(Drop)]
 pub(crate) struct Section {
     text: Vec<u8>,
@@ -13,7 +13,7 @@ pub(crate) struct Section {
     hit: u64,
 }
 
-/// A number, or one more, where it is so.
+/// A number, plus one if `more` is true.
 fn one_if(number: u64, more: bool) -> Result<u64, AllocError>
     ensures { IfOk result (λ n. n ≡ (if more then number + 1 else number)) }
 {
@@ -26,7 +26,7 @@ fn one_if(number: u64, more: bool) -> Result<u64, AllocError>
     }
 }
 
-/// A number in decimal.
+/// Appends a number in decimal.
 pub(crate) fn push_number(alloc: Global, text: &mut Vec<u8>, number: u64) -> Result<(), AllocError>
     ensures { OnOk result (text.new.items ≡ text.old.items ++ decimal number) }
 {
@@ -34,7 +34,7 @@ pub(crate) fn push_number(alloc: Global, text: &mut Vec<u8>, number: u64) -> Res
     Ok(text.extend_from_slice(digits.as_bytes())?)
 }
 
-/// A word with a number.
+/// Appends a word and a number as a line.
 fn push_counted(
     alloc: Global,
     text: &mut Vec<u8>,
@@ -48,7 +48,7 @@ fn push_counted(
     Ok(text.push(b'\n')?)
 }
 
-/// A word with a number and a name.
+/// Appends a word, a number and a name as a line.
 pub(crate) fn push_named(
     alloc: Global,
     text: &mut Vec<u8>,
@@ -66,7 +66,7 @@ pub(crate) fn push_named(
 }
 
 impl Section {
-    /// No lines.
+    /// An empty section.
     pub(crate) fn new(alloc: Global) -> Section
         ensures { IsSection [] [] result }
     {
@@ -77,7 +77,7 @@ impl Section {
         }
     }
 
-    /// The line of something that was taken so often.
+    /// Adds the line of an item that was taken `times` times.
     pub(crate) fn push(&mut self, line: &[u8], times: u64) -> Result<(), AllocError>
         ensures { OnOk result ((text ns : List ℕ) → IsSection text ns self.old → IsSection (text ++ line.now) (ns ++ times ∷ []) self.new) }
     {
@@ -87,7 +87,7 @@ impl Section {
         Ok(())
     }
 
-    /// The lines at the end of a text, and how many they are, by two words.
+    /// Appends the lines to a text, followed by their two numbers, each after its word.
     pub(crate) fn push_to(
         &self,
         alloc: Global,

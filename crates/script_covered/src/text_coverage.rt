@@ -1,4 +1,4 @@
-//! What turns took of a text that reads as a block.
+//! The coverage of a text that reads as a block.
 ghost use Rattle.std.specs.Prelude.{◌≡◌, ◌∷◌, ◌++◌, [], List, IfOk, OnOk, map, slice_get};
 ghost use Rattle.std.specs.Option.{option_map};
 ghost use Rattle.sdl_ast.specs.Views.{block_of, process_of};
@@ -13,24 +13,24 @@ use sdl_tables::{BlockTable, InputRow, ProcessTable};
 use std::alloc::{AllocError, Global};
 use turn_machine::Done;
 
-/// What turns took of a text.
+/// The coverage of a text.
 #[derive(Drop)]
 pub struct TextCoverage<'a, 'b> {
     text: &'b str,
     block: &'b BlockTable<'a>,
-    /// For each process, and each of its states, what it takes.
+    /// The inputs of each state of each process.
     inputs: Vec<Vec<Vec<InputRow<'a>>>>,
     coverage: Coverage,
 }
 
-/// A process, if there is one of this number.
+/// The process with this number, if there is one.
 fn process_at<'a, 'b>(tables: &'b [ProcessTable<'a>], number: usize) -> Option<&'b ProcessTable<'a>>
     ensures { option_map (λ p. process_of p.now) result ≡ slice_get (map process_of tables.now) number }
 {
     tables.get(number)
 }
 
-/// What the states of a process take, if there is one of this number.
+/// The inputs of the states of the process with this number, if there is one.
 fn inputs_at<'a, 'b>(
     inputs: &'b [Vec<Vec<InputRow<'a>>>],
     number: usize,
@@ -43,7 +43,7 @@ fn inputs_at<'a, 'b>(
     }
 }
 
-/// What each state of each process takes.
+/// The inputs of each state of each process.
 fn all_inputs<'a>(
     alloc: Global,
     tables: &[ProcessTable<'a>],
@@ -59,11 +59,11 @@ fn all_inputs<'a>(
 }
 
 impl<'a, 'b> TextCoverage<'a, 'b> {
-    /// Nothing was taken yet of a text. These are the tables of the block as which it reads.
+    /// Returns empty coverage of a text; `block` holds the tables of the block that the text reads as.
     ///
     /// # Errors
     ///
-    /// Where there is no memory.
+    /// Out of memory.
     pub fn new(
         alloc: Global,
         text: &'b str,
@@ -82,11 +82,11 @@ impl<'a, 'b> TextCoverage<'a, 'b> {
         })
     }
 
-    /// A turn ran.
+    /// Counts a turn that ran.
     ///
     /// # Errors
     ///
-    /// Where there is no memory, where the block has no such process, or where a transition has more turns than 64 bits count.
+    /// Out of memory, the block has no such process, or a transition has more turns than 64 bits can count.
     pub fn take(&mut self, done: &Done) -> Result<(), AllocError>
         ensures { OnOk result ((ts : List Turn) → IsCovering ts self.old → IsCovering (ts ++ done.now ∷ []) self.new) }
     {
@@ -101,11 +101,11 @@ impl<'a, 'b> TextCoverage<'a, 'b> {
         }
     }
 
-    /// What turns took of a text, if it is this one, in the format of lcov. The text's file has this name there.
+    /// Returns the coverage of a text in the format of lcov; `name` is the file name of the text in it.
     ///
     /// # Errors
     ///
-    /// Where it is another text, where there is no memory, or where something was taken so often that 64 bits don't count it.
+    /// `text` is a different text, memory runs out, or a count exceeds 64 bits.
     pub fn report(&self, alloc: Global, name: &str, text: &str) -> Result<Vec<u8>, AllocError>
         ensures { IfOk result (λ v. (ts : List Turn) → IsCovering ts self.now → IsLcov name.now text.now ts v.items) }
     {

@@ -1,4 +1,4 @@
-//! What expressions of a text come to.
+//! The values of a text's expressions.
 ghost use Rattle.std.specs.Prelude.{◌≡◌, ◌≤ℤ◌, pos, unwrap_or, true, false};
 ghost use Rattle.sdl_ast.specs.Views.{tree_of};
 ghost use Rattle.sdl_tables.specs.Names.{number_of};
@@ -13,7 +13,7 @@ use sdl_sound::is_division;
 use sdl_tables::NameTable;
 use turn_code::{Connective, Division, Operation, Relation as Standing, Value, negated};
 
-/// What an operator makes of a value; none where it has another sort.
+/// The result of an operator on a value; none if the value has the wrong sort.
 fn unary(operator: UnaryOperator, value: Value) -> Option<Value>
     ensures { result ≡ made_of_one operator value }
 {
@@ -29,14 +29,14 @@ fn unary(operator: UnaryOperator, value: Value) -> Option<Value>
     }
 }
 
-/// The Integer of a number in a text.
+/// The Integer that a number in a text denotes.
 fn integer(value: u32) -> i32
     ensures { result ≡ wrap (pos value) }
 {
     value.cast_signed()
 }
 
-/// The number right of a division; 0 for all else that may stand there.
+/// The number to the right of a division; 0 for any other operand.
 fn divisor(expression: &Expression) -> i32
     ensures { result ≡ divisor_of (tree_of expression.now) }
 {
@@ -49,7 +49,7 @@ fn divisor(expression: &Expression) -> i32
     }
 }
 
-/// What a division makes of a number and a divisor.
+/// The result of a division by a divisor.
 fn quotient(operator: BinaryOperator, number: i32, divisor: i32) -> i32
     requires { pos 1 ≤ℤ divisor }
     ensures { result ≡ quotient operator number divisor }
@@ -61,7 +61,7 @@ fn quotient(operator: BinaryOperator, number: i32, divisor: i32) -> i32
     }
 }
 
-/// What a division makes of a value; none where that is no number, or the divisor isn't 1 or more.
+/// The result of dividing a value; none if it is no number or the divisor is below 1.
 fn divided(operator: BinaryOperator, left: Value, right: &Expression) -> Option<Value>
     ensures { result ≡ quotient_of operator (tree_of right.now) left }
 {
@@ -78,7 +78,7 @@ fn divided(operator: BinaryOperator, left: Value, right: &Expression) -> Option<
     }
 }
 
-/// What an operator that is no division makes of two numbers; none where it wants Booleans.
+/// The result of an operator other than division on two numbers; none if it takes Booleans.
 fn on_numbers(operator: BinaryOperator, left: i32, right: i32) -> Option<Value>
     ensures { is_division operator ≡ false → result ≡ made_of_two operator (Int left) (Int right) }
 {
@@ -103,7 +103,7 @@ fn on_numbers(operator: BinaryOperator, left: i32, right: i32) -> Option<Value>
     }
 }
 
-/// What an operator makes of two Booleans; none where it wants numbers.
+/// The result of an operator on two Booleans; none if it takes numbers.
 fn on_truths(operator: BinaryOperator, left: bool, right: bool) -> Option<Value>
     ensures { result ≡ made_of_two operator (Truth left) (Truth right) }
 {
@@ -126,7 +126,7 @@ fn on_truths(operator: BinaryOperator, left: bool, right: bool) -> Option<Value>
     }
 }
 
-/// What an operator that is no division makes of two values; none where these have other sorts.
+/// The result of an operator other than division on two values; none if they have the wrong sorts.
 fn binary(operator: BinaryOperator, left: Value, right: Value) -> Option<Value>
     ensures { is_division operator ≡ false → result ≡ made_of_two operator left right }
 {
@@ -155,7 +155,7 @@ fn held(names: &NameTable, values: &[Option<Value>], name: &Identifier) -> Optio
     }
 }
 
-/// What an expression comes to, where variables of these names have these values.
+/// The value of an expression, if variables of these names have these values.
 pub(crate) fn evaluate(
     names: &NameTable,
     values: &[Option<Value>],
@@ -191,7 +191,7 @@ pub(crate) fn evaluate(
     }
 }
 
-/// The relation of an answer.
+/// The relation that an answer states.
 fn relation_of(relation: Relation) -> Standing
     ensures { result ≡ relation_of relation }
 {
@@ -205,7 +205,7 @@ fn relation_of(relation: Relation) -> Standing
     }
 }
 
-/// The Integer that a constant is, if it is one.
+/// The Integer of a constant, if it is one.
 fn integer_in(literal: Literal) -> Option<i32>
     ensures { result ≡ integer_in literal }
 {
@@ -215,7 +215,7 @@ fn integer_in(literal: Literal) -> Option<i32>
     }
 }
 
-/// Whether a number stands so to a constant.
+/// Whether a number has this relation to a constant.
 fn stands(relation: Standing, number: i32, bound: Option<i32>) -> bool
     ensures { result ≡ unwrap_or (compared relation number bound) false }
 {
@@ -225,7 +225,7 @@ fn stands(relation: Standing, number: i32, bound: Option<i32>) -> bool
     }
 }
 
-/// Whether a number is from one constant to another, both included.
+/// Whether a number is between two constants, both included.
 fn lies(number: i32, low: Option<i32>, high: Option<i32>) -> bool
     ensures { result ≡ unwrap_or (between number low high) false }
 {
@@ -240,7 +240,7 @@ fn lies(number: i32, low: Option<i32>, high: Option<i32>) -> bool
     }
 }
 
-/// Whether a range has a number.
+/// Whether a range contains a number.
 fn has_number(range: &Range, number: i32) -> bool
     ensures { result ≡ unwrap_or (covers_integer range.now number) false }
 {
@@ -265,7 +265,7 @@ fn is_truth(literal: Literal, truth: bool) -> bool
     }
 }
 
-/// Whether a range has a truth value.
+/// Whether a range contains a truth value.
 fn has_truth(range: &Range, truth: bool) -> bool
     ensures { result ≡ unwrap_or (covers_truth range.now truth) false }
 {
@@ -276,7 +276,7 @@ fn has_truth(range: &Range, truth: bool) -> bool
     }
 }
 
-/// Whether a range has a value.
+/// Whether a range contains a value.
 fn has(range: &Range, value: Value) -> bool
     ensures { result ≡ has_value value range.now }
 {
@@ -286,7 +286,7 @@ fn has(range: &Range, value: Value) -> bool
     }
 }
 
-/// Whether an answer with these ranges is for a value.
+/// Whether an answer with these ranges applies to a value.
 pub(crate) fn answers(ranges: &[Range], value: Value) -> bool
     ensures { result ≡ is_for ranges.now value }
 {

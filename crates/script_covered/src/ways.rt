@@ -1,4 +1,4 @@
-//! The way of a turn through its text.
+//! The path of a turn through its text.
 ghost use Rattle.std.specs.Prelude.{◌≡◌, ◌++◌, List, Option as Maybe, map, slice_get, slice_set};
 ghost use Rattle.std.specs.Option.{option_map};
 ghost use Rattle.sdl_ast.specs.Plain.{falls};
@@ -17,7 +17,7 @@ use sdl_ast::{Action, Assignment, Connection, Decision, End, Identifier, Stateme
 use sdl_tables::{NameTable, ProcessTable};
 use turn_code::{Input, Value, copied_variables};
 
-/// The values of a process's variables, of those that are set.
+/// The values of a process's variables; none for a variable that isn't set.
 type Values = ArrayVec<Option<Value>, 32>;
 
 /// Where an action begins.
@@ -43,7 +43,7 @@ pub(crate) fn end_place(end: &End) -> u32
     }
 }
 
-/// A variable with a number gets a value, if there is one.
+/// Gives the variable with a number a value, if there is one.
 fn put_at(values: &mut Values, number: usize, value: Option<Value>)
     ensures { values.new.items ≡ slice_set values.old.items number value }
 {
@@ -52,7 +52,7 @@ fn put_at(values: &mut Values, number: usize, value: Option<Value>)
     }
 }
 
-/// A variable gets a value.
+/// Gives a variable a value.
 fn put(names: &NameTable, values: &mut Values, variable: &Identifier, value: Option<Value>)
     ensures { values.new.items ≡ put names.now variable.now value values.old.items }
 {
@@ -62,7 +62,7 @@ fn put(names: &NameTable, values: &mut Values, variable: &Identifier, value: Opt
     }
 }
 
-/// The assignments of a TASK are done.
+/// Does the assignments of a TASK.
 fn assign_all(names: &NameTable, values: &mut Values, assignments: &[Assignment])
     ensures { values.new.items ≡ assigned names.now (map assignment_of assignments.now) values.old.items }
 {
@@ -72,7 +72,7 @@ fn assign_all(names: &NameTable, values: &mut Values, assignments: &[Assignment]
     }
 }
 
-/// What variables are behind an action.
+/// Updates the variables for an action.
 fn act(names: &NameTable, values: &mut Values, action: &Action)
     ensures { values.new.items ≡ behind_action names.now (action_of action.now) values.old.items }
 {
@@ -94,7 +94,7 @@ fn place_of(end: &Option<End>) -> Option<u32>
     }
 }
 
-/// The end of a transition, if it has one, is come to.
+/// Counts the end of a transition, if it has one, and returns it.
 fn finish(counts: &mut Counts, end: Option<End>) -> Option<End>
     ensures { (ids : List Identifier) (vs : List (Maybe OneValue)) → IsOnWay (way_of ids (end_text end) vs) (stands result vs) counts.old counts.new }
 {
@@ -107,7 +107,7 @@ fn finish(counts: &mut Counts, end: Option<End>) -> Option<End>
     }
 }
 
-/// The answer of a DECISION for a value, or its ELSE. The end of the transition, if it has come to it.
+/// Takes the answer of a DECISION for a value, or its ELSE. Returns the end of the transition, if it is reached.
 #[cycle(walking)]
 fn choose(
     names: &NameTable,
@@ -133,7 +133,7 @@ fn choose(
     }
 }
 
-/// A DECISION is asked. The end of the transition, if it has come to it.
+/// Takes a DECISION. Returns the end of the transition, if it is reached.
 #[cycle(walking)]
 fn decide(
     names: &NameTable,
@@ -150,7 +150,7 @@ fn decide(
     }
 }
 
-/// A statement. The end of the transition, if it has come to it.
+/// Takes a statement. Returns the end of the transition, if it is reached.
 #[cycle(walking)]
 fn go_by(
     names: &NameTable,
@@ -170,7 +170,7 @@ fn go_by(
     }
 }
 
-/// A transition, or a body of a DECISION. Its end, if it has come to it.
+/// Takes a transition, or a body of a DECISION. Returns its end, if it is reached.
 #[cycle(walking)]
 fn walk(
     names: &NameTable,
@@ -206,7 +206,7 @@ fn connection_at<'a>(process: &ProcessTable<'a>, name: &Identifier) -> Option<&'
     }
 }
 
-/// The connection to which an end leads.
+/// The connection to which an end jumps.
 fn joined_at<'a>(process: &ProcessTable<'a>, end: Option<End>) -> Option<&'a Connection>
     ensures { option_map (λ k. connection_of k.now) result ≡ joined_at (process_of process.now) end }
 {
@@ -230,7 +230,7 @@ fn parameter_at(parameters: &[Value], number: usize) -> Option<Value>
     }
 }
 
-/// The parameters of an input go to variables.
+/// Stores the parameters of an input in variables.
 fn take_parameters(
     names: &NameTable,
     values: &mut Values,
@@ -247,7 +247,7 @@ fn take_parameters(
     }
 }
 
-/// A turn goes through a transition, and through those that it joins, so many at most.
+/// Takes a transition, and the connections that it joins, at most `joins` of them.
 fn go(
     process: &ProcessTable<'_>,
     values: &mut Values,
@@ -268,7 +268,7 @@ fn go(
     }
 }
 
-/// What a turn takes behind its START or INPUT, with the places of its signal where it has one.
+/// Counts what a turn takes after its START or INPUT; `places` are the places of its signal, if it has one.
 pub(crate) fn pass(
     process: &ProcessTable<'_>,
     counts: &mut Counts,

@@ -1,4 +1,4 @@
--- The lines so far.
+-- The lines written so far.
 use Rattle.std.proofs.Common.{ℕ, List, take}
 use Rattle.std.specs.Prelude.{slice_index}
 use Rattle.std.specs.List.{flat_map}

@@ -1,4 +1,4 @@
--- What was seen so far.
+-- The marks seen so far.
 use Rattle.std.proofs.Common.{ℕ, List, take, ◌+◌, length}
 use Rattle.std.specs.Prelude.{slice_index}
 use Rattle.script_covered.specs.Lcov.{AreLines, line_at}

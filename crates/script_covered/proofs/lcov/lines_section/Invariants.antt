@@ -1,4 +1,4 @@
--- The lines so far.
+-- The lines written so far.
 use Rattle.std.proofs.Common.{take}
 use Rattle.std.specs.Prelude.{option_to_list}
 use Rattle.std.specs.List.{flat_map}

@@ -1,4 +1,4 @@
--- The numbers so far.
+-- The line numbers found so far.
 use Rattle.std.proofs.Common.{◌≡◌}
 use Rattle.script_covered.specs.Lcov.{line_at}
 use Rattle.script_covered.proofs.Printing.{AreSo}

@@ -1,4 +1,4 @@
--- What stands in what is gone, and in what is left.
+-- The marks of the part already walked, and those of the rest.
 use Rattle.std.proofs.Common.{◌≡◌, ◌++◌, drop}
 use Rattle.sdl_ast.specs.declared.tree.Decision.{out-Decision}
 use Rattle.sdl_ast.specs.Views.{text_of, choice_of, statements_before, answers_before, else_choice, end_text}

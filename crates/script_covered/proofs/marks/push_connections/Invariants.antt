@@ -1,4 +1,4 @@
--- Those so far, and those to come.
+-- The marks pushed so far, and those still to push.
 use Rattle.std.proofs.Common.{◌≡◌, ◌++◌, drop, map}
 use Rattle.std.specs.List.{flat_map}
 use Rattle.sdl_ast.specs.Views.{connection_of}

@@ -1,4 +1,4 @@
--- Those so far, and those to come.
+-- The rows pushed so far, and those still to push.
 use Rattle.std.proofs.Common.{◌≡◌, ◌++◌, drop, map}
 use Rattle.sdl_ast.specs.Views.{process_of}
 use Rattle.sdl_tables.specs.Rows.{rows_inputs}

@@ -1,4 +1,4 @@
--- Those so far.
+-- The inputs collected so far.
 use Rattle.std.proofs.Common.{◌≡◌, take, map}
 use Rattle.sdl_ast.specs.Views.{process_of}
 use Rattle.sdl_tables.specs.Names.{inputs_by_state}

@@ -1,4 +1,4 @@
--- What of the way was gone, and what is left of it.
+-- The part of the path already walked, and the rest of it.
 use Rattle.std.proofs.Common.{drop}
 use Rattle.sdl_ast.specs.declared.tree.Decision.{out-Decision}
 use Rattle.sdl_ast.specs.Views.{text_of, choice_of, statements_before, answers_before, else_choice, end_text}

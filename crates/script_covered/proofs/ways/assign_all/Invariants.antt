@@ -1,4 +1,4 @@
--- The assignments so far, and those to come.
+-- The assignments done so far, and those still to do.
 use Rattle.std.proofs.Common.{◌≡◌, drop, map}
 use Rattle.sdl_ast.specs.Views.{assignment_of}
 use Rattle.script_covered.specs.Ways.{assigned}

@@ -1,4 +1,4 @@
--- The places so far, and those to come.
+-- The parameters taken so far, and those still to take.
 use Rattle.std.proofs.Common.{◌≡◌, drop}
 use Rattle.script_covered.specs.Ways.{taken_in}
 use Rattle.script_covered.proofs.ways.take_parameters.Given as goal
