@@ -1,4 +1,4 @@
--- What was accepted, and what is retrieved with the number that was accepted last, is what the sender took.
+-- The messages accepted, and then those retrieved with the number accepted last, are those that the sender took.
 use Rattle.std.proofs.Common.{◌≡◌, ℕ, ◌+◌, ◌-◌, ◌≤◌, true, List, [], ◌∷◌, ◌++◌, take, drop, refl, ap, sym, ◌∙◌, subst, arith}
 use Rattle.std.specs.Prelude.{Some}
 use Rattle.std.proofs.lemmas.List.{drop-drop, take-append-drop}
@@ -57,7 +57,7 @@ stays x (is_lost ∷ es) h = stays (exchange_step x is_lost) es h ∙ lost-recei
 stays x (comes_back ∷ es) h = stays (exchange_step x comes_back) es h ∙ back-receiver x x.back
 stays x (is_lost_back ∷ es) h = stays (exchange_step x is_lost_back) es h ∙ lost_back-receiver x x.back
 
--- ---- both
+-- ---- both laws
 
 module _ (limits : RoundLimits) (mode : Mode) (waiting : List Msu) (events later : List Event) (none : none_arrives later ≡ true) where
   abbrev told : Exchange

@@ -1,4 +1,4 @@
--- What a receiver accepts is a beginning of what the sender took.
+-- The messages that a receiver accepts are a prefix of those that the sender took.
 use Rattle.std.proofs.Common.{◌≡◌, ℕ, ◌+◌, ◌-◌, ◌%◌, ◌<◌, ◌≤◌, zero, suc, ◌==◌, Bool, true, false, if◌then◌else◌, max, List, [], ◌∷◌, ◌++◌, length, take, drop, refl, ap, sym, ◌∙◌, subst, arith}
 use Rattle.std.specs.Prelude.{Option, None, slice_get, is_some}
 use Rattle.std.specs.Option.{option_to_list}
@@ -19,8 +19,8 @@ use Rattle.resend_store.proofs.Stands.{slice_get_drop}
 use Rattle.resend_store.proofs.InTurn.{taken, passed, hear_is}
 use Rattle.std.proofs.lemmas.Bool.{le-leb as le_test}
 
--- The units under way, where s of the messages were sent and the receiver wants the message d next. None of them carries a
--- message so old that its number could be taken for a later one's, also once those before it have been accepted.
+-- The units under way, if s messages were sent and the receiver expects message d. None of them carries a message so
+-- old that its number could be taken for that of a later one, even after the messages before it are accepted.
 pub data Flight (ms : List Msu) (s : ℕ) : ℕ → List Outgoing → Type 0 where
   none_left : {d : ℕ} → Flight ms s d []
   idle : {d : ℕ} {u : Outgoing} {us : List Outgoing} → u.msu ≡ None → Flight ms s d us → Flight ms s d (u ∷ us)
@@ -81,7 +81,7 @@ backs_push : (a d : ℕ) (bs : List Answer) (b : Answer) → plus b.bsn 1 ≡ d 
 backs_push a d [] b e (none_back le) = one_back d le e (none_back (omega arith))
 backs_push a d (x ∷ bs) b e (one_back k le same rest) = one_back k le same (backs_push k d bs b e rest)
 
--- what holds at each moment: a messages are acknowledged, d accepted
+-- the invariant: a messages are acknowledged, d accepted
 pub record Sound (x : Exchange) : Type 0 where
   pub a : ℕ
   pub d : ℕ
@@ -174,7 +174,7 @@ the_wanted a d i s fsn last le below narrow near e f g =
 next_number : (fsn i last : ℕ) → last ≡ fsn → fsn ≡ i % 128 → plus last 1 ≡ (i + 1) % 128
 next_number fsn i last e f = omega arith
 
--- what is left of a flight once its first has arrived or is lost
+-- the rest of a flight after its first unit has arrived or is lost
 rest_of_flight : (ms : List Msu) (s d : ℕ) (u : Outgoing) (us : List Outgoing) → Flight ms s d (u ∷ us) → Flight ms s d us
 rest_of_flight ms s d u us (idle none rest) = rest
 rest_of_flight ms s d u us (loaded i sent near msu fsn rest) = flight_down ms s (max d (i + 1)) d us (omega arith) rest

@@ -1,4 +1,4 @@
--- What a call to send does to the messages that wait: it gives out the first of them for the first time, or leaves them.
+-- A call to send and the waiting messages: it sends the first of them for the first time, or leaves them.
 use Rattle.std.proofs.Common.{◌≡◌, ℕ, ◌+◌, ◌<◌, Bool, true, false, if◌then◌else◌, List, length, nat_lt, refl}
 use Rattle.std.specs.Prelude.{slice_get}
 use Rattle.resend_store.specs.declared.messages.Mode.{Mode}
@@ -9,7 +9,7 @@ use Rattle.resend_store.specs.Window.{Window, Sending, may_send, at_limit, round
 use Rattle.resend_store.proofs.WindowTests.{may_waits as may_send_waits}
 use Rattle.plain_laws.proofs.Truths.{by_test}
 
--- of a window with these messages, of which so many are sent, the first with that number
+-- the result for a window with these messages, so many of them sent, the first with this number
 pub data NextIs (kept : List Msu) (sent first : ℕ) (s : Sending) : Type 0 where
   again : s.left.kept ≡ kept → s.left.sent ≡ sent → s.left.first ≡ first → NextIs kept sent first s
   new : sent < length kept → s.unit.msu ≡ slice_get kept sent → s.unit.fsn ≡ plus first sent → s.left.kept ≡ kept → s.left.sent ≡ sent + 1 → s.left.first ≡ first → NextIs kept sent first s

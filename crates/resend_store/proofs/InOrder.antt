@@ -13,7 +13,7 @@ use Rattle.resend_store.specs.Runs.{Call, put, put_diverted, next_unit, on_back,
 use Rattle.resend_store.proofs.Given.{again, new, SameNumbers, next_is}
 use Rattle.std.proofs.lemmas.Bool.{cases_Bool as true_or_false, leb-true as test_of}
 
--- what one call does
+-- the effect of one call
 data StepIs (w : Window) (call : Call) : Type 0 where
   keeps : newly_given w call ≡ [] → waiting (step w call) ≡ waiting w ++ brought w call → plus (step w call).first (step w call).sent ≡ plus w.first w.sent → StepIs w call
   sends : (u : Outgoing) (m : Msu) → newly_given w call ≡ u ∷ [] → brought w call ≡ [] → waiting w ≡ m ∷ waiting (step w call) → u.msu ≡ Some m → u.fsn ≡ plus w.first w.sent → plus (step w call).first (step w call).sent ≡ plus (plus w.first w.sent) 1 → StepIs w call
@@ -62,9 +62,9 @@ first_sends w call calls n u m given none held msu fsn rest = record {
   numbers = numbers_sent (newly_given w call) (all_given (step w call) calls) u n given fsn rest.numbers;
 }
 
--- ---- what each call does
+-- ---- the effect of each call
 
--- a call that gives out nothing new
+-- a call that sends no new message
 quiet : (w : Window) (call : Call) (v : Window) (b : List Msu) → step w call ≡ v → brought w call ≡ b → newly_given w call ≡ []
     → waiting v ≡ waiting w ++ b → plus v.first v.sent ≡ plus w.first w.sent → v.sent ≤ length v.kept → Stepped w call
 quiet w call v b to brings given held number fits = record {
@@ -89,7 +89,7 @@ put_is w m fits = elim (true_or_false (is_accepted w (put m))) [ inl met ↦ tak
 diverted_is : (w : Window) (m : Msu) → w.sent ≤ length w.kept → Stepped w (put_diverted m)
 diverted_is w m fits = elim (true_or_false (is_accepted w (put_diverted m))) [ inl met ↦ taken w (put_diverted m) m met refl refl refl fits | inr unmet ↦ refused w (put_diverted m) unmet refl fits ]
 
--- an element and what comes after it
+-- an element and the elements after it
 record At (n : ℕ) (ms : List Msu) : Type 0 where
   pub m : Msu
   pub here : slice_get ms n ≡ Some m
@@ -138,7 +138,7 @@ next_steps w fits = elim (next_is w) [
       }
 ]
 
--- what a backward bit asks for doesn't change what is kept
+-- a request by a backward bit doesn't change the kept messages
 asked_by : (b : Bool) (w v : Window) → SameNumbers v w → SameNumbers (if b then w else v) w
 asked_by true w v same = record { kept = refl; sent = refl; first = refl }
 asked_by false w v same = same

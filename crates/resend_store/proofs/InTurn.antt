@@ -10,7 +10,7 @@ use Rattle.resend_store.specs.Hearings.{Heard, hear_unit, is_accept, accepted_un
 use Rattle.std.proofs.lemmas.Bool.{and_parts as both}
 use Rattle.plain_laws.proofs.Truths.{by_test}
 
--- what one unit does, where the last number accepted was this
+-- the effect of one unit after this last accepted number
 pub data HearIs (last fsn : ℕ) (has_msu : Bool) (s : Hearing) : Type 0 where
   taken : is_accept s.verdict ≡ true → has_msu ≡ true → fsn ≡ plus last 1 → s.known.last ≡ fsn → HearIs last fsn has_msu s
   passed : is_accept s.verdict ≡ false → s.known.last ≡ last → HearIs last fsn has_msu s

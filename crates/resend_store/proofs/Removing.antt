@@ -1,4 +1,4 @@
--- A message that waits is taken out.
+-- Removal of a waiting message.
 use Rattle.std.proofs.Common.{◌≡◌, ℕ, ◌+◌, ◌<◌, ◌≤◌, suc, true, false, List, ◌++◌, length, take, drop, ap, ◌∙◌, arith}
 use Rattle.std.specs.Prelude.{Option, Some, None, IsSome, OnSome, All}
 use Rattle.std.proofs.lemmas.List.{length-drop, length-take, length-append, take-take, take-append-le}

@@ -12,14 +12,14 @@ use Rattle.resend_store.proofs.WindowTests.{may_waits, limit_sent}
 use Rattle.std.proofs.lemmas.Bool.{ltb-true}
 use Rattle.plain_laws.proofs.Truths.{by_test}
 
--- the places in a window
+-- the bounds of the fields of a window
 pub record Fine (w : Window) : Type 0 where
   pub fits : w.sent ≤ length w.kept
   pub narrow : w.sent ≤ 127
   pub again : w.again ≤ w.sent
   pub turn : w.turn ≤ w.sent - 1
 
--- of a window with these messages, the first with that number, so many of them sent
+-- a unit sent from a window with these messages, the first with this number, so many of them sent
 pub data UnitIs (kept : List Msu) (first sent : ℕ) (u : Outgoing) : Type 0 where
   fills : u.msu ≡ None → UnitIs kept first sent u
   carries : (i : ℕ) → i < sent → u.msu ≡ slice_get kept i → u.fsn ≡ plus first i → UnitIs kept first sent u
@@ -62,7 +62,7 @@ cycles_fine w f some =
 round_fine : (w : Window) → Fine w → Fine (round w)
 round_fine w f = record { fits = f.fits; narrow = f.narrow; turn = f.turn; again = omega arith }
 
--- a window in place of another after a new message
+-- a window that replaces another after a new message
 pub record SameFine (v w : Window) : Type 0 where
   pub kept : v.kept ≡ w.kept
   pub first : v.first ≡ w.first

@@ -1,4 +1,4 @@
--- What is kept tells all that the window over all messages does.
+-- The kept window determines all results of the window over all messages.
 use Rattle.std.proofs.Common.{◌≡◌, ℕ, ◌+◌, ◌-◌, ◌%◌, ◌<◌, ◌≤◌, zero, suc, ◌==◌, Bool, true, false, if◌then◌else◌, nat_lt, nat_le, List, [], ◌∷◌, ◌++◌, length, take, drop, refl, ap, sym, ◌∙◌, subst, arith, zero-add}
 use Rattle.std.specs.Prelude.{Option, Some, None, slice_get}
 use Rattle.std.proofs.lemmas.List.{drop-drop, drop-append-le, length-drop, length-take, length_push, drop-take, drop_all}
@@ -37,7 +37,7 @@ same_unit a b m n x y e f g = rw (e, f, g) refl
 number_sum : (first a o i : ℕ) → o ≤ a → first ≡ (a - o) % 128 → plus first i ≡ (a + i - o) % 128
 number_sum first a o i h e = omega arith
 
--- the same place has the same number
+-- a message has the same number in both windows
 number_alike : (h : Whole) (w : Window) (i j : ℕ) → StandsFor h w → h.acknowledged + i ≡ j → number_at w i ≡ number_of h j
 number_alike h w i j st e =
     number_sum w.first h.acknowledged h.origin i st.origin st.first ∙ ap (λ (k : ℕ). number_of h k) e
@@ -327,7 +327,7 @@ refreshed_alike h w st =
     let sent = st.sent in let inside = st.inside in
     record { mode = st.mode; limits = st.limits; kept = st.kept; sent = omega arith; first = omega arith; fib = refl; again = omega arith; forced = refl; turn = omega arith; origin = omega arith; inside = omega arith; repeats = omega arith; idle = λ m f. refl }
 
--- ---- both answer alike, and go on alike
+-- ---- both return the same results, before and after each call
 
 width_alike : (h : Whole) (w : Window) → StandsFor h w → w.sent ≡ h.sent - h.acknowledged
 width_alike h w st = let sent = st.sent in omega arith

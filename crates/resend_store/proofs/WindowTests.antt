@@ -1,4 +1,4 @@
--- What the tests of a window tell.
+-- The meaning of the tests of a window.
 use Rattle.std.proofs.Common.{◌≡◌, ℕ, ◌<◌, zero, suc, ◌==◌, ◌&&◌, nat_lt, Bool, true, false, List, length, take, refl, arith}
 use Rattle.std.proofs.lemmas.Bool.Decides.{nat_tests}
 use Rattle.resend_store.specs.declared.messages.Msu.{Msu}
@@ -6,16 +6,16 @@ use Rattle.resend_store.specs.declared.messages.RoundLimits.{RoundLimits}
 use Rattle.resend_store.specs.Messages.{reaches_limit}
 use Rattle.resend_store.specs.Window.{Window, may_send}
 
--- a new message goes out where one waits
+-- a new message may go out only if one waits
 pub may_waits : (w : Window) → may_send w ≡ true → w.sent < length w.kept
 may_waits w h = grind (arith, nat_tests)
 
--- a limit is reached by what is sent
+-- a limit is reached only if a message is sent
 pub limit_sent : (limits : RoundLimits) (n : ℕ) (ms : List Msu) → reaches_limit limits (take n ms) ≡ true → 0 < n
 limit_sent limits zero ms h = absurd (cc)
 limit_sent limits (suc n) ms h = omega arith
 
--- ---- tests that tell alike
+-- ---- equivalent tests have equal results
 
 lt_alike : (b c : Bool) (m n i j : ℕ) → nat_lt m n ≡ b → nat_lt i j ≡ c → (m < n → i < j) → (i < j → m < n) → b ≡ c
 lt_alike true true m n i j e f h k = refl

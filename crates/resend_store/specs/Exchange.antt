@@ -1,5 +1,5 @@
--- One direction of a link: a sender, a receiver, and a line each way, which may lose units and
--- delay them, and never changes their order.
+-- One direction of a link: a sender, a receiver, and a line each way. The lines may lose units and
+-- delay them, but never change their order.
 use Rattle.std.specs.Prelude.{◌≡◌, ℕ, ◌≤◌, ◌&&◌, not, Bool, true, false, if◌then◌else◌, Some, List}
 use Rattle.std.specs.Prelude.{[], ◌∷◌, ◌++◌, is_some}
 use Rattle.std.specs.Option.{option_to_list}
@@ -12,7 +12,7 @@ use Rattle.resend_store.specs.Intake.{Intake, first_intake, hear}
 use Rattle.resend_store.specs.Runs.{put, put_diverted, on_back, step, brought}
 use Rattle.resend_store.specs.Hearings.{is_accept}
 
--- what a unit brings back: the number of the message accepted last, and the bit
+-- the backward part of a unit: the number of the message accepted last, and the bit
 pub record Answer : Type 0 where
   pub bsn : ℕ
   pub bib : ℕ
@@ -20,7 +20,7 @@ pub record Answer : Type 0 where
 pub record Exchange : Type 0 where
   pub sender : Window
   pub receiver : Intake
-  -- under way to the receiver, and back, what arrives first at the front
+  -- under way to the receiver, and back; the next to arrive comes first
   pub forth : List Outgoing
   pub back : List Answer
   -- the messages that the sender took, and those that the receiver accepted, in order
@@ -28,20 +28,20 @@ pub record Exchange : Type 0 where
   pub delivered : List Msu
 
 pub data Event : Type 0 where
-  -- the sender is given a message, or one that another link left behind
+  -- the sender takes a message, or one retrieved from another link
   gets : Msu → Event
   gets_diverted : Msu → Event
-  -- the sender sends a unit; the receiver answers
+  -- the sender sends a unit; the receiver sends an answer
   sends : Event
   answers : Event
   -- the first unit under way arrives, or is lost
   arrives : Event
   is_lost : Event
-  -- the same on the way back
+  -- the first answer under way arrives, or is lost
   comes_back : Event
   is_lost_back : Event
 
--- both begin anew, and these messages wait
+-- both sides start over while these messages wait
 abbrev pub exchange_anew : RoundLimits → Mode → List Msu → Exchange
 exchange_anew limits mode messages =
     record {
@@ -103,8 +103,8 @@ abbrev pub exchange_after : Exchange → List Event → Exchange
 exchange_after x [] = x
 exchange_after x (e ∷ es) = exchange_after (exchange_step x e) es
 
--- Whatever happens, what was accepted is a beginning of what the sender took: nothing is lost
--- between, nothing comes twice, and the order stays.
+-- Whatever happens, the accepted messages are a prefix of those that the sender took: none in
+-- between is lost, none is accepted twice, and the order stays.
 abbrev pub DeliversInOrder : Type 0
 DeliversInOrder = (limits : RoundLimits) (mode : Mode) (events : List Event) →
     let x = exchange_after (exchange_start limits mode) events in
@@ -115,16 +115,16 @@ abbrev pub is_arrival : Event → Bool
 is_arrival arrives = true
 is_arrival _ = false
 
--- None does, so nothing is accepted. A receiver whose link level 3 holds discards what comes, as if
--- it were lost.
+-- No unit arrives, so nothing is accepted. A receiver on a link that level 3 holds discards units
+-- as if they were lost.
 abbrev pub none_arrives : List Event → Bool
 none_arrives [] = true
 none_arrives (e ∷ es) = not (is_arrival e) && none_arrives es
 
--- Both began anew while some messages waited. Then the number that was accepted last is told, and
--- nothing is accepted any more, however long that number is under way and whatever else happens.
--- What was accepted, and then what is retrieved with that number, is what the sender took: nothing
--- is lost and nothing comes twice, and the order stays. That number is never refused as one that
+-- Both sides start over while some messages wait. Later the number that was accepted last is
+-- reported, and nothing more is accepted, however long the report takes and whatever else happens.
+-- The messages accepted, and then those retrieved with that number, are those that the sender took:
+-- none is lost, none is doubled, and the order stays. That number is never refused as one that
 -- acknowledges more than was sent.
 pub record RetrievalCompletes : Type 0 where
   pub taken : (limits : RoundLimits) (mode : Mode) (waiting : List Msu) (events later : List Event)

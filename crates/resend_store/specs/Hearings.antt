@@ -1,4 +1,4 @@
--- Whole runs of a receiver: which units it accepts over a list of them.
+-- Whole runs of a receiver: the units that it accepts out of a list.
 use Rattle.std.specs.Prelude.{◌≡◌, ℕ, Bool, true, false, if◌then◌else◌, List, [], ◌∷◌, ◌++◌, length}
 use Rattle.std.specs.Prelude.{map, Result, Ok, Err}
 use Rattle.resend_store.specs.declared.messages.Mode.{Mode}
@@ -9,7 +9,7 @@ use Rattle.resend_store.specs.Numbers.{plus}
 use Rattle.resend_store.specs.Intake.{Intake, Hearing, first_intake, hear}
 use Rattle.resend_store.specs.Runs.{counted}
 
--- a unit as a receiver hears it
+-- the parts of a unit that a receiver uses
 pub record Heard : Type 0 where
   pub fsn : ℕ
   pub fib : ℕ
@@ -24,16 +24,16 @@ is_accept (Ok Discard) = false
 is_accept (Ok Nack) = false
 is_accept (Err fault) = false
 
--- those of the units that are accepted, in order
+-- the accepted units of a list, in order
 abbrev pub accepted_units : Intake → List Heard → List Heard
 accepted_units r [] = []
 accepted_units r (u ∷ us) =
     (if is_accept (hear_unit r u).verdict then u ∷ []
     else []) ++ accepted_units (hear_unit r u).known us
 
--- Over every list of units, with whatever numbers and bits: those that are accepted carry messages,
--- and their numbers rise by one modulo 128, from one after the last accepted, which is 0 after
--- `new` and `fresh`.
+-- Over every list of units, with any numbers and bits, the accepted ones carry messages. Their
+-- numbers rise by one modulo 128, from one after the last accepted, which is 0 after `new` and
+-- `fresh`.
 pub record AcceptsInTurn : Type 0 where
   pub numbers :
       (r : Intake) (us : List Heard)

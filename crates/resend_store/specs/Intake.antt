@@ -1,4 +1,4 @@
--- What a receiver knows of the far side's messages, and what a further unit makes of it (Q.703:
+-- What a receiver knows of the far side's messages, and the effect of a further unit (Q.703:
 -- acceptance of message signal units, positive and negative acknowledgement).
 use Rattle.std.specs.Prelude.{ℕ, ◌-◌, ◌<◌, ◌==◌, ◌&&◌, Bool, true, false, if◌then◌else◌, Result, Ok}
 use Rattle.std.specs.Prelude.{Err}
@@ -14,12 +14,12 @@ pub record Intake : Type 0 where
   pub mode : Mode
   -- the forward sequence number that was accepted last
   pub last : ℕ
-  -- the backward indicator bit that goes out
+  -- the backward indicator bit to send
   pub bib : ℕ
-  -- whether a negative acknowledgement is out: asked for, and the far side hasn't begun to repeat
+  -- whether a negative acknowledgement is out and the far side hasn't begun to repeat
   pub nack_out : Bool
 
--- what holds of each
+-- the invariant of an intake
 pub record IsIntake (r : Intake) : Type 0 where
   pub number : r.last < 128
   pub indicator : r.bib < 2
@@ -28,16 +28,16 @@ pub record IsIntake (r : Intake) : Type 0 where
 abbrev pub first_intake : Mode → Intake
 first_intake mode = record { mode = mode; last = 127; bib = 1; nack_out = false }
 
--- What a unit's head gives: the verdict or the refusal, and what is known then.
+-- The result of a unit's head: the verdict or the refusal, and the intake after it.
 pub record Hearing : Type 0 where
   pub verdict : Result Verdict UnitError
   pub known : Intake
 
--- the message in turn
+-- the next message in turn is accepted
 abbrev pub accepts : Intake → Hearing
 accepts r = record { verdict = Ok Accept; known = record r { last = plus r.last 1 } }
 
--- nothing of use
+-- the unit is discarded
 abbrev pub discards : Intake → Hearing
 discards r = record { verdict = Ok Discard; known = r }
 
@@ -49,14 +49,14 @@ refuses r = record { verdict = Ok Nack; known = record r { bib = 1 - r.bib; nack
 abbrev pub is_in_turn : Intake → ℕ → Bool → Bool
 is_in_turn r fsn has_msu = has_msu && (fsn == plus r.last 1)
 
--- A unit whose forward indicator agrees with the backward one that goes out.
+-- A unit whose forward indicator agrees with the backward indicator to send.
 abbrev pub hear_agreeing : Intake → ℕ → Bool → Hearing
 hear_agreeing r fsn has_msu =
     if is_in_turn r fsn has_msu then accepts r
     else (if fsn == r.last then discards r else refuses r)
 
 -- A unit whose forward indicator doesn't agree: expected while a negative acknowledgement is out,
--- else a fault.
+-- otherwise a fault.
 abbrev pub hear_unlike : Intake → Hearing
 hear_unlike r =
     if r.nack_out then discards r else record { verdict = Err BadIndicator; known = r }
@@ -67,13 +67,13 @@ hear_by Basic r fsn fib has_msu =
     else hear_unlike r
 hear_by Cyclic r fsn fib has_msu = if is_in_turn r fsn has_msu then accepts r else discards r
 
--- What a unit gives while no message is to be accepted: it is judged as ever, by its forward
--- indicator, and then discarded. What is known stays: the number accepted last, the indicator that
--- goes out, and what is asked for.
+-- The result of a unit while no message may be accepted. It is judged by its forward indicator as
+-- always, and then discarded. The number accepted last, the indicator to send and the outstanding
+-- request stay.
 abbrev pub hear_aside : Mode → Intake → ℕ → Hearing
 hear_aside Basic r fib = if fib == r.bib then discards r else hear_unlike r
 hear_aside Cyclic r fib = discards r
 
--- What a unit gives.
+-- The result of a unit.
 abbrev pub hear : Intake → ℕ → ℕ → Bool → Hearing
 hear r fsn fib has_msu = hear_by r.mode r fsn fib has_msu

@@ -1,4 +1,4 @@
--- The names of what is measured of a signalling link (ITU-T Q.752), in the order in which they are
+-- The names of the measurements of a signalling link (ITU-T Q.752), in the order in which they are
 -- printed.
 use Rattle.std.specs.Prelude.{ℕ, List, [], ◌∷◌, Option, option_and_then, slice_get, position, codes}
 use Rattle.std.specs.Str.{bytes_eq}
@@ -47,7 +47,7 @@ all_measures =
     ∷ measure.Busy ∷ measure.BusyTime ∷ measure.FarBusy ∷ measure.FarBusyTime
     ∷ measure.RoundsByNumber ∷ measure.RoundsByOctets ∷ []
 
--- the one with a name
+-- the measurement with a name
 abbrev pub measure_named : List ℕ → Option Measure
 measure_named word =
     option_and_then (slice_get all_measures)

@@ -17,18 +17,18 @@ octets_of m = length m.sif.items + 1
 abbrev pub octets : List Msu → ℕ
 octets ms = sum_by octets_of ms
 
--- where nothing else is chosen
+-- the default limits
 abbrev pub usual_limits : RoundLimits
 usual_limits = record { messages = N1; octets = N2 }
 
--- those that may be chosen: 1 to 127 messages, and 300 to 8,192 octets
+-- the limits that may be chosen: 1 to 127 messages, and 300 to 8,192 octets
 abbrev pub chosen_limits : ℕ → ℕ → Option RoundLimits
 chosen_limits messages octets =
     if (nat_le 1 messages && nat_le messages N1) && (nat_le LEAST_N2 octets && nat_le octets N2)
     then Some (record { messages = messages; octets = octets }) else None
 
--- whether so many messages, or so many octets of them, are unacknowledged that they have to go
--- again; never where there is none
+-- whether so many messages, or octets of them, are unacknowledged that they must go out again;
+-- never if there are none
 abbrev pub reaches_limit : RoundLimits → List Msu → Bool
 reaches_limit limits ms =
     nat_lt 0 (length ms)

@@ -1,4 +1,4 @@
--- Why a store refuses a call, as it is printed: a code and its name.
+-- The printed text of refusals: a code and its name.
 use Rattle.std.specs.Prelude.{ℕ, List, codes}
 use Rattle.resend_store.specs.declared.refusals.PutError.{PutError}
 use Rattle.resend_store.specs.declared.refusals.PutError.TheVariants as put

@@ -1,4 +1,4 @@
--- What the fields of a sender stand for.
+-- The window that the fields of a sender represent.
 use Rattle.resend_store.specs.declared.sending.Sender.TheInside.{Inside}
 use Rattle.resend_store.specs.Window.{Window, IsWindow}
 

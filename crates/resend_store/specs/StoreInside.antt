@@ -1,4 +1,4 @@
--- What the fields of a store stand for, and keep.
+-- What the fields of a store represent, and their invariant.
 use Rattle.std.specs.Prelude.{◌≡◌, ◌≤◌, length, take, All}
 use Rattle.std.specs.VecDeque.{deque_capacity}
 use Rattle.resend_store.specs.declared.store.Store.TheInside.{Inside}

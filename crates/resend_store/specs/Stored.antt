@@ -1,4 +1,4 @@
--- The queue of a sender: messages, oldest first, of which the first are sent.
+-- The queue of a sender: messages, oldest first, the first `sent` of them sent.
 use Rattle.std.specs.Prelude.{ℕ, List}
 use Rattle.resend_store.specs.declared.messages.Msu.{Msu}
 

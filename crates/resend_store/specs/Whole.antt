@@ -1,5 +1,5 @@
--- The window of a sender over all messages that it was ever given, acknowledged ones too, and for
--- which of them a kept window stands.
+-- The window of a sender over all messages ever given to it, acknowledged ones too, and the kept
+-- windows that represent it.
 use Rattle.std.specs.Prelude.{◌≡◌, ℕ, ◌+◌, ◌-◌, ◌%◌, ◌≤◌, ◌==◌, ◌&&◌, nat_lt, nat_le, max, Bool}
 use Rattle.std.specs.Prelude.{true, false, if◌then◌else◌, List, [], ◌∷◌, ◌++◌, length, take, drop}
 use Rattle.std.specs.Prelude.{Option, Some, None, slice_get}
@@ -15,12 +15,12 @@ use Rattle.resend_store.specs.Window.{Window, start_within, next, count_by, retr
 use Rattle.resend_store.specs.Runs.{Call, put, put_diverted, next_unit, on_back, retrieve, fresh}
 use Rattle.resend_store.specs.Runs.{is_accepted, step, after}
 
--- Places are places in the list of all messages, so none of them ever changes its place.
+-- Places are indices in the list of all messages, so no message ever changes its place.
 pub record Whole : Type 0 where
   pub mode : Mode
-  -- with how many unacknowledged ones cyclic retransmission is forced
+  -- the numbers of unacknowledged messages and octets that force cyclic retransmission
   pub limits : RoundLimits
-  -- all messages put, oldest first, but for those that were handed back
+  -- all messages put, oldest first, except those that were handed back
   pub messages : List Msu
   -- the place of the number 0
   pub origin : ℕ
@@ -30,23 +30,23 @@ pub record Whole : Type 0 where
   pub sent : ℕ
   -- the forward indicator bit
   pub fib : ℕ
-  -- the place to repeat from; that of the first message not sent where no retransmission is under
-  -- way
+  -- the place to repeat from; if no retransmission is under way, the place of the first message not
+  -- sent
   pub repeat_from : ℕ
   -- whether that retransmission is a round of forced retransmission
   pub forced : Bool
-  -- the place where the ordinary cycle goes on
+  -- the place at which the ordinary cycle continues
   pub turn : ℕ
 
 -- the forward sequence number of the message at a place
 abbrev pub number_of : Whole → ℕ → ℕ
 number_of h i = (i - h.origin) % 128
 
--- sent and not acknowledged
+-- the messages sent and not acknowledged
 abbrev pub in_window : Whole → List Msu
 in_window h = drop h.acknowledged (take h.sent h.messages)
 
--- nothing put yet
+-- no message put yet
 abbrev pub whole_start : RoundLimits → Mode → Whole
 whole_start limits mode =
     record {
@@ -62,7 +62,7 @@ whole_start limits mode =
       turn = 0;
     }
 
--- What a call to send gives, and leaves.
+-- The result of a call to send: the unit, and the window after it.
 pub record WholeSending : Type 0 where
   pub unit : Outgoing
   pub left : Whole
@@ -71,7 +71,7 @@ pub record WholeSending : Type 0 where
 abbrev pub carries : Whole → ℕ → Outgoing
 carries h i = record { fsn = number_of h i; fib = h.fib; msu = slice_get h.messages i }
 
--- nothing to send: the number before that of the next new message
+-- no message to send: the number is that before the next new message
 abbrev pub fills_in : Whole → WholeSending
 fills_in h =
     record {
@@ -79,12 +79,12 @@ fills_in h =
       left = h;
     }
 
--- the next one to repeat
+-- the retransmission sends its next message
 abbrev pub goes_again : Whole → WholeSending
 goes_again h =
     record { unit = carries h h.repeat_from; left = record h { repeat_from = h.repeat_from + 1 } }
 
--- everything unacknowledged is to be forced out again
+-- a forced round of all unacknowledged messages begins
 abbrev pub forces : Whole → Whole
 forces h = record h { repeat_from = h.acknowledged; forced = true }
 
@@ -99,7 +99,7 @@ goes_out h = record {
   left = forces_by h.mode (record h { sent = h.sent + 1; repeat_from = h.sent + 1 });
 }
 
--- the ordinary cycle sends its next one; after the last comes the first
+-- the ordinary cycle sends its next message; the first follows the last
 abbrev pub goes_in_turn : Whole → WholeSending
 goes_in_turn h = record {
   unit = carries h h.turn;
@@ -131,7 +131,7 @@ abbrev pub whole_next_by : Mode → Whole → WholeSending
 whole_next_by Basic h = whole_next_basic h
 whole_next_by Cyclic h = if h.forced then whole_next_forced h else whole_next_ordinary h
 
--- what goes out next
+-- the next unit to send
 abbrev pub whole_next : Whole → WholeSending
 whole_next h = whole_next_by h.mode h
 
@@ -139,7 +139,7 @@ whole_next h = whole_next_by h.mode h
 abbrev pub whole_count : Whole → ℕ → ℕ
 whole_count h bsn = minus bsn (minus (number_of h h.acknowledged) 1)
 
--- so many more are acknowledged; what is to be repeated, and in turn, is among those that are not
+-- n more messages are acknowledged; none of these is repeated any more
 abbrev pub acknowledges : Whole → ℕ → Whole
 acknowledges h n = record h {
   acknowledged = h.acknowledged + n;
@@ -147,23 +147,23 @@ acknowledges h n = record h {
   turn = max h.turn (h.acknowledged + n);
 }
 
--- a backward bit unlike the forward one asks for all unacknowledged ones
+-- a backward bit unlike the forward one requests all unacknowledged messages
 abbrev pub whole_asked : Mode → ℕ → Whole → Whole
 whole_asked Basic bib h =
     if bib == h.fib then h else record h { fib = 1 - h.fib; repeat_from = h.acknowledged }
 whole_asked Cyclic bib h = h
 
--- how many a retrieval acknowledges
+-- how many messages a retrieval acknowledges
 abbrev pub whole_known : Whole → Option ℕ → ℕ
 whole_known h (Some fsn) = whole_count h fsn
 whole_known h None = 0
 
--- what a retrieval hands back
+-- the messages that a retrieval hands back
 abbrev pub handed : Whole → Option ℕ → List Msu
 handed h (Some fsn) = drop (h.acknowledged + whole_count h fsn) h.messages
 handed h None = drop h.sent h.messages
 
--- so many more are acknowledged, and nothing stands beyond them
+-- n more messages are acknowledged, and all messages after them are removed
 abbrev pub whole_emptied : Whole → ℕ → Whole
 whole_emptied h n =
     let a = h.acknowledged + n in
@@ -176,7 +176,7 @@ whole_emptied h n =
       turn = a;
     }
 
--- numbers begin again at the first message that isn't acknowledged, and it is the first to be sent
+-- numbers restart at the first message that isn't acknowledged, which is the next to be sent
 abbrev pub whole_refreshed : Whole → Whole
 whole_refreshed h = record h {
   origin = h.acknowledged;
@@ -212,7 +212,7 @@ abbrev pub whole_after : Whole → List Call → Whole
 whole_after h [] = h
 whole_after h (call ∷ calls) = whole_after (whole_step h call) calls
 
--- The kept window w stands for the window h over all messages: it keeps what stands beyond the last
+-- The kept window w represents the window h over all messages: it keeps the messages after the last
 -- acknowledged one.
 pub record StandsFor (h : Whole) (w : Window) : Type 0 where
   pub mode : w.mode ≡ h.mode
@@ -224,22 +224,22 @@ pub record StandsFor (h : Whole) (w : Window) : Type 0 where
   pub again : h.repeat_from + w.again ≡ h.sent
   pub forced : w.forced ≡ h.forced
   pub turn : h.acknowledged + w.turn ≡ h.turn
-  -- the window lies in the list, behind the origin
+  -- the window is a part of the list, after the origin
   pub origin : h.origin ≤ h.acknowledged
   pub inside : h.sent ≤ length h.messages
   pub repeats : h.acknowledged ≤ h.repeat_from
   -- in cyclic retransmission only a forced round repeats from a place
   pub idle : h.mode ≡ Cyclic → h.forced ≡ false → h.repeat_from ≡ h.sent
 
--- Both answer alike.
+-- Both return the same results.
 pub record AnswerAlike (h : Whole) (w : Window) : Type 0 where
   pub unit : (next w).unit ≡ (whole_next h).unit
   pub count : (bsn : ℕ) → count_by w bsn ≡ whole_count h bsn
   pub handed_back : (fsn : Option ℕ) → retrieved w fsn ≡ handed h fsn
   pub accepts : (call : Call) → is_accepted w call ≡ whole_accepts h call
 
--- What is kept tells all that the window over all messages does: a step of one stands for the same
--- step of the other, so over every list of calls from `new` on, a sender stands for that window.
+-- The kept window determines all results of the window over all messages: steps of both keep the
+-- relation. So it holds over every list of calls from `new` on.
 pub record KeptIsEnough : Type 0 where
   pub alike : (h : Whole) (w : Window) → StandsFor h w → AnswerAlike h w
   pub steps :

@@ -1,4 +1,4 @@
--- What a sender keeps, and what each of its calls makes of it (Q.703: basic error correction, and
+-- What a sender keeps, and the effect of each of its calls (Q.703: basic error correction, and
 -- error correction by preventive cyclic retransmission).
 use Rattle.std.specs.Prelude.{◌≡◌, ℕ, ◌+◌, ◌-◌, ◌<◌, ◌≤◌, ◌==◌, ◌&&◌, nat_lt, nat_le, min}
 use Rattle.std.specs.Prelude.{
@@ -25,10 +25,10 @@ use Rattle.resend_store.specs.Limits.{MOST_UNACKNOWLEDGED, MOST_KEPT}
 use Rattle.resend_store.specs.Numbers.{plus, minus}
 use Rattle.resend_store.specs.Messages.{IsMessage, usual_limits, reaches_limit}
 
--- The messages beyond the last acknowledged one, and the numbers that go with them.
+-- The messages after the last acknowledged one, and their numbers.
 pub record Window : Type 0 where
   pub mode : Mode
-  -- with how many unacknowledged ones cyclic retransmission is forced
+  -- the numbers of unacknowledged messages and octets that force cyclic retransmission
   pub limits : RoundLimits
   -- oldest first: those that are sent and not acknowledged, then those that wait
   pub kept : List Msu
@@ -36,25 +36,24 @@ pub record Window : Type 0 where
   pub sent : ℕ
   -- the forward sequence number of the first of them
   pub first : ℕ
-  -- the forward indicator bit that goes out
+  -- the forward indicator bit to send
   pub fib : ℕ
-  -- so many of the sent ones, the last of them, are still to go again in the retransmission under
-  -- way
+  -- how many of the last sent messages the current retransmission still has to repeat
   pub again : ℕ
   -- whether that retransmission is a round of forced retransmission
   pub forced : Bool
-  -- the place of the sent one that the ordinary cycle repeats next
+  -- the index of the sent message that the ordinary cycle repeats next
   pub turn : ℕ
 
--- those that are sent and not acknowledged
+-- the messages sent and not acknowledged
 abbrev pub unacknowledged : Window → List Msu
 unacknowledged w = take w.sent w.kept
 
--- those that weren't sent since both directions last began anew
+-- the messages not sent since both directions last started over
 abbrev pub waiting : Window → List Msu
 waiting w = drop w.sent w.kept
 
--- the forward sequence number of the kept message at a place
+-- the forward sequence number of the kept message at an index
 abbrev pub number_at : Window → ℕ → ℕ
 number_at w i = plus w.first i
 
@@ -63,12 +62,12 @@ abbrev pub last_acknowledged : Window → ℕ
 last_acknowledged w = minus w.first 1
 
 -- what a mode leaves unused: retransmission on request has no rounds and no cycle; cyclic
--- retransmission has one indicator, and repeats places by a round alone
+-- retransmission has one indicator value, and repeats from a place only in a round
 abbrev pub UsesOnly : Mode → Window → Type 0
 UsesOnly Basic w = (w.forced ≡ false) × (w.turn ≡ 0)
 UsesOnly Cyclic w = (w.fib ≡ 1) × (w.forced ≡ false → w.again ≡ 0)
 
--- what holds of each window that a sender keeps
+-- the invariant of each window that a sender keeps
 pub record IsWindow (w : Window) : Type 0 where
   pub messages : All IsMessage w.kept
   pub within_kept : w.sent ≤ length w.kept
@@ -80,7 +79,7 @@ pub record IsWindow (w : Window) : Type 0 where
   pub turn_sent : w.turn ≤ w.sent - 1
   pub by_mode : UsesOnly w.mode w
 
--- nothing put yet, and the numbers at their start
+-- no message put yet, and numbers at their start
 abbrev pub start_within : RoundLimits → Mode → Window
 start_within limits mode =
     record {
@@ -95,7 +94,7 @@ start_within limits mode =
       turn = 0;
     }
 
--- the same with the usual limits
+-- as `start_within`, with the default limits
 abbrev pub start : Mode → Window
 start mode = start_within usual_limits mode
 
@@ -107,24 +106,24 @@ with_put w m = record w { kept = w.kept ++ m ∷ [] }
 abbrev pub may_send : Window → Bool
 may_send w = nat_lt w.sent (length w.kept) && nat_lt w.sent MOST_UNACKNOWLEDGED
 
--- Whether the unacknowledged messages have to go again without being asked for.
+-- Whether the unacknowledged messages must go out again without a request.
 abbrev pub at_limit : Window → Bool
 at_limit w = reaches_limit w.limits (unacknowledged w)
 
--- of a round of forced retransmission under way so many messages are still to go
+-- how many messages the current round of forced retransmission still has to send
 abbrev pub round_left : Window → Option ℕ
 round_left w = if w.forced then Some w.again else None
 
--- Whether so many messages are unacknowledged that their number alone forces retransmission.
+-- Whether the number of unacknowledged messages reaches its limit, which forces retransmission.
 abbrev pub reaches_number : Window → Bool
 reaches_number w = nat_le w.limits.messages w.sent
 
--- What a call to send gives: the unit, and what is kept then.
+-- The result of a call to send: the unit, and the window after it.
 pub record Sending : Type 0 where
   pub unit : Outgoing
   pub left : Window
 
--- the message unit for the kept message at a place
+-- the message unit for the kept message at an index
 abbrev pub unit_at : Window → ℕ → Outgoing
 unit_at w i = record { fsn = number_at w i; fib = w.fib; msu = slice_get w.kept i }
 
@@ -136,15 +135,15 @@ fill_in w =
       left = w;
     }
 
--- The next one of the retransmission under way goes again.
+-- The retransmission under way sends its next message.
 abbrev pub repeats : Window → Sending
 repeats w = record { unit = unit_at w (w.sent - w.again); left = record w { again = w.again - 1 } }
 
--- forced retransmission, at the beginning of a round
+-- a round of forced retransmission begins
 abbrev pub round : Window → Window
 round w = record w { again = w.sent; forced = true }
 
--- after a new message: in cyclic retransmission one that reaches a limit begins forced
+-- after a new message: in cyclic retransmission, a message that reaches a limit begins forced
 -- retransmission
 abbrev pub after_new : Mode → Window → Window
 after_new Basic w = w
@@ -155,14 +154,14 @@ abbrev pub sends_new : Window → Sending
 sends_new w =
     record { unit = unit_at w w.sent; left = after_new w.mode (record w { sent = w.sent + 1 }) }
 
--- The ordinary cycle repeats one, and moves on: after the last sent one comes the first.
+-- The ordinary cycle repeats one message and moves on: the first sent one follows the last.
 abbrev pub cycles : Window → Sending
 cycles w = record {
   unit = unit_at w w.turn;
   left = record w { turn = if w.turn + 1 == w.sent then 0 else w.turn + 1 };
 }
 
--- Basic error correction: what is to be repeated, then new messages, then fill-in units.
+-- Basic error correction: messages to repeat, then new messages, then fill-in units.
 abbrev pub next_basic : Window → Sending
 next_basic w =
     if nat_lt 0 w.again then repeats w else (if may_send w then sends_new w else fill_in w)
@@ -184,7 +183,7 @@ abbrev pub next_by : Mode → Window → Sending
 next_by Basic w = next_basic w
 next_by Cyclic w = if w.forced then next_forced w else next_ordinary w
 
--- What goes out next.
+-- The next unit to send.
 abbrev pub next : Window → Sending
 next w = next_by w.mode w
 
@@ -192,8 +191,8 @@ next w = next_by w.mode w
 abbrev pub count_by : Window → ℕ → ℕ
 count_by w bsn = minus bsn (last_acknowledged w)
 
--- The first so many are acknowledged, and gone from what is kept. Those of them that were still to
--- go again need not.
+-- The first n messages are acknowledged and no longer kept. Those of them that were still to be
+-- repeated no longer are.
 abbrev pub without : Window → ℕ → Window
 without w n = record w {
   kept = drop n w.kept;
@@ -203,7 +202,7 @@ without w n = record w {
   turn = w.turn - n;
 }
 
--- A backward indicator bit unlike the forward one that goes out asks for retransmission.
+-- A backward indicator bit unlike the forward one requests retransmission.
 abbrev pub asked : Mode → ℕ → Window → Window
 asked Basic bib w = if bib == w.fib then w else record w { fib = 1 - w.fib; again = w.sent }
 asked Cyclic bib w = w
@@ -212,18 +211,18 @@ asked Cyclic bib w = w
 abbrev pub after_back : Window → ℕ → ℕ → Window
 after_back w bsn bib = asked w.mode bib (without w (count_by w bsn))
 
--- What stands beyond the message that the far side has last accepted; where that is not known, what
--- wasn't sent since both directions last began anew.
+-- The messages after the one that the far side accepted last; if that is not known, those not sent
+-- since both directions last started over.
 abbrev pub retrieved : Window → Option ℕ → List Msu
 retrieved w (Some fsn) = drop (count_by w fsn) w.kept
 retrieved w None = waiting w
 
--- how many are acknowledged by that
+-- how many messages such a retrieval acknowledges
 abbrev pub count_known : Window → Option ℕ → ℕ
 count_known w (Some fsn) = count_by w fsn
 count_known w None = 0
 
--- An empty window, where the numbers go on after the last acknowledged message.
+-- An empty window, whose numbers continue after the last acknowledged message.
 abbrev pub emptied : Window → Option ℕ → Window
 emptied w fsn = record w {
   kept = [];
@@ -234,7 +233,7 @@ emptied w fsn = record w {
   turn = 0;
 }
 
--- The one that waits at a place is taken out.
+-- The waiting message at an index is removed.
 abbrev pub without_at : Window → ℕ → Window
 without_at w i = record w { kept = take i w.kept ++ drop (i + 1) w.kept }
 

@@ -1,5 +1,5 @@
-//! Both error corrections of Q.703 for one signalling link: what is sent and not acknowledged yet, what goes out next,
-//! and which received messages are accepted.
+//! Both error corrections of Q.703 for one signalling link: the messages sent and not acknowledged, the next unit to
+//! send, and the received messages to accept.
 #![tactic(auto)]
 
 mod laws;

@@ -1,4 +1,4 @@
-//! What is measured of a signalling link (ITU-T Q.752), by name.
+//! Measurements of a signalling link (ITU-T Q.752), by name.
 ghost use Rattle.std.specs.Prelude.{◌≡◌, option_and_then, slice_get, position};
 ghost use Rattle.std.specs.Str.{bytes_eq};
 ghost use Rattle.resend_store.specs.declared.measures.Measure.{Measure as PlainMeasure};
@@ -9,9 +9,9 @@ ghost use Rattle.resend_store.specs.MeasureNames.{measure_word, all_measures, me
 pub enum Measure {
     /// `service_time`: Ticks in service (Q.752, 1.1).
     ServiceTime,
-    /// `failures`: How often the link went down for another reason than a stop (1.2).
+    /// `failures`: How often the link went down for a reason other than a stop (1.2).
     Failures,
-    /// `stops`: How often it went down by a stop: reason 0.
+    /// `stops`: How often the link was stopped: reason 0.
     Stops,
     /// `alignment_failures`: How often alignment or proving failed: reason 1 (1.7).
     AlignmentFailures,
@@ -19,17 +19,17 @@ pub enum Measure {
     ErrorFailures,
     /// `far_failures`: How often the far side went out of service: reason 3.
     FarFailures,
-    /// `t1_failures`: How often the far side didn't get ready: T1, reason 4.
+    /// `t1_failures`: How often the far side wasn't ready in time: T1, reason 4.
     T1Failures,
     /// `number_failures`: How often backward numbers or forward indicators were abnormal: reason 5 (1.3).
     NumberFailures,
-    /// `t7_failures`: How often an acknowledgement didn't come: T7, reason 6 (1.4).
+    /// `t7_failures`: How often an acknowledgement wasn't received in time: T7, reason 6 (1.4).
     T7Failures,
     /// `t6_failures`: How often the far side was congested too long: T6, reason 7 (1.6).
     T6Failures,
     /// `errored_units`: Units in error (1.8).
     ErroredUnits,
-    /// `errored_octets`: How often sixteen octets came without a unit.
+    /// `errored_octets`: How often sixteen octets were counted without a unit.
     ErroredOctets,
     /// `nacks_received`: Negative acknowledgements received (1.9).
     NacksReceived,
@@ -47,19 +47,19 @@ pub enum Measure {
     MessagesReceived,
     /// `far_outages`: Outages of the far side's processor.
     FarOutages,
-    /// `far_outage_time`: Ticks of these.
+    /// `far_outage_time`: Ticks of outages of the far side's processor.
     FarOutageTime,
     /// `outages`: Outages of this side's processor.
     Outages,
-    /// `outage_time`: Ticks of these.
+    /// `outage_time`: Ticks of outages of this side's processor.
     OutageTime,
     /// `busy`: Congestions of this side.
     Busy,
-    /// `busy_time`: Ticks of these.
+    /// `busy_time`: Ticks of congestions of this side.
     BusyTime,
     /// `far_busy`: Congestions of the far side.
     FarBusy,
-    /// `far_busy_time`: Ticks of these.
+    /// `far_busy_time`: Ticks of congestions of the far side.
     FarBusyTime,
     /// `rounds_n1`: Rounds of forced retransmission by N1.
     RoundsByNumber,
@@ -106,7 +106,7 @@ impl Measure {
     }
 }
 
-/// All of them, in the order in which they are printed.
+/// All measurements, in the order in which they are printed.
 pub fn all_measures() -> [Measure; 29]
     ensures { result ≡ all_measures }
 {
@@ -143,28 +143,28 @@ pub fn all_measures() -> [Measure; 29]
     ]
 }
 
-/// Whether a measurement has a name.
+/// Whether a measurement has this name.
 fn is_named(measure: Measure, word: &str) -> bool
     ensures { result ≡ bytes_eq (measure_word measure) word.now }
 {
     measure.word() == word
 }
 
-/// The place of the measurement with a name.
+/// The index of the measurement with this name.
 fn place_named(all: &[Measure], word: &str) -> Option<usize>
     ensures { result ≡ position (λ (m : PlainMeasure). bytes_eq (measure_word m) word.now) all.now }
 {
     all.iter().position(|measure| is_named(*measure, word))
 }
 
-/// The measurement at a place.
+/// The measurement at an index.
 fn measure_at(all: &[Measure], place: usize) -> Option<Measure>
     ensures { result ≡ slice_get all.now place }
 {
     all.get(place).copied()
 }
 
-/// The measurement with a name, in this case alone.
+/// The measurement with exactly this name. Upper and lower case differ.
 pub fn measure_named(word: &str) -> Option<Measure>
     ensures { result ≡ measure_named word.now }
 {

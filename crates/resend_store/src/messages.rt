@@ -1,30 +1,30 @@
-//! Messages, and what a sender and a receiver answer.
+//! Messages, and the results of a sender and a receiver.
 ghost use Rattle.std.specs.Prelude.{◌≡◌, ◌≤◌, ⊤};
 ghost use Rattle.resend_store.specs.Messages.{octets_of, usual_limits, chosen_limits};
 
 use arrayvec::ArrayVec;
 use std::alloc::AllocError;
 
-/// The most messages that are sent and not acknowledged.
+/// The most messages that may be unacknowledged.
 pub const MAX_UNACKNOWLEDGED: usize = 127;
 
-/// How many waiting messages leave no room for `Sender::put`.
+/// With this number of waiting messages or more, `Sender::put` takes no further one.
 pub const MAX_WAITING: usize = 1024;
 
-/// The most messages that a sender keeps, unacknowledged and waiting ones together.
+/// The most messages that a sender keeps, unacknowledged and waiting together.
 pub const MAX_KEPT: usize = 1151;
 
-/// How many unacknowledged messages begin forced retransmission (Q.703's N1).
+/// The default of Q.703's N1: so many unacknowledged messages force retransmission.
 pub const FORCED_MESSAGES: usize = 127;
 
-/// How many unacknowledged octets of SIO and SIF begin forced retransmission (Q.703's N2).
+/// The default of Q.703's N2: so many unacknowledged octets of SIO and SIF force retransmission.
 pub const FORCED_OCTETS: usize = 8192;
 
-/// The fewest unacknowledged octets that may be chosen to begin forced retransmission.
+/// The least value that may be chosen for N2.
 pub const LEAST_FORCED_OCTETS: usize = 300;
 
-/// With how many unacknowledged messages, or octets of SIO and SIF, cyclic retransmission is forced (Q.703, 6.4: N1 and N2, which follow the
-/// delay of the loop).
+/// The numbers of unacknowledged messages (N1) and of their octets of SIO and SIF (N2) that force cyclic retransmission
+/// (Q.703, 6.4). They depend on the loop delay.
 #[derive(Clone, Copy, Debug, PartialEq, Eq)]
 pub struct RoundLimits {
     /// N1.
@@ -33,7 +33,7 @@ pub struct RoundLimits {
     pub octets: u16,
 }
 
-/// Those of a sender for which none were chosen: [`FORCED_MESSAGES`] and [`FORCED_OCTETS`].
+/// The default limits: [`FORCED_MESSAGES`] and [`FORCED_OCTETS`].
 pub const USUAL_LIMITS: RoundLimits = RoundLimits {
     messages: FORCED_MESSAGES as u8,
     octets: FORCED_OCTETS as u16,
@@ -53,7 +53,7 @@ pub enum Mode {
 pub struct Msu {
     /// Service information octet.
     pub sio: u8,
-    /// Signalling information field, of 2 octets or more where a sender takes it.
+    /// Signalling information field. A sender takes only fields of 2 octets or more.
     pub sif: ArrayVec<u8, 272>,
 }
 
@@ -68,7 +68,7 @@ impl Clone for Msu {
 }
 
 impl Msu {
-    /// An equal message, made without memory.
+    /// A copy of the message, made without allocation.
     pub fn copied(&self) -> Msu
         ensures { result ≡ self.now }
     {
@@ -77,7 +77,7 @@ impl Msu {
         Msu { sio: self.sio, sif }
     }
 
-    /// The octets of SIO and SIF.
+    /// The number of octets of SIO and SIF.
     pub(crate) fn octets(&self) -> u16
         ensures value { result ≡ octets_of self.now }
         ensures within { result ≤ 273 }
@@ -87,7 +87,7 @@ impl Msu {
 }
 
 impl RoundLimits {
-    /// Those with so many messages, 1 to 127, and octets, 300 to 8,192; none with others.
+    /// Limits of 1 to 127 messages and 300 to 8,192 octets; `None` for other numbers.
     pub fn chosen(messages: u64, octets: u64) -> Option<RoundLimits>
         ensures { result ≡ chosen_limits messages octets }
     {
@@ -105,21 +105,21 @@ impl RoundLimits {
     }
 }
 
-/// What goes out in the next unit, beside the backward number and bit.
+/// The next unit to send, without the backward number and bit.
 #[derive(Debug, Drop, PartialEq, Eq)]
 pub struct Outgoing {
     /// Forward sequence number, 0 to 127.
     pub fsn: u8,
     /// Forward indicator bit, 0 or 1.
     pub fib: u8,
-    /// The message, new or repeated; none in a fill-in unit.
+    /// The message, new or repeated; `None` in a fill-in unit.
     pub msu: Option<Msu>,
 }
 
 /// What a receiver does with a unit.
 #[derive(Clone, Copy, Debug, PartialEq, Eq)]
 pub enum Verdict {
-    /// The message is the next in turn, and is to be delivered.
+    /// The message is the next in turn: it is to be delivered.
     Accept,
     /// The unit brings nothing new.
     Discard,

@@ -2,7 +2,7 @@
 ghost use Rattle.std.specs.Prelude.{◌≡◌, ◌<◌, ◌≤◌};
 ghost use Rattle.resend_store.specs.Numbers.{plus, minus};
 
-/// The number that comes `further` after `number`.
+/// The number `further` steps after `number`.
 pub(crate) const fn plus(number: u8, further: u8) -> u8
     requires number { number < 128 }
     requires further { further < 128 }
@@ -12,7 +12,7 @@ pub(crate) const fn plus(number: u8, further: u8) -> u8
     (number + further) % 128
 }
 
-/// How far `number` is beyond `other`.
+/// The number of steps from `other` up to `number`.
 pub(crate) const fn minus(number: u8, other: u8) -> u8
     requires number { number < 128 }
     requires other { other < 128 }

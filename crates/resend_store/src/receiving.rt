@@ -6,7 +6,7 @@ use crate::messages::{Mode, Verdict};
 use crate::refusals::UnitError;
 use std::marker::Model;
 
-/// Which messages of the far side were accepted, and what goes back in each unit (Q.703, sections 5 and 6).
+/// The message of the far side accepted last, and the backward number and bit to send (Q.703, sections 5 and 6).
 #[derive(Clone, Debug, Drop)]
 pub struct Receiver {
     mode: Mode,
@@ -26,7 +26,7 @@ impl Model for Receiver {
 }
 
 impl Receiver {
-    /// One that has accepted nothing: it sends the number 127 and the bit 1.
+    /// A receiver that has accepted nothing: it sends the number 127 and the bit 1.
     pub fn new(mode: Mode) -> Receiver
         ensures { result ≡ first_intake mode }
     {
@@ -38,7 +38,7 @@ impl Receiver {
         }
     }
 
-    /// Begins anew, as when the link is aligned again.
+    /// Starts over, as when the link is aligned again.
     pub fn fresh(&mut self)
         ensures { self.new ≡ first_intake self.old.mode }
     {
@@ -63,14 +63,14 @@ impl Receiver {
         self.bib
     }
 
-    /// Takes the forward number, 0 to 127, and bit, 0 or 1, of a unit without errors, and whether it carries a message (Q.703, sections 5
-    /// and 6).
+    /// Takes the forward number, 0 to 127, and bit, 0 or 1, of a unit without errors, and whether it carries a message
+    /// (Q.703, sections 5 and 6).
     ///
-    /// The next message in turn is accepted, and anything that tells of a lost one is refused by inverting the bit to send;
-    /// from then on units are discarded until the far side's bit agrees. With cyclic retransmission bits are ignored, and
-    /// all but the next message is discarded.
+    /// The next message in turn is accepted. A unit that shows a lost message is refused by inverting the bit to send;
+    /// from then on units are discarded until the far side's bit agrees. With cyclic retransmission bits are ignored,
+    /// and all except the next message are discarded.
     ///
-    /// `BadIndicator` where the bit changed though no negative acknowledgement is out. Nothing changes then.
+    /// `BadIndicator` if the bit changed although no negative acknowledgement is outstanding. Then nothing changes.
     pub fn on_unit(&mut self, fsn: u8, fib: u8, has_msu: bool) -> Result<Verdict, UnitError>
         ensures verdict { result ≡ (hear self.old fsn fib has_msu).verdict }
         ensures known { self.new ≡ (hear self.old fsn fib has_msu).known }
@@ -93,10 +93,10 @@ impl Receiver {
         Ok(Verdict::Nack)
     }
 
-    /// Judges a unit by its forward bit, 0 or 1, while no message is to be accepted: a message is discarded, and nothing changes, whatever
-    /// the unit carries.
+    /// Judges a unit by its forward bit, 0 or 1, while no message may be accepted. A message is discarded, and nothing
+    /// changes, whatever the unit carries.
     ///
-    /// `BadIndicator` as `on_unit` answers it.
+    /// `BadIndicator` as in `on_unit`.
     pub fn set_aside(&self, fib: u8) -> Result<Verdict, UnitError>
         ensures { result ≡ (hear_aside self.now.mode self.now fib).verdict }
     {
@@ -106,7 +106,7 @@ impl Receiver {
         Ok(Verdict::Discard)
     }
 
-    /// What a unit gives whose bit differs from the one that goes out.
+    /// The result of a unit whose forward bit differs from the backward bit to send.
     fn unlike(&self) -> Result<Verdict, UnitError>
         ensures { result ≡ (hear_unlike self.now).verdict }
     {

@@ -9,7 +9,7 @@ use thiserror::Error;
 /// Why a sender didn't take a message.
 #[derive(Clone, Copy, Debug, PartialEq, Eq, Error)]
 pub enum PutError {
-    /// 1,024 messages or more wait; of a diverted one, 1,151 are kept (E1).
+    /// 1,024 messages or more wait, or for a diverted message 1,151 are kept (E1).
     Full,
 }
 
@@ -20,19 +20,19 @@ pub enum AckError {
     BadAck,
 }
 
-/// Why a sender didn't give its messages back.
+/// Why a sender didn't return its messages.
 #[derive(Clone, Copy, Debug, PartialEq, Eq, Error)]
 pub enum RetrieveError {
     /// The number acknowledges more than was sent.
     BadAck,
-    /// There was not enough memory.
+    /// Memory ran out.
     NoMemory,
 }
 
-/// Why a receiver made nothing of a unit.
+/// Why a receiver refused a unit.
 #[derive(Clone, Copy, Debug, PartialEq, Eq, Error)]
 pub enum UnitError {
-    /// The forward indicator bit changed, and no negative acknowledgement asked for it.
+    /// The forward indicator bit changed, but no negative acknowledgement requested that.
     BadIndicator,
 }
 

@@ -16,22 +16,22 @@ use std::alloc::{AllocError, Global};
 use std::collections::VecDeque;
 use std::marker::Model;
 
-/// The messages of one link that are not acknowledged, and the numbers that they go out with (Q.703, sections 5 and 6).
+/// The messages of one link that are not acknowledged, and their numbers (Q.703, sections 5 and 6).
 ///
-/// All its room is made by `new`. After that only `retrieve` can answer that memory is wanting.
+/// `new` allocates all memory. After that only `retrieve` can fail because memory runs out.
 #[derive(Debug, Drop)]
 pub struct Sender {
     mode: Mode,
-    /// With how many unacknowledged ones cyclic retransmission is forced.
+    /// The numbers of unacknowledged messages and octets that force cyclic retransmission.
     limits: RoundLimits,
     store: Store,
     /// Forward sequence number of the first kept message.
     first: u8,
     fib: u8,
-    /// How many of the sent ones, the last of them, the retransmission under way still has to repeat.
+    /// How many of the last sent messages the current retransmission still has to repeat.
     again: u8,
     forced: bool,
-    /// Place of the one that the ordinary cycle repeats next.
+    /// The index of the message that the ordinary cycle repeats next.
     turn: u8,
 }
 
@@ -48,14 +48,14 @@ impl Model for Sender {
 }
 
 impl Sender {
-    /// An empty one, whose first message will have the number 0 and the bit 1.
+    /// An empty sender, whose first message will have the number 0 and the bit 1.
     pub fn new(alloc: Global, mode: Mode) -> Result<Sender, AllocError>
         ensures { IfOk result (λ sender. sender ≡ start mode) }
     {
         Sender::within(alloc, USUAL_LIMITS, mode)
     }
 
-    /// The same with these limits of forced retransmission.
+    /// As `new`, with these limits of forced retransmission.
     pub fn within(alloc: Global, limits: RoundLimits, mode: Mode) -> Result<Sender, AllocError>
         ensures { IfOk result (λ sender. sender ≡ start_within limits mode) }
     {
@@ -71,7 +71,7 @@ impl Sender {
         })
     }
 
-    /// How many messages are kept: unacknowledged and waiting ones.
+    /// The number of kept messages, unacknowledged and waiting.
     pub fn held(&self) -> usize
         ensures value { result ≡ length self.now.kept }
         ensures window { IsWindow self.now }
@@ -79,14 +79,14 @@ impl Sender {
         self.store.len()
     }
 
-    /// The kept message at a place, the oldest at 0.
+    /// The kept message at an index, the oldest at 0.
     pub fn held_at(&self, place: usize) -> Option<&Msu>
         ensures { option_copied result ≡ slice_get self.now.kept place }
     {
         self.store.get(place)
     }
 
-    /// How many messages are sent and not acknowledged.
+    /// The number of messages that are sent and not acknowledged.
     pub fn sent(&self) -> usize
         ensures { result ≡ self.now.sent }
     {
@@ -101,7 +101,7 @@ impl Sender {
         minus(plus(self.first, self.store.sent()), 1)
     }
 
-    /// The forward indicator bit that goes out.
+    /// The forward indicator bit to send.
     pub fn fib(&self) -> u8
         ensures value { result ≡ self.now.fib }
         ensures within { result < 2 }
@@ -109,24 +109,24 @@ impl Sender {
         self.fib
     }
 
-    /// How many messages of a round of forced retransmission are still to go; none where no round is under way.
+    /// How many messages the current round of forced retransmission still has to send; `None` if no round is under way.
     pub fn round_left(&self) -> Option<u8>
         ensures { result ≡ round_left self.now }
     {
         if self.forced { Some(self.again) } else { None }
     }
 
-    /// Whether so many messages are unacknowledged that their number alone forces retransmission.
+    /// Whether the number of unacknowledged messages reaches its limit, which forces retransmission.
     pub fn reaches_number(&self) -> bool
         ensures { result ≡ reaches_number self.now }
     {
         self.store.sent() >= self.limits.messages
     }
 
-    /// Takes a message to send, with a field of 2 octets or more. It waits behind all others.
+    /// Takes a message to send, with a field of 2 octets or more. It waits after all others.
     ///
-    /// `Full` where `MAX_WAITING` or more wait. Nothing changes then, and the message is dropped: who wants to keep it asks
-    /// `held` and `sent` first.
+    /// `Full` if `MAX_WAITING` or more wait. Then nothing changes, and the message is dropped. To keep it, call `held`
+    /// and `sent` first.
     pub fn put(&mut self, msu: Msu) -> Result<(), PutError>
         requires { 2 ≤ length msu.sif.items }
         ensures full { (result ≡ Err PutError.Full) ↔ (MOST_WAITING ≤ length (waiting self.old)) }
@@ -140,9 +140,9 @@ impl Sender {
         Ok(())
     }
 
-    /// Takes a message that another link left behind (Q.704, changeover), with a field of 2 octets or more.
+    /// Takes a message that was retrieved from another link (Q.704, changeover), with a field of 2 octets or more.
     ///
-    /// `Full` where `MAX_KEPT` are unacknowledged or wait. Nothing changes then.
+    /// `Full` if `MAX_KEPT` are unacknowledged or wait. Then nothing changes.
     pub fn put_diverted(&mut self, msu: Msu) -> Result<(), PutError>
         requires { 2 ≤ length msu.sif.items }
         ensures full { (result ≡ Err PutError.Full) ↔ (MOST_KEPT ≤ length self.old.kept) }
@@ -156,7 +156,7 @@ impl Sender {
         Ok(())
     }
 
-    /// Takes out, and drops, the message that waits at a place.
+    /// Removes and drops the waiting message at an index.
     pub fn drop_waiting(&mut self, place: usize)
         requires waits { self.old.sent ≤ place }
         requires there { place < length self.old.kept }
@@ -165,11 +165,11 @@ impl Sender {
         self.store.remove(place);
     }
 
-    /// What goes out in the next unit (Q.703, sections 5 and 6).
+    /// Returns the next unit to send (Q.703, sections 5 and 6).
     ///
-    /// With basic error correction: while a retransmission is under way its next message; else a new one, where one
-    /// waits and fewer than `MAX_UNACKNOWLEDGED` are unacknowledged; else no message. With cyclic retransmission: a new
-    /// one, or else the unacknowledged ones in turn; but while retransmission is forced, whole rounds of those.
+    /// Basic error correction: the next message of a retransmission under way; else a new one, if one waits and fewer
+    /// than `MAX_UNACKNOWLEDGED` are unacknowledged; else no message. Cyclic retransmission: a new one, or else the
+    /// unacknowledged ones in turn; but while retransmission is forced, whole rounds of those.
     pub fn next_unit(&mut self) -> Outgoing
         ensures unit { result ≡ (next self.old).unit }
         ensures left { self.new ≡ (next self.old).left }
@@ -181,10 +181,10 @@ impl Sender {
         self.give()
     }
 
-    /// Takes the backward number, 0 to 127, and bit of a unit without errors, and answers how many messages it acknowledges.
-    /// With basic error correction a bit unlike the forward one asks for all unacknowledged messages again.
+    /// Takes the backward number, 0 to 127, and bit of a correct unit. Returns how many messages it acknowledges.
+    /// With basic error correction, a bit unlike the forward one requests all unacknowledged messages again.
     ///
-    /// `BadAck` where that is more than are sent and not acknowledged. Nothing changes then.
+    /// `BadAck` if the number acknowledges more messages than are sent and not acknowledged. Then nothing changes.
     pub fn on_back(&mut self, bsn: u8, bib: u8) -> Result<usize, AckError>
         requires { bsn < 128 }
         ensures bad { (result ≡ Err AckError.BadAck) ↔ (self.old.sent < count_by self.old bsn) }
@@ -205,11 +205,11 @@ impl Sender {
         Ok(count as usize)
     }
 
-    /// Hands out, in order, what the far side may lack (Q.704, retrieval): what comes after the number, 0 to 127, that it
-    /// accepted last, or, where that number isn't known, what wasn't sent since both directions last began anew. Nothing is
-    /// kept then, and numbers go on after the last acknowledged one.
+    /// Hands out, in order, the messages that the far side may lack (Q.704, retrieval): those after the number, 0 to
+    /// 127, that it accepted last. If that is not known, those not sent since both directions last started over.
+    /// Nothing is kept then, and numbers continue after the last acknowledged one.
     ///
-    /// `BadAck` where the number acknowledges more than is sent, and then `NoMemory`. Nothing changes in either case.
+    /// `BadAck` if the number acknowledges more than is sent; else `NoMemory` if memory runs out. Nothing changes then.
     pub fn retrieve(&mut self, accepted: Option<u8>) -> Result<VecDeque<Msu>, RetrieveError>
         requires { IfSome accepted (λ fsn. fsn < 128) }
         ensures bad { (result ≡ Err RetrieveError.BadAck) ↔ (self.old.sent < count_known self.old accepted) }
@@ -233,8 +233,8 @@ impl Sender {
         Ok(messages)
     }
 
-    /// What is kept is gone, as behind `retrieve` without a number, and nothing is handed out (Q.703, figure 13). The numbers go on after the
-    /// last acknowledged one.
+    /// Drops all kept messages, as `retrieve` without a number does, but hands out none (Q.703, figure 13). The numbers
+    /// continue after the last acknowledged one.
     pub fn clear(&mut self)
         ensures { self.new ≡ emptied self.old None }
     {
@@ -244,7 +244,7 @@ impl Sender {
         self.turn = 0;
     }
 
-    /// Begins anew, as when the link is aligned again: all kept messages wait, and numbers and bits are at their start.
+    /// Starts over, as when the link is aligned again: all kept messages wait, and numbers and bits are at their start.
     pub fn fresh(&mut self)
         ensures { self.new ≡ refreshed self.old }
     {
@@ -256,7 +256,7 @@ impl Sender {
         self.turn = 0;
     }
 
-    /// How many messages a backward number acknowledges.
+    /// The number of messages that a backward number acknowledges.
     fn count_by(&self, bsn: u8) -> u8
         requires { bsn < 128 }
         ensures value { result ≡ count_by self.now bsn }
@@ -265,7 +265,7 @@ impl Sender {
         minus(bsn, minus(self.first, 1))
     }
 
-    /// The first so many are acknowledged.
+    /// Removes the first `count` messages, which are acknowledged.
     fn release(&mut self, count: u8)
         requires { count ≤ self.old.sent }
         ensures { self.new ≡ without self.old count }
@@ -276,7 +276,7 @@ impl Sender {
         self.turn = self.turn.saturating_sub(count);
     }
 
-    /// Ends forced retransmission where its round is over, or begins another round.
+    /// If a forced round is over: begins another one if a limit is still reached, otherwise ends forced retransmission.
     fn settle(&mut self)
         ensures settled { self.new ≡ settled self.old }
         ensures window { IsWindow self.old }
@@ -290,7 +290,7 @@ impl Sender {
         }
     }
 
-    /// What goes out once rounds are settled.
+    /// The next unit to send, after `settle`.
     fn give(&mut self) -> Outgoing
         ensures unit { result ≡ (gives self.old).unit }
         ensures left { self.new ≡ (gives self.old).left }
@@ -310,7 +310,7 @@ impl Sender {
         self.filled_in()
     }
 
-    /// Whether a new message goes out now.
+    /// Whether a new message may go out now.
     fn may_send(&self) -> bool
         ensures { result ≡ may_send self.now }
     {
@@ -318,7 +318,7 @@ impl Sender {
         sent < self.store.len() && sent < MAX_UNACKNOWLEDGED
     }
 
-    /// The next one of the retransmission under way.
+    /// The next message of the retransmission under way.
     fn repeat(&mut self) -> Outgoing
         requires { 0 < self.old.again }
         ensures unit { result ≡ (repeats self.old).unit }
@@ -330,7 +330,7 @@ impl Sender {
         unit
     }
 
-    /// The first waiting one.
+    /// The first waiting message, which goes out for the first time.
     fn send(&mut self) -> Outgoing
         requires waiting { self.old.sent < length self.old.kept }
         requires window { self.old.sent < MOST_UNACKNOWLEDGED }
@@ -348,7 +348,7 @@ impl Sender {
         unit
     }
 
-    /// The one whose turn it is in the ordinary cycle.
+    /// The next message of the ordinary cycle.
     fn cycle(&mut self) -> Outgoing
         requires cyclic { self.old.mode ≡ Mode.Cyclic }
         requires sent { 0 < self.old.sent }
@@ -365,7 +365,7 @@ impl Sender {
         unit
     }
 
-    /// A unit without a message, where none goes out: a fill-in unit (Q.703, sections 5 and 6).
+    /// A fill-in unit, which carries no message (Q.703, sections 5 and 6).
     fn filled_in(&self) -> Outgoing
         ensures { result ≡ (fill_in self.now).unit }
     {
@@ -376,7 +376,7 @@ impl Sender {
         }
     }
 
-    /// The unit for the kept message at a place.
+    /// The unit for the kept message at an index.
     fn unit_at(&self, place: u8) -> Outgoing
         requires { place < 128 }
         ensures unit { result ≡ unit_at self.now place }

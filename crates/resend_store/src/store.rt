@@ -1,4 +1,4 @@
-//! The queue of kept messages, whose room is made once.
+//! The queue of kept messages, with room allocated in advance.
 ghost use Rattle.std.specs.Prelude.{◌≡◌, ◌+◌, ◌-◌, ◌<◌, ◌≤◌, [], ◌∷◌, ◌++◌, All, IfOk, IfSome, OnErr, length, drop, take, slice_get};
 ghost use Rattle.std.specs.Option.{option_copied};
 ghost use Rattle.std.specs.VecDeque.{deque_capacity};
@@ -11,12 +11,12 @@ use std::collections::VecDeque;
 use std::marker::Model;
 use std::mem;
 
-/// Messages, oldest first, of which the first are sent.
+/// Messages, oldest first. The first `sent` of them are sent.
 #[derive(Debug, Drop)]
 pub(crate) struct Store {
     kept: VecDeque<Msu>,
     sent: u8,
-    /// Octets of the sent ones.
+    /// The octets of the sent messages.
     octets: u16,
 }
 
@@ -33,7 +33,7 @@ impl Model for Store {
 }
 
 impl Store {
-    /// An empty one with room for all that may be kept.
+    /// An empty store with room for all messages that may be kept.
     pub(crate) fn new(alloc: Global) -> Result<Store, AllocError>
         ensures { IfOk result (λ s. s ≡ record { kept = []; sent = 0 }) }
     {
@@ -45,7 +45,7 @@ impl Store {
         })
     }
 
-    /// How many messages are kept: `MAX_KEPT` at most.
+    /// The number of kept messages, at most `MAX_KEPT`.
     pub(crate) fn len(&self) -> usize
         ensures value { result ≡ length self.now.kept }
         ensures within { result ≤ MOST_KEPT }
@@ -53,7 +53,7 @@ impl Store {
         self.kept.len()
     }
 
-    /// How many of them are sent: the first, `MAX_UNACKNOWLEDGED` at most.
+    /// The number of sent messages, which are the first ones, at most `MAX_UNACKNOWLEDGED`.
     pub(crate) fn sent(&self) -> u8
         ensures value { result ≡ self.now.sent }
         ensures within { result ≤ MOST_UNACKNOWLEDGED }
@@ -62,7 +62,7 @@ impl Store {
         self.sent
     }
 
-    /// The message at a place, the oldest at 0.
+    /// The message at an index, the oldest at 0.
     pub(crate) fn get(&self, place: usize) -> Option<&Msu>
         ensures value { option_copied result ≡ slice_get self.now.kept place }
         ensures message { IfSome (slice_get self.now.kept place) IsMessage }
@@ -70,14 +70,14 @@ impl Store {
         self.kept.get(place)
     }
 
-    /// Whether the sent ones have to go again without being asked for.
+    /// Whether the sent messages reach a limit and must go out again without a request.
     pub(crate) fn reaches_limit(&self, limits: RoundLimits) -> bool
         ensures { result ≡ reaches_limit limits (take self.now.sent self.now.kept) }
     {
         self.sent > 0 && (self.sent >= limits.messages || self.octets >= limits.octets)
     }
 
-    /// One more waits.
+    /// Adds a waiting message.
     pub(crate) fn push(&mut self, msu: Msu)
         requires message { 2 ≤ length msu.sif.items }
         requires room { length self.old.kept < MOST_KEPT }
@@ -87,7 +87,7 @@ impl Store {
         self.kept.push_back_reserved(msu);
     }
 
-    /// The one that waits at a place is taken out.
+    /// Removes the waiting message at an index.
     pub(crate) fn remove(&mut self, place: usize)
         requires waits { self.old.sent ≤ place }
         requires there { place < length self.old.kept }
@@ -99,7 +99,7 @@ impl Store {
         }
     }
 
-    /// The first that waits is sent.
+    /// Counts the first waiting message as sent.
     pub(crate) fn send_one(&mut self)
         requires waiting { self.old.sent < length self.old.kept }
         requires window { self.old.sent < MOST_UNACKNOWLEDGED }
@@ -109,7 +109,7 @@ impl Store {
         self.sent += 1;
     }
 
-    /// The first `count` leave.
+    /// Removes the first `count` messages.
     pub(crate) fn release(&mut self, count: u8)
         requires { count ≤ self.old.sent }
         ensures { self.new ≡ record { kept = drop count self.old.kept; sent = self.old.sent - count } }
@@ -119,7 +119,7 @@ impl Store {
         self.sent -= count;
     }
 
-    /// All wait.
+    /// Makes all messages wait again.
     pub(crate) fn unsend(&mut self)
         ensures { self.new ≡ record self.old { sent = 0 } }
     {
@@ -127,7 +127,7 @@ impl Store {
         self.octets = 0;
     }
 
-    /// All leave, and their room stays.
+    /// Removes all messages and keeps their room.
     pub(crate) fn clear(&mut self)
         ensures { self.new ≡ record { kept = []; sent = 0 } }
     {
@@ -136,7 +136,7 @@ impl Store {
         self.octets = 0;
     }
 
-    /// Hands all out, and makes room for as many again before that.
+    /// Hands out all messages, after it has allocated room for as many again.
     pub(crate) fn take_all(&mut self) -> Result<VecDeque<Msu>, AllocError>
         ensures all { IfOk result (λ q. q.items ≡ self.old.kept) }
         ensures emptied { IfOk result (λ _. self.new ≡ record { kept = []; sent = 0 }) }
@@ -151,7 +151,7 @@ impl Store {
     }
 }
 
-/// Takes the first `count` out, and answers their octets.
+/// Removes the first `count` messages and returns the number of their octets.
 pub(crate) fn drop_front(queue: &mut VecDeque<Msu>, count: u8) -> u16
     requires there { count ≤ length queue.old.items }
     requires few { count ≤ 128 }

@@ -3,7 +3,7 @@ use Rattle.std.specs.VecDeque.{deque_capacity}
 use Rattle.resend_store.specs.Messages.{octets}
 use Rattle.resend_store.proofs.store.drop_front.Given as goal
 
--- the first _i are out, and weighed
+-- the first _i messages are removed, and their octets are counted
 abbrev pub invariant-loop-i : goal.invariant-loop-i
 invariant-loop-i l = record {
   left : l.queue.items ≡ drop l._i l.initial.queue.items;
