@@ -1,4 +1,4 @@
--- What holds of each item of a list, by recursion on the list.
+-- A predicate that holds for each element of a list, by recursion on the list.
 use Rattle.std.proofs.Common.{◌≡◌, ℕ, zero, suc, Bool, true, false, cond, List, [], ◌∷◌, ◌++◌, map, Some, None, refl, subst}
 use Rattle.std.specs.Prelude.{All, Contains, find, slice_get}
 use Rattle.std.specs.List.{list_any, flat_map}
@@ -55,7 +55,7 @@ pub each_both : {A : Type 0} (P Q : A → Type 0) (xs : List A) → Each P xs �
 each_both P Q [] h k = tt
 each_both P Q (x ∷ xs) h k = ((h.0, k.0), each_both P Q xs h.1 k.1)
 
--- the item at a place, and one among the list
+-- The element at an index, and an element that the list contains.
 pub each_at_place : {A : Type 0} (P : A → Type 0) (xs : List A) (n : ℕ) (x : A) → Each P xs → slice_get xs n ≡ Some x → P x
 each_at_place P [] n x h e = absurd (none-some x e)
 each_at_place P (y ∷ xs) zero x h e = subst P (same_Some y x e) h.0
@@ -64,13 +64,13 @@ each_at_place P (y ∷ xs) (suc n) x h e = each_at_place P xs n x h.1 e
 pub each_at : {A : Type 0} (P : A → Type 0) (xs : List A) (x : A) → Each P xs → Contains xs x → P x
 each_at P xs x h there = All-contains P xs x (all_items P xs h) there
 
--- ---- lists that are empty
+-- ---- lists of lists that are all empty
 
 pub each_nil : {A : Type 0} (f : A → List ℕ) (xs : List A) → flat_map f xs ≡ [] → Each (λ x. f x ≡ []) xs
 each_nil f [] e = tt
 each_nil f (x ∷ xs) e = (nil_front (f x) (flat_map f xs) e, each_nil f xs (nil_back (f x) (flat_map f xs) e))
 
--- ---- tests that no item passes
+-- ---- tests that no element passes
 
 pub each_false : {A : Type 0} (p : A → Bool) (xs : List A) → list_any p xs ≡ false → Each (λ x. p x ≡ false) xs
 each_false p [] e = tt

@@ -1,4 +1,4 @@
--- Lists by places.
+-- Lists and the elements at their indices.
 use Rattle.std.proofs.Common.{◌≡◌, ◌≢◌, ℕ, zero, suc, ◌+◌, ◌<◌, Bool, true, List, [], ◌∷◌, ◌++◌, length, refl, ap, sym, ◌∙◌, subst, arith, inl, inr, ◌⊎◌, Option, Some, None, take}
 use Rattle.std.specs.Prelude.{slice_get, slice_set, Contains, All}
 use Rattle.std.specs.List.{list_any}
@@ -14,7 +14,7 @@ get_push_old [] x y i h = let bad : None ≡ Some y = h in cc
 get_push_old (z ∷ xs) x y zero h = h
 get_push_old (z ∷ xs) x y (suc i) h = get_push_old xs x y i h
 
--- what stands there stood there before, or is the new one
+-- The element at an index was there before the push, or is the new one.
 pub get_push_cases : {A : Type 0} (xs : List A) (x y : A) (i : ℕ) → slice_get (xs ++ x ∷ []) i ≡ Some y
     → (slice_get xs i ≡ Some y) ⊎ ((i ≡ length xs) × (y ≡ x))
 get_push_cases [] x y zero h = inr (refl, (let e : Some x ≡ Some y = h in cc))
@@ -36,7 +36,7 @@ get_set_cases (x ∷ xs) (suc k) (suc j) a b h = elim (get_set_cases xs k j a b 
   | inr e ↦ inr ((λ f. e.0 (omega (arith, f))), e.1)
 ]
 
--- one thing at a place
+-- An index has at most one element.
 pub get_one : {A : Type 0} (o : Option A) (a b : A) → o ≡ Some a → o ≡ Some b → a ≡ b
 get_one o a b x y = let e : Some a ≡ Some b = sym x ∙ y in cc
 
@@ -65,6 +65,6 @@ take_get (y ∷ xs) zero i x within h = absurd (omega (arith, within))
 take_get (y ∷ xs) (suc n) zero x within h = h
 take_get (y ∷ xs) (suc n) (suc i) x within h = take_get xs n i x (omega (arith, within)) h
 
--- an element of a row that stands for another
+-- A bound on the elements of a row holds for an equal row.
 pub within_row : (xs ys : List ℕ) (n m : ℕ) → xs ≡ ys → n ≡ m → All (λ y. y < n) ys → All (λ x. x < m) xs
 within_row xs ys n m e same h = subst (λ (l : List ℕ). All (λ x. x < m) l) (sym e) (subst (λ k. All (λ y. y < k) ys) same h)

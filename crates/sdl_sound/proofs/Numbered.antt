@@ -1,4 +1,4 @@
--- Names, their numbers in a list, and names that are the same.
+-- Names, their numbers in a list, and spellings of one name.
 use Rattle.std.proofs.Common.{◌≡◌, ℕ, suc, zero, true, false, Bool, List, [], ◌∷◌, ◌++◌, length, None, Some, refl, sym, ap, ◌∙◌, subst, get_or, cond, inl, inr, position}
 use Rattle.std.specs.Prelude.{slice_get, bytes_eq, find}
 use Rattle.std.specs.List.{list_any, position_or_len}
@@ -22,7 +22,7 @@ same_folded x y h = (bytes_eq-Decides (folded x) (folded y)).0 h
 pub folded_same : (x y : List ℕ) → folded x ≡ folded y → same_name x y ≡ true
 folded_same x y h = (bytes_eq-Decides (folded x) (folded y)).1 h
 
--- the identifier with a number has the name
+-- The identifier at the number of a name has that name.
 pub number_names : (ids : List Identifier) (x : List ℕ) (n : ℕ) → number_of ids x ≡ Some n
     → (id : Identifier) × (slice_get ids n ≡ Some id) × (same_name x id.name ≡ true)
 number_names ids x n h =
@@ -36,7 +36,7 @@ same_back x y h = folded_same y x (sym (same_folded x y h))
 pub same_trans : (x y z : List ℕ) → same_name x y ≡ true → same_name y z ≡ true → same_name x z ≡ true
 same_trans x y z h k = folded_same x z (same_folded x y h ∙ same_folded y z k)
 
--- two spellings of one name are among the same names, and have one number
+-- Two spellings of one name occur in the same lists, and have the same number.
 pub in_alike : (ids : List Identifier) (x y : List ℕ) → folded x ≡ folded y → is_in ids x ≡ is_in ids y
 in_alike ids x y e = ap (λ k. list_any (λ (id : Identifier). bytes_eq k (folded id.name)) ids) e
 
@@ -46,7 +46,7 @@ number_alike ids x y h = ap (λ f. position (λ (id : Identifier). bytes_eq f (f
 pub name_back : (x y z : List ℕ) → same_name x z ≡ true → same_name y z ≡ true → same_name x y ≡ true
 name_back x y z h k = folded_same x y (same_folded x z h ∙ sym (same_folded y z k))
 
--- ---- a name among others
+-- ---- a name in a list
 
 pub some_number : (ids : List Identifier) (y : List ℕ) (k : ℕ) (id : Identifier) → slice_get ids k ≡ Some id → same_name y id.name ≡ true → number_of ids y ≡ None → ⊥
 some_number ids y k id there same none =
@@ -61,7 +61,7 @@ nowhere ids y k id none there = elim (cases_Bool (same_name y id.name)) [
   | inr other ↦ other
 ]
 
--- a connection whose name has no number isn't there
+-- If no element passes the test, none is found.
 find_none : {A : Type 0} (p : A → Bool) (xs : List A) → ((k : ℕ) (x : A) → slice_get xs k ≡ Some x → p x ≡ false) → find p xs ≡ None
 find_none p [] h = refl
 find_none p (x ∷ xs) h = ap (λ b. cond b (Some x) (find p xs)) (h 0 x refl) ∙ find_none p xs (λ k. h (suc k))
@@ -70,7 +70,7 @@ pub unnumbered : (p : PlainProcess) (y : List ℕ) → number_of (connector_name
 unnumbered p y e = find_none (λ c. same_name y c.name.name) p.connections (λ k c there.
     nowhere (connector_names p) y k c.name e (slice_get-map (λ (c : PlainConnection). c.name) p.connections k ∙ ap (option_map (λ (c : PlainConnection). c.name)) there))
 
--- ---- where no name is there twice
+-- ---- lists without duplicate names
 
 pub fresh : (before ids : List Identifier) (j : ℕ) (b : Identifier) → repeats before ids ≡ [] → slice_get ids j ≡ Some b → is_in before b.name ≡ false
 fresh before [] j b h there = absurd (none-some b there)

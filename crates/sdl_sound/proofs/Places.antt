@@ -1,4 +1,4 @@
--- The first place of one list and another, and of one element more.
+-- The first place in two lists together, and in a list with one more element.
 use Rattle.std.proofs.Common.{◌≡◌, ℕ, zero, suc, ◌+◌, ◌<◌, true, ◌||◌, List, [], ◌∷◌, ◌++◌, Option, Some, None, if◌then◌else◌, map, take, length, get_or, sym, ap, ◌∙◌, subst}
 use Rattle.std.specs.Prelude.{slice_get, Contains}
 use Rattle.std.specs.List.{flat_map}
@@ -11,7 +11,7 @@ use Rattle.sdl_tables.specs.sdl_ast_types.expression.Identifier.{Identifier}
 use Rattle.sdl_tables.specs.Names.{same_name, is_in}
 use Rattle.sdl_tables.specs.Scopes.{Marks}
 
--- a name of the second list is none that both lack
+-- A name in the second list is known in both lists together.
 pub known-second : (xs ys : List Identifier) (id : Identifier) → is_in ys id.name ≡ true
     → (if is_in (xs ++ ys) id.name then [] else id.at ∷ []) ≡ []
 known-second xs ys id h =
@@ -19,7 +19,7 @@ known-second xs ys id h =
     list_any-append (λ i. same_name id.name i.name) xs ys ∙ (ap (λ b. is_in xs id.name || b) h ∙ or-true (is_in xs id.name)) in
     ap (λ b. if b then [] else id.at ∷ []) both
 
--- the places of one more
+-- The places with one more element.
 pub Marks-more : {A X : Type 0} (f : X → List ℕ) (g : A → X) (zs : List A) (i : ℕ) (a : A) (one other both : Option ℕ)
     → i < length zs → a ≡ get_or zs i a → Marks one (flat_map f (map g (take i zs))) → Marks other (f (g a))
     → ((xs ys : List ℕ) → Marks one xs → Marks other ys → Marks both (xs ++ ys))
@@ -32,7 +32,7 @@ Marks-more f g zs i a one other both lt is m n join =
     ∙ (flat_map-append f (map g (take i zs)) (g a ∷ []) ∙ ap (λ r. flat_map f (map g (take i zs)) ++ r) (append-nil (f (g a))))) in
     subst (Marks both) (sym places) (join (flat_map f (map g (take i zs))) (f (g a)) m n)
 
--- none of one more
+-- If one more element has no place, there is still none.
 pub none-more : {A X : Type 0} (f : X → List ℕ) (g : A → X) (zs : List A) (i : ℕ) (a : A) → i < length zs → a ≡ get_or zs i a
     → flat_map f (map g (take i zs)) ≡ [] → f (g a) ≡ [] → flat_map f (map g (take (i + 1) zs)) ≡ []
 none-more f g zs i a lt is m n =
@@ -41,7 +41,7 @@ none-more f g zs i a lt is m n =
     ∙ (ap (flat_map f) (map-append g (take i zs) (a ∷ []))
     ∙ (flat_map-append f (map g (take i zs)) (g a ∷ []) ∙ ap (λ r. r ++ (f (g a) ++ [])) m ∙ ap (λ r. r ++ []) n))
 
--- a place of one of them is a place of all
+-- A place of an element is a place of the whole list.
 pub place-among : {X : Type 0} (f : X → List ℕ) (xs : List X) (i : ℕ) (x : X) (at : ℕ) → slice_get xs i ≡ Some x → Contains (f x) at
     → Contains (flat_map f xs) at
 place-among f [] i x at there h = let bad : None ≡ Some x = there in absurd (cc)

@@ -1,2 +1,2 @@
--- Lists of places with nothing in them: handed on.
+-- Re-exports lemmas on empty lists of places.
 pub use Rattle.sdl_tables.proofs.Lists.{append-nil_left, append-nil_right}

@@ -1,4 +1,4 @@
--- What the events of one walk and then another read and set.
+-- The reads and sets in the events of one walk followed by another.
 use Rattle.std.proofs.Common.{◌≡◌, ℕ, true, false, not, ◌&&◌, ◌||◌, List, [], ◌∷◌, ◌++◌, refl, sym, ap, ◌∙◌}
 use Rattle.std.proofs.lemmas.Bool.{and_from, or_right}
 use Rattle.std.proofs.Math.Bool.{and_assoc, or_assoc}
@@ -23,7 +23,7 @@ reads_first-append (reads y ∷ xs) ys x =
 reads_first-append (sets y ∷ xs) ys x =
     set_now (same_name x y) (reads_first xs x) (sets_in xs x) (reads_first ys x) (reads_first (xs ++ ys) x) (reads_first-append xs ys x)
 
--- what isn't set before is read first where it is read first behind
+-- A variable that isn't set in the first events, and is read first in the second, is read first in both.
 pub reads-later : (xs ys : List Event) (x : List ℕ) → sets_in xs x ≡ false → reads_first ys x ≡ true → reads_first (xs ++ ys) x ≡ true
 reads-later xs ys x h r =
     reads_first-append xs ys x ∙ or_right (reads_first xs x) (not (sets_in xs x) && reads_first ys x) (and_from (not (sets_in xs x)) (reads_first ys x) (ap not h) r)

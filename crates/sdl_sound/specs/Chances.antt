@@ -1,4 +1,4 @@
--- What the walks of a text may do with one variable. (Z.100: the transitions of a process graph.)
+-- What walks of a text can do with one variable. (Z.100: the transitions of a process graph.)
 use Rattle.std.specs.Prelude.{ℕ, zero, suc, Bool, true, false, not, ◌&&◌, ◌||◌, List, length}
 use Rattle.std.specs.Option.{option_map_or}
 use Rattle.sdl_tables.specs.sdl_ast_types.expression.Identifier.{Identifier}
@@ -9,8 +9,8 @@ use Rattle.sdl_tables.specs.Plain.{otherwise, answer, PlainProcess}
 use Rattle.sdl_tables.specs.Names.{is_state, connection_named, states_of}
 use Rattle.sdl_sound.specs.Paths.{Event, tree_events, action_events, reads_first, sets_in}
 
--- whether some walk reads the variable before it sets it, whether some walk runs off the end and
--- doesn't set it, and whether some walk ends in a certain state and doesn't set it
+-- Whether some walk reads the variable before it sets it; whether some walk runs off the end
+-- without setting it; whether some walk ends in a given state without setting it.
 pub record Chances : Type 0 where
   pub reads : Bool
   pub leaves : Bool
@@ -19,16 +19,16 @@ pub record Chances : Type 0 where
 abbrev pub no_chances : Chances
 no_chances = record { reads = false; leaves = false; enters = false }
 
--- nothing at all runs off its end
+-- an empty text only runs off its end
 abbrev pub leaving : Chances
 leaving = record { reads = false; leaves = true; enters = false }
 
--- some events, with nothing else beside them
+-- a list of events, without alternatives
 abbrev pub event_chances : List Event → List ℕ → Chances
 event_chances events x =
     record { reads = reads_first events x; leaves = not (sets_in events x); enters = false }
 
--- one thing behind another
+-- one part followed by another
 abbrev pub behind : Chances → Chances → Chances
 behind a b = record {
   reads = a.reads || (a.leaves && b.reads);
@@ -36,7 +36,7 @@ behind a b = record {
   enters = a.enters || (a.leaves && b.enters);
 }
 
--- one thing beside another
+-- one part as an alternative to another
 abbrev pub beside : Chances → Chances → Chances
 beside a b =
     record {
@@ -46,11 +46,11 @@ beside a b =
           || b.enters;
     }
 
--- nothing stands behind a connection
+-- nothing follows the text of a connection
 abbrev pub last_chances : Chances → Chances
 last_chances a = record { reads = a.reads; leaves = false; enters = a.enters }
 
--- variable x and state q at an end; `join` tells what may happen in a connection
+-- variable x and state q at an end; `join` returns the chances of a connection
 abbrev pub end_chances : List Identifier → (List ℕ → Chances) → ℕ → End → Chances
 end_chances states join q (NextState n) =
     record { reads = false; leaves = false; enters = is_state states q n.state.name }
@@ -73,18 +73,18 @@ abbrev mutual
   choice_chances states join x q (answer at ranges body others) =
       beside (chances states join x q body) (choice_chances states join x q others)
 
--- the connection with a name, where at most so many JOINs are followed
+-- the connection with a name, if at most n JOINs are followed
 abbrev pub chances_by : PlainProcess → ℕ → List ℕ → ℕ → List ℕ → Chances
 chances_by p zero x q y = no_chances
 chances_by p (suc n) x q y =
     option_map_or (λ c. last_chances (chances (states_of p) (chances_by p n x q) x q c.text))
     (connection_named p y) no_chances
 
--- a connection, where no JOIN comes back: each walk follows no more JOINs than there are
--- connections
+-- A connection, if no JOIN leads back to its own: then each walk follows at most as many JOINs as
+-- there are connections.
 abbrev pub joined_chances : PlainProcess → List ℕ → ℕ → List ℕ → Chances
 joined_chances p x q y = chances_by p (length p.connections) x q y
 
--- a transition's text
+-- the text of a transition
 abbrev pub text_chances : PlainProcess → Text → List ℕ → ℕ → Chances
 text_chances p t x q = chances (states_of p) (joined_chances p x q) x q t

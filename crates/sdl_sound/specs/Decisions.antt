@@ -1,7 +1,7 @@
--- Which DECISIONs aren't answered: those of Integers without ELSE; those of Booleans in which TRUE
--- or FALSE isn't answered exactly once, where ELSE answers what no answer names, and one of the two
--- has to be left for it; and those with an answer for no value, which no text can have. (Z.100:
--- decisions; that ELSE is wanted is this profile's own.)
+-- DECISIONs that aren't answered properly. An Integer one requires ELSE (this profile's own). In a
+-- Boolean one TRUE and FALSE must each be answered exactly once; ELSE answers the values not named,
+-- and at least one must be left. Each answer must have values, which it has in every text. (Z.100:
+-- decisions.)
 use Rattle.std.specs.Prelude.{ℕ, ◌+◌, Bool, true, false, ◌&&◌, List, [], ◌∷◌, if◌then◌else◌, length}
 use Rattle.std.specs.Prelude.{nat_eq, nat_lt, sum_by}
 use Rattle.std.specs.List.{flat_map}
@@ -22,7 +22,7 @@ has_else nothing_else = false
 has_else (otherwise body) = true
 has_else (answer at ranges body others) = has_else others
 
--- whether a constant is this truth value
+-- 1 if the constant is this truth value, else 0
 abbrev pub is_value : Bool → Literal → ℕ
 is_value b (Integer k) = 0
 is_value true (Boolean true) = 1
@@ -35,27 +35,27 @@ names_value b (Value c) = is_value b c.value
 names_value b (Compared at relation c) = 0
 names_value b (Between low high) = 0
 
--- how often a truth value is named in the answers
+-- how often the answers name a truth value
 abbrev pub times_named : Bool → Choice → ℕ
 times_named b nothing_else = 0
 times_named b (otherwise body) = 0
 times_named b (answer at ranges body others) = sum_by (names_value b) ranges + times_named b others
 
--- Each truth value is answered exactly once: without ELSE each is named once; with ELSE, which
--- answers what is left, one of them at most, and once.
+-- Each truth value is answered exactly once. Without ELSE each is named once. With ELSE at most one
+-- of them is named, and once.
 abbrev pub answers_both : Choice → Bool
 answers_both c =
     if has_else c
     then nat_lt (times_named true c + times_named false c) 2
     else nat_eq (times_named true c) 1 && nat_eq (times_named false c) 1
 
--- each answer is for some value; an answer of a text always is
+-- each answer has values; an answer in a text always has
 abbrev pub has_values : Choice → Bool
 has_values nothing_else = true
 has_values (otherwise body) = true
 has_values (answer at ranges body others) = nat_lt 0 (length ranges) && has_values others
 
--- whether each value that the question may have is answered, and each answer is for some
+-- each value of the question is answered, and each answer has values
 abbrev pub is_answered : List Variable → Tree → Choice → Bool
 is_answered vs q c = has_values c && (if is_truth vs q then answers_both c else has_else c)
 

@@ -1,4 +1,4 @@
--- What may stand right of a division. (Z.100: Integer operators; that it is a literal is this
+-- The right operand of a division. (Z.100: Integer operators; that it must be a literal is this
 -- profile's own.)
 use Rattle.std.specs.Prelude.{ℕ, Bool, true, false, not, ◌&&◌, List, [], ◌∷◌, ◌++◌, if◌then◌else◌}
 use Rattle.std.specs.Prelude.{nat_lt, nat_le}
@@ -21,7 +21,7 @@ use Rattle.sdl_tables.specs.Names.{processes_of}
 use Rattle.sdl_sound.specs.Statements.{Statement, acts, asks, covers, finishes}
 use Rattle.sdl_sound.specs.Actions.{in_statements}
 
--- ---- S9: right of `/`, MOD or REM anything but a number of 1 or more
+-- ---- S9: the right operand of `/`, MOD or REM must be a number of 1 or more
 
 abbrev pub divides : BinaryOperator → Bool
 divides Or = false
@@ -40,7 +40,7 @@ divides Divide = true
 divides Modulo = true
 divides Remainder = true
 
--- a number of 1 or more, and none past the greatest; parentheses round it leave it one
+-- a number from 1 to the greatest number, with or without parentheses
 abbrev pub is_divisor : Tree → Bool
 is_divisor (number at value) = nat_lt 0 value && nat_le value GREATEST_NUMBER
 is_divisor (truth at value) = false

@@ -1,5 +1,5 @@
 -- S4: a NEXTSTATE to a state without STATE, a list of actions that runs off its end, or a statement
--- behind a DECISION none of whose bodies goes on. (Z.100: nextstate, terminators.)
+-- after a DECISION that no body continues past. (Z.100: nextstate, terminators.)
 use Rattle.std.specs.Prelude.{ℕ, List, [], ◌∷◌, ◌++◌, if◌then◌else◌}
 use Rattle.std.specs.List.{flat_map}
 use Rattle.sdl_tables.specs.sdl_ast_types.expression.Identifier.{Identifier}
@@ -22,7 +22,7 @@ end_place (NextState n) = n.at
 end_place (Stop at) = at
 end_place (Join j) = j.at
 
--- the place of the statement with which a text begins; none where nothing stands there
+-- the place of the first statement of a text; none if the text is empty
 abbrev pub first_place : Text → List ℕ
 first_place falls = []
 first_place (ends e) = end_place e ∷ []
@@ -35,8 +35,8 @@ stray_end states (Stop at) = []
 stray_end states (Join j) = []
 
 abbrev mutual
-  -- The places in a text that has `off` where it runs off its end. What stands behind a DECISION
-  -- none of whose bodies goes on is named in place of that end.
+  -- The places of bad ends in a text; `off` are those for running off its end. If no body of a
+  -- DECISION continues past it, the statement after it is reported instead.
   pub strays : List Identifier → List ℕ → Text → List ℕ
   strays states off falls = off
   strays states off (ends e) = stray_end states e
@@ -46,14 +46,14 @@ abbrev mutual
       ++ (if choice_goes_on c then strays states off rest
       else first_place rest ++ strays states [] rest)
 
-  -- a body that runs off its end goes on behind its DECISION
+  -- a body that runs off its end continues after its DECISION, so that is no fault
   pub choice_strays : List Identifier → Choice → List ℕ
   choice_strays states nothing_else = []
   choice_strays states (otherwise body) = strays states [] body
   choice_strays states (answer at ranges body others) =
       strays states [] body ++ choice_strays states others
 
--- a list that runs off its end is named by its START, INPUT or CONNECTION
+-- a list that runs off its end is reported at its START, INPUT or CONNECTION
 abbrev pub input_strays : PlainProcess → PlainInput → List ℕ
 input_strays p i = strays (states_of p) (i.at ∷ []) i.text
 

@@ -1,5 +1,5 @@
--- Where JOINs lead: which connections a transition goes on with, and which come back to themselves.
--- (Z.100: joins, in-connectors.)
+-- The connections that JOINs lead to, and JOINs that lead back to their own connection. (Z.100:
+-- joins, in-connectors.)
 use Rattle.std.specs.Prelude.{ℕ, zero, suc, Bool, ◌||◌, List, [], ◌∷◌, if◌then◌else◌, length}
 use Rattle.std.specs.Prelude.{filter}
 use Rattle.std.specs.List.{list_any, flat_map}
@@ -13,26 +13,26 @@ use Rattle.sdl_sound.specs.Statements.{joins_of}
 abbrev pub joins_at : PlainProcess → List ℕ → List Join
 joins_at p y = option_map_or (λ c. joins_of c.text) (connection_named p y) []
 
--- whether a JOIN to connector y comes to connector x, by at most so many more JOINs
+-- a JOIN to connector y leads to connector x, by at most n more JOINs
 abbrev pub comes_by : PlainProcess → ℕ → List ℕ → List ℕ → Bool
 comes_by p zero y x = same_name x y
 comes_by p (suc n) y x =
     same_name x y || list_any (λ j. comes_by p n j.connector.name x) (joins_at p y)
 
--- Whether it comes there at all: the shortest way meets no connection twice, so it has no more
--- JOINs than there are connections.
+-- A JOIN to connector y leads to connector x. The shortest way meets no connection twice, so it has
+-- no more JOINs than there are connections.
 abbrev pub comes : PlainProcess → List ℕ → List ℕ → Bool
 comes p y x = comes_by p (length p.connections) y x
 
--- whether a text comes to connector x
+-- the JOINs of a text lead to connector x
 abbrev pub reaches : PlainProcess → Text → List ℕ → Bool
 reaches p t x = list_any (λ j. comes p j.connector.name x) (joins_of t)
 
--- the connections to which a text comes, each once
+-- the connections to which the JOINs of a text lead, without duplicates
 abbrev pub reached : PlainProcess → Text → List PlainConnection
 reached p t = filter (λ c. reaches p t c.name.name) p.connections
 
--- ---- S7: a JOIN in a connection that comes back to it
+-- ---- S7: a JOIN that leads back to its own connection
 
 abbrev pub comes_back : PlainProcess → PlainConnection → Join → List ℕ
 comes_back p c j = if comes p j.connector.name c.name.name then j.at ∷ [] else []

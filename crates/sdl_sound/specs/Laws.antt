@@ -1,4 +1,4 @@
--- What holds of the transitions of all sound processes.
+-- Laws of the transitions of sound processes.
 use Rattle.std.specs.Prelude.{◌≡◌, ◌⊎◌, ℕ, ◌≤◌, true, false, List, [], Contains, ◌++◌, Option, Some}
 use Rattle.sdl_tables.specs.Plain.{Text, PlainConnection, PlainProcess, PlainBlock}
 use Rattle.sdl_tables.specs.Names.{Input, inputs_of, processes_of, number_of, states_of}
@@ -9,14 +9,14 @@ use Rattle.sdl_sound.specs.Orders.{IsOrder}
 use Rattle.sdl_sound.specs.Paths.{Transition, sets_in, Event, IsWalk, reads_first}
 use Rattle.sdl_sound.specs.Chances.{text_chances}
 
--- some walk of the transition reads x, and sets it nowhere before
+-- some walk of the transition reads x, and doesn't set it before
 pub record Reads (p : PlainProcess) (t : Transition) (x : List ℕ) : Type 0 where
   pub events : List Event
   pub end : Option (List ℕ)
   pub walk : IsWalk p t.text events end
   pub first : reads_first (t.first ++ events) x ≡ true
 
--- some walk of the transition ends in state q, and sets x nowhere
+-- some walk of the transition ends in state q, and doesn't set x
 pub record Keeps (p : PlainProcess) (t : Transition) (x : List ℕ) (q : ℕ) : Type 0 where
   pub events : List Event
   pub state : List ℕ
@@ -24,15 +24,14 @@ pub record Keeps (p : PlainProcess) (t : Transition) (x : List ℕ) (q : ℕ) : 
   pub number : number_of (states_of p) state ≡ Some q
   pub keeps : sets_in (t.first ++ events) x ≡ false
 
--- the texts of a process: that of START, those of the inputs of its states, and those of its
--- connections
+-- the texts of a process: those of START, of the inputs of its states, and of its connections
 abbrev pub IsTextOf : PlainProcess → Text → Type 0
 IsTextOf p t =
     (t ≡ p.start.text)
     ⊎ ((s : ℕ) × (i : Input) × Contains (inputs_of p s) i × (t ≡ i.text))
     ⊎ ((c : PlainConnection) × Contains p.connections c × (t ≡ c.text))
 
--- what may happen to a variable that is not set before, some walk does
+-- for a variable that isn't set before the text, each chance is the effect of some walk
 abbrev pub ChancesLaw : Type 0
 ChancesLaw =
     (b : PlainBlock) (p : PlainProcess) (order : List ℕ) (t : Transition) (x : List ℕ) (q : ℕ)
@@ -41,7 +40,7 @@ ChancesLaw =
     → ((text_chances p t.text x q).reads ≡ true
     → Reads p t x) × ((text_chances p t.text x q).enters ≡ true → Keeps p t x q)
 
--- Where no JOIN comes back to its connection, no walk of a text costs more instructions than the
--- code of the text has, with that of the connections to which it comes.
+-- If no JOIN leads back to its connection, no walk of a text costs more instructions than the code
+-- of the text and of the connections that it reaches.
 abbrev pub BudgetLaw : Type 0
 BudgetLaw = (p : PlainProcess) (t : Text) → process_cycles p ≡ [] → text_budget p t ≤ text_size p t

@@ -1,4 +1,4 @@
--- S10: the limits of this profile, in this order.
+-- S10: the limits of this profile, in the order in which they are checked.
 use Rattle.std.specs.Prelude.{ℕ, Bool, ◌||◌, List, [], ◌∷◌, ◌++◌, Option, length, nat_lt, find}
 use Rattle.std.specs.Prelude.{sum_by}
 use Rattle.std.specs.List.{list_any}
@@ -14,7 +14,7 @@ use Rattle.sdl_sound.specs.declared.fault.Limit.TheVariants.{Signals, Params, Pi
 use Rattle.sdl_sound.specs.declared.fault.Limit.TheVariants.{Piece as PieceSize, Depth, Effects}
 use Rattle.sdl_sound.specs.declared.fault.Limit.TheVariants.{Instances}
 
--- fewer than 1, which no text can have, or more than there may be
+-- fewer than 1 instance, which is impossible in a text, or more than the limit
 abbrev pub wrong_instances : ℕ → Bool
 wrong_instances n = nat_lt n 1 || nat_lt MOST_INSTANCES n
 
@@ -38,17 +38,17 @@ exceeds b Effects =
     (processes_of b)
 exceeds b Instances = list_any (λ p. wrong_instances p.instances) (processes_of b)
 
--- those on how many there are
+-- the limits on numbers of processes, states and so on
 abbrev pub number_limits : List Limit
 number_limits = Processes ∷ States ∷ Variables ∷ Timers ∷ Signals ∷ Params ∷ Pieces ∷ []
 
--- those on a transition, and last that on instances
+-- the limits on a transition, followed by that on instances
 abbrev pub later_limits : List Limit
 later_limits = PieceSize ∷ Depth ∷ Effects ∷ Instances ∷ []
 
 abbrev pub limits : List Limit
 limits = number_limits ++ later_limits
 
--- the first limit that the block passes
+-- the first limit that the block exceeds
 abbrev pub first_limit : PlainBlock → Option Limit
 first_limit b = find (exceeds b) limits

@@ -1,5 +1,5 @@
--- S2: a name that its class and scope lack. A state after NEXTSTATE is not asked for here. (Z.100:
--- visibility, identifiers.)
+-- S2: a name that isn't declared in its class and scope. States after NEXTSTATE aren't checked
+-- here. (Z.100: visibility, identifiers.)
 use Rattle.std.specs.Prelude.{ℕ, List, [], ◌∷◌, ◌++◌, Option, None, Some, if◌then◌else◌}
 use Rattle.std.specs.List.{flat_map}
 use Rattle.std.specs.Option.{option_to_list}
@@ -20,7 +20,7 @@ use Rattle.sdl_tables.specs.Names.{part_saves}
 use Rattle.sdl_sound.specs.Statements.{Statement, acts, asks, covers, finishes}
 use Rattle.sdl_sound.specs.Actions.{in_statements}
 
--- the places of the identifiers whose names these lack
+-- the places of the identifiers whose names aren't in the first list
 abbrev pub unknown : List Identifier → List Identifier → List ℕ
 unknown among ids = flat_map (λ id. if is_in among id.name then [] else id.at ∷ []) ids
 
@@ -47,13 +47,13 @@ tree_names (binary at operator left right) = tree_names left ++ tree_names right
 abbrev pub assignment_names : PlainAssignment → List Identifier
 assignment_names a = a.variable ∷ tree_names a.value
 
--- a signal that goes out, with the variables of its parameters
+-- the unknown names in a signal sent: its own, and the variables of its parameters
 abbrev pub sending_unknown : PlainBlock → PlainProcess → PlainSending → List ℕ
 sending_unknown b p s =
     unknown (signal_names b) (s.signal ∷ [])
     ++ unknown (variable_names p) (flat_map tree_names s.parameters)
 
--- the process to which signals go, if it is named
+-- the destination process, if it is named
 abbrev pub destination_names : Option Destination → List Identifier
 destination_names None = []
 destination_names (Some (Sender at)) = []
@@ -79,11 +79,11 @@ statement_unknown b p (asks at q c) = unknown (variable_names p) (tree_names q)
 statement_unknown b p (covers q ranges) = []
 statement_unknown b p (finishes e) = unknown (connector_names p) (end_connectors e)
 
--- what an INPUT or a SAVE may name: a signal, or a timer of the process
+-- the names that an INPUT or a SAVE may use: signals, and timers of the process
 abbrev pub trigger_names : PlainBlock → PlainProcess → List Identifier
 trigger_names b p = signal_names b ++ timers_of p
 
--- the variables that get parameters
+-- the variables that receive parameters
 abbrev pub place_names : List (Option Identifier) → List Identifier
 place_names places = flat_map option_to_list places
 
@@ -94,11 +94,11 @@ stimulus_unknown b p s =
 abbrev pub input_unknown : PlainBlock → PlainProcess → PlainInput → List ℕ
 input_unknown b p i = flat_map (stimulus_unknown b p) i.stimuli
 
--- the names in the SAVEs of a STATE part
+-- the unknown names in the SAVEs of a STATE part
 abbrev pub saves_unknown : PlainBlock → PlainProcess → PlainState → List ℕ
 saves_unknown b p part = unknown (trigger_names b p) (part_saves part)
 
--- what INPUTs and SAVEs name, and every statement
+-- the unknown names in INPUTs, SAVEs and statements
 abbrev pub process_unknown : PlainBlock → PlainProcess → List ℕ
 process_unknown b p =
     flat_map (input_unknown b p) (input_parts p)

@@ -1,4 +1,4 @@
--- Orders of the connections of a process in which each stands behind all that its JOINs lead to.
+-- Orders of the connections of a process in which each comes after all connections that it joins.
 use Rattle.std.specs.Prelude.{◌≡◌, ◌<◌, ℕ, List, [], Option, Some, Result, Ok, Err, length, map}
 use Rattle.std.specs.Prelude.{slice_get, Contains, option_to_list}
 use Rattle.std.specs.List.{AllZip, flat_map}
@@ -10,19 +10,19 @@ use Rattle.sdl_tables.specs.Names.{number_of, connector_names, processes_of}
 use Rattle.sdl_sound.specs.Statements.{joins_of}
 use Rattle.sdl_sound.specs.Joins.{process_cycles, join_cycles}
 
--- the numbers of the names to which some JOINs lead
+-- the numbers of the connectors to which JOINs lead
 abbrev pub joins_in : List Identifier → List Join → List ℕ
 joins_in ids joins = flat_map (λ j. option_to_list (number_of ids j.connector.name)) joins
 
--- those of the connections of a process
+-- the numbers of a process's connections to which JOINs lead
 abbrev pub targets_of : PlainProcess → List Join → List ℕ
 targets_of p joins = joins_in (connector_names p) joins
 
--- those of each connection
+-- for each connection, the numbers of the connections to which its JOINs lead
 abbrev pub links_of : PlainProcess → List (List ℕ)
 links_of p = map (λ c. targets_of p (joins_of c.text)) p.connections
 
--- The numbers of the connections, each once; and each JOIN of a connection leads to one that stands
+-- Each connection's number is in the list once. Each JOIN of a connection leads to one that comes
 -- before it.
 pub record IsOrder (p : PlainProcess) (order : List ℕ) : Type 0 where
   pub count : length order ≡ length p.connections
@@ -35,16 +35,16 @@ pub record IsOrder (p : PlainProcess) (order : List ℕ) : Type 0 where
       → Contains (joins_of c.text) j → number_of (connector_names p) j.connector.name ≡ Some m
       → (k : ℕ) × (k < i) × (slice_get order k ≡ Some m)
 
--- an order of each process
+-- the lists are an order for each process
 abbrev pub AreOrders : List PlainProcess → List (Vec ℕ) → Type 0
 AreOrders ps orders = AllZip (λ p (v : Vec ℕ). IsOrder p v.items) ps orders
 
--- an order, where no JOIN comes back; or the place of one that does
+-- an order, if no JOIN leads back to its connection; otherwise the place of a JOIN that does
 abbrev pub IsOrdered : PlainProcess → Result (Vec ℕ) (Option ℕ) → Type 0
 IsOrdered p (Ok order) = IsOrder p order.items × (process_cycles p ≡ [])
 IsOrdered p (Err place) = (at : ℕ) × (place ≡ Some at) × Contains (process_cycles p) at
 
--- the same for all processes of a block
+-- an order for each process of a block, or the place of a JOIN that leads back
 abbrev pub AreOrdered : PlainBlock → Result (Vec (Vec ℕ)) ℕ → Type 0
 AreOrdered b (Ok orders) = AreOrders (processes_of b) orders.items × (join_cycles b ≡ [])
 AreOrdered b (Err at) = Contains (join_cycles b) at

@@ -1,4 +1,4 @@
--- The statements in the parts of a transition, as the code goes over them.
+-- The statements in the parts of a transition, in the form in which the code visits them.
 use Rattle.std.specs.Prelude.{List, [], ◌∷◌, Option, None, Some}
 use Rattle.sdl_tables.specs.sdl_ast_types.tree.End.{End}
 use Rattle.sdl_tables.specs.sdl_ast_types.tree.Statement as the_statement
@@ -12,7 +12,7 @@ use Rattle.sdl_sound.specs.Statements.{choice_statements}
 abbrev pub statement_parts : the_statement.Statement → List Statement
 statement_parts s = statements_of (statement_of s falls)
 
--- a DECISION itself
+-- a DECISION as a statement
 abbrev pub question_of : Decision → Statement
 question_of d = asks (out-Decision d).at (tree_of (out-Decision d).question) (choice_of d)
 

@@ -1,5 +1,5 @@
--- Control paths, and what is read on them before it is set. (Z.100: the transitions of a process
--- graph.)
+-- Control paths, and reads of variables that aren't set before. (Z.100: the transitions of a
+-- process graph.)
 use Rattle.std.specs.Prelude.{◌≡◌, ◌⊎◌, ◌<◌, ◌≤◌, ℕ, zero, suc, Bool, true, false, not, ◌&&◌, ◌||◌}
 use Rattle.std.specs.Prelude.{List, [], ◌∷◌, ◌++◌, length, Option, None, Some, if◌then◌else◌, map}
 use Rattle.std.specs.Prelude.{All, Contains, is_some}
@@ -28,7 +28,7 @@ tree_events t = map (λ id. reads id.name) (tree_names t)
 abbrev pub assignment_events : PlainAssignment → List Event
 assignment_events a = tree_events a.value ++ sets a.variable.name ∷ []
 
--- a signal that goes out reads its parameters, in order
+-- a signal sent reads its parameters, in order
 abbrev pub sending_events : PlainSending → List Event
 sending_events s = flat_map tree_events s.parameters
 
@@ -39,15 +39,14 @@ action_events (output at sendings to) = flat_map sending_events sendings
 action_events (set_timer at delay timer) = tree_events delay
 action_events (reset_timer at timer) = []
 
--- How a walk of a text ends: it runs off the text's end, so that what stands behind the text is
+-- How a walk of a text ends: it runs off the text's end, and the statements after the text are
 -- next; it stops; or it ends in the state with a name.
 pub data Way : Type 0 where
   onward : Way
   stops : Way
   enters : List ℕ → Way
 
--- what stands behind a DECISION is walked where the body runs off its end, and nothing where it
--- doesn't
+-- The statements after a DECISION are walked if the body runs off its end, and not otherwise.
 abbrev pub GoesOn : Way → (List Event → Way → Type 0) → List Event → Way → Type 0
 GoesOn onward rest after way = rest after way
 GoesOn stops rest after way = (after ≡ []) × (way ≡ stops)
@@ -55,8 +54,8 @@ GoesOn (enters s) rest after way = (after ≡ []) × (way ≡ enters s)
 
 abbrev mutual
   -- A walk of a text: its reads and sets in order, and how it ends. A DECISION reads its question,
-  -- and then some one of its bodies is walked; a JOIN goes on with a walk of its connection, which
-  -- `join` tells.
+  -- and then one of its bodies is walked. A JOIN continues with a walk of its connection, which
+  -- `join` describes.
   pub Walks : (List ℕ → List Event → Way → Type 0) → Text → List Event → Way → Type 0
   Walks join falls events way = (events ≡ []) × (way ≡ onward)
   Walks join (ends (NextState n)) events way = (events ≡ []) × (way ≡ enters n.state.name)
@@ -68,55 +67,55 @@ abbrev mutual
       (chosen after : List Event) × (between : Way) × (events ≡ tree_events q ++ (chosen ++ after))
       × IsChosen join c chosen between × GoesOn between (Walks join rest) after way
 
-  -- a walk of one of the bodies; that of an answer may be taken by each of its ranges
+  -- a walk of one of the bodies; any range of an answer may select its body
   pub IsChosen : (List ℕ → List Event → Way → Type 0) → Choice → List Event → Way → Type 0
   IsChosen join nothing_else events way = ⊥
   IsChosen join (otherwise body) events way = Walks join body events way
   IsChosen join (answer at ranges body others) events way =
       Walks join body events way ⊎ IsChosen join others events way
 
--- nothing stands behind a connection
+-- nothing follows the text of a connection
 abbrev pub last_way : Way → Way
 last_way onward = stops
 last_way stops = stops
 last_way (enters s) = enters s
 
--- a walk of the connection with a name that follows fewer JOINs than it says
+-- a walk of the connection with a name that follows fewer than n JOINs
 abbrev pub Follows : PlainProcess → ℕ → List ℕ → List Event → Way → Type 0
 Follows p zero x events way = ⊥
 Follows p (suc n) x events way =
     (c : PlainConnection) × (connection_named p x ≡ Some c)
     × (inner : Way) × Walks (Follows p n) c.text events inner × (way ≡ last_way inner)
 
--- the state in which a walk of a transition ends; none where it stops or runs off its end
+-- the state in which a walk of a transition ends; none if it stops or runs off its end
 abbrev pub way_state : Way → Option (List ℕ)
 way_state onward = None
 way_state stops = None
 way_state (enters s) = Some s
 
--- A walk of a transition or of a connection, however many JOINs it follows.
+-- A walk of a transition or of a connection, with any number of JOINs.
 abbrev pub IsWalk : PlainProcess → Text → List Event → Option (List ℕ) → Type 0
 IsWalk p t events end =
     (n : ℕ) × (way : Way) × Walks (Follows p n) t events way × (end ≡ way_state way)
 
--- A transition: what is set before its text, and its text.
+-- A transition: the variables set before its text, and its text.
 pub record Transition : Type 0 where
   pub first : List Event
   pub text : Text
 
--- START's transition comes after the initial values
+-- START's transition follows the initial values
 abbrev pub initial_sets : Variable → List Event
 initial_sets v = if is_some v.initial then sets v.name.name ∷ [] else []
 
 abbrev pub start_transition : PlainProcess → Transition
 start_transition p = record { first = flat_map initial_sets (variables_of p); text = p.start.text }
 
--- that of an input comes after its places got the parameters
+-- the transition of an input follows the receipt of the parameters
 abbrev pub input_transition : Input → Transition
 input_transition i =
     record { first = map (λ id. sets id.name) (place_names i.stimulus.places); text = i.text }
 
--- where a process is between two transitions: before START, or in a state with this name
+-- where a process is between transitions: before START, or in a state with this name
 abbrev pub Place : Type 0
 Place = Option (List ℕ)
 
@@ -124,7 +123,7 @@ Place = Option (List ℕ)
 abbrev pub inputs_in : PlainProcess → List ℕ → List Input
 inputs_in p s = option_map_or (inputs_of p) (number_of (states_of p) s) []
 
--- a step leads from a place by a transition
+-- the transition that a step takes from a place
 abbrev pub Leads : PlainProcess → Place → Step → Transition → Type 0
 Leads p None Start t = t ≡ start_transition p
 Leads p None (Takes state signal) t = ⊥
@@ -134,21 +133,21 @@ Leads p (Some s) (Takes state signal) t =
     × (i : Input) × Contains (inputs_in p s) i × (same_name signal i.stimulus.name.name ≡ true)
     × (t ≡ input_transition i)
 
--- whether these events read x, and set it nowhere before
+-- these events read x, and don't set it before
 abbrev pub reads_first : List Event → List ℕ → Bool
 reads_first [] x = false
 reads_first (reads y ∷ events) x = same_name x y || reads_first events x
 reads_first (sets y ∷ events) x = not (same_name x y) && reads_first events x
 
--- whether these events set x
+-- these events set x
 abbrev pub sets_in : List Event → List ℕ → Bool
 sets_in [] x = false
 sets_in (reads y ∷ events) x = sets_in events x
 sets_in (sets y ∷ events) x = same_name x y || sets_in events x
 
--- From a place on, with x not set before, these steps are a control path: some walk of each but the
--- last ends in the state from which the next one leads, and does not set x; some walk of the last
--- one reads x and sets it nowhere before.
+-- From a place, with x not set, these steps are a control path. Some walk of each step but the last
+-- ends in the state where the next step begins, and doesn't set x. Some walk of the last step reads
+-- x, and doesn't set it before.
 abbrev pub ReadsFrom : PlainProcess → Place → List Step → List ℕ → Type 0
 ReadsFrom p place [] x = ⊥
 ReadsFrom p place (step ∷ []) x =
@@ -161,12 +160,11 @@ ReadsFrom p place (step ∷ next ∷ steps) x =
     × (sets_in (t.first ++ events) x ≡ false)
     × ReadsFrom p (Some s) (next ∷ steps) x
 
--- a control path from START, the last transition of which reads x before anything on the path sets
--- it
+-- a control path from START whose last transition reads x before any transition on the path sets it
 abbrev pub ReadsUnset : PlainProcess → List Step → List ℕ → Type 0
 ReadsUnset p path x = ReadsFrom p None path x
 
--- no control path of the process that reads a variable unset has fewer transitions
+-- no control path that reads a variable unset has fewer transitions
 abbrev pub IsShortest : PlainProcess → List Step → Type 0
 IsShortest p path =
     (other : List Step) (x : List ℕ) → ReadsUnset p other x → length path ≤ length other
@@ -176,8 +174,8 @@ abbrev pub AreLonger : List Step → PlainProcess → Type 0
 AreLonger path p =
     (other : List Step) (x : List ℕ) → ReadsUnset p other x → length path < length other
 
--- It is a process of these, and the first that has so short a path: in each before it all have more
--- transitions.
+-- The process is the first of these with such a short path: in each process before it, all those
+-- paths have more transitions.
 pub record IsFirstWith (ps : List PlainProcess) (p : PlainProcess) (path : List Step) : Type 0 where
   pub before : List PlainProcess
   pub after : List PlainProcess

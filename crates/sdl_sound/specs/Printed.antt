@@ -1,4 +1,4 @@
--- How limits, control paths and broken rules are printed.
+-- The printed form of limits, control paths and broken rules.
 use Rattle.std.specs.Prelude.{ℕ, List, ◌++◌, codes}
 use Rattle.std.specs.List.{flat_map}
 use Rattle.sdl_sound.specs.declared.fault.Limit.{Limit}
@@ -12,7 +12,7 @@ use Rattle.sdl_sound.specs.declared.fault.RuleFault.TheVariants.{NoState, NoRece
 use Rattle.sdl_sound.specs.declared.fault.RuleFault.TheVariants.{JoinCycle, NoAnswer, BadDivisor}
 use Rattle.sdl_sound.specs.declared.fault.RuleFault.TheVariants.{Limit as Passed, Unset, NoMemory}
 
--- what there is too much of
+-- the name of the limit
 abbrev pub limit_text : Limit → List ℕ
 limit_text limits.Processes = codes "Processes"
 limit_text limits.States = codes "States"
@@ -26,12 +26,12 @@ limit_text limits.Depth = codes "Depth"
 limit_text limits.Effects = codes "Effects"
 limit_text limits.Instances = codes "Instances"
 
--- START, or a state and an input, with `/` between them
+-- START, or a state and an input separated by `/`
 abbrev pub step_text : Step → List ℕ
 step_text Start = codes "START"
 step_text (Input state signal) = state ++ codes "/" ++ signal
 
--- the same with a space before it
+-- a step with a space before it
 abbrev pub step_part : Step → List ℕ
 step_part step = codes " " ++ step_text step
 
@@ -39,7 +39,7 @@ step_part step = codes " " ++ step_text step
 abbrev pub path_text : ControlPath → List ℕ
 path_text path = flat_map step_part path.steps.items
 
--- the code of a fault and its name, and what is named with it
+-- the code and the name of a fault, and the names it holds
 abbrev pub fault_text : RuleFault → List ℕ
 fault_text (DoubleName place) = codes "S1 DoubleName"
 fault_text (UnknownName place) = codes "S2 UnknownName"

@@ -1,4 +1,4 @@
--- Who gets what is sent: the OUTPUTs that nobody, or more than one, would get. (Z.100: signal
+-- The receivers of signals: OUTPUTs that no party, or more than one, would receive. (Z.100: signal
 -- routes, output.)
 use Rattle.std.specs.Prelude.{ℕ, Bool, false, not, ◌&&◌, List, [], ◌∷◌, Option, None, Some}
 use Rattle.std.specs.Prelude.{if◌then◌else◌, length, nat_lt}
@@ -19,26 +19,26 @@ use Rattle.sdl_sound.specs.Actions.{Origin, begins, takes, in_statements}
 abbrev pub party_of : PlainProcess → Party
 party_of p = Process p.name
 
--- ---- S5: an OUTPUT that nobody would get
+-- ---- S5: an OUTPUT that no party would receive
 
--- Whether what the transition of this input sends TO SENDER gets there: each who may have sent the
--- input is reached. A timer has no sender.
+-- A signal sent TO SENDER by the transition of this input arrives: routes carry it to each party
+-- that may have sent the input. A timer has no sender.
 abbrev pub answers : PlainBlock → PlainProcess → List ℕ → List ℕ → Bool
 answers b p s input =
     not (is_in (timers_of p) input)
     && list_all (λ q. carries b (party_of p) q s) (senders b (party_of p) input)
 
--- the same for what a transition begins with; START has no sender
+-- a signal sent TO SENDER arrives for this origin; START has no sender
 abbrev pub answers_origin : PlainBlock → PlainProcess → List ℕ → Origin → Bool
 answers_origin b p s begins = false
 answers_origin b p s (takes x) = answers b p s x.name.name
 
--- The same for all with which the transitions begin that come to a statement: nothing is asked of
--- one to which none comes.
+-- A signal sent TO SENDER arrives for all origins of the transitions that reach the statement. It
+-- does if there is none.
 abbrev pub answers_all : PlainBlock → PlainProcess → List Origin → List ℕ → Bool
 answers_all b p from s = list_all (answers_origin b p s) from
 
--- whether signal s, so addressed, gets to somebody
+-- signal s with this destination arrives at a party
 abbrev pub arrives : PlainBlock → PlainProcess → List Origin → Option Destination → List ℕ → Bool
 arrives b p from None s = nat_lt 0 (length (receivers b (party_of p) s))
 arrives b p from (Some (address.Sender at)) s = answers_all b p from s
@@ -63,7 +63,7 @@ lost_statement b p from (finishes e) = []
 abbrev pub without_receiver : PlainBlock → List ℕ
 without_receiver b = flat_map (λ p. in_statements (lost_statement b p) p) (processes_of b)
 
--- ---- S6: an OUTPUT that says to nobody, and that two or more would get
+-- ---- S6: an OUTPUT without a destination that two or more parties would receive
 
 abbrev pub is_doubtful : PlainBlock → PlainProcess → Option Destination → List ℕ → Bool
 is_doubtful b p None s = nat_lt 1 (length (receivers b (party_of p) s))

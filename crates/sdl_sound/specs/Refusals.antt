@@ -1,4 +1,4 @@
--- Which refusal a block gets.
+-- The refusal of a block.
 use Rattle.std.specs.Prelude.{◌≡◌, [], None, Some, Contains, All, ⊤}
 use Rattle.sdl_tables.specs.Plain.{PlainBlock, PlainProcess}
 use Rattle.sdl_tables.specs.Names.{processes_of}
@@ -23,8 +23,8 @@ use Rattle.sdl_tables.specs.declared.fault.TableFault.{TableFault}
 use Rattle.sdl_tables.specs.declared.fault.TableFault.TheVariants.{DoubleName as NoTable}
 use Rattle.sdl_tables.specs.declared.fault.TableFault.TheVariants.{NoMemory as NoRoom}
 
--- The rules by number: each of these says that neither its own rule nor one with a lesser number is
--- broken.
+-- The rules by number. Each predicate states that neither its own rule nor one with a lesser number
+-- is broken.
 
 abbrev pub IsDistinct : PlainBlock → Type 0
 IsDistinct b = double_names b ≡ []
@@ -56,10 +56,10 @@ IsDivided b = IsAnswered b × (bad_divisors b ≡ [])
 abbrev pub IsWithin : PlainBlock → Type 0
 IsWithin b = IsDivided b × (first_limit b ≡ None)
 
--- A refusal names a rule that is broken at its place, and no rule with a lesser number is broken
--- anywhere. A variable that is read unset, and the path, are spelled as they are declared; no path
--- of any process that reads any variable unset has fewer transitions, none of a process before that
--- of the path has as few, and none of that process with as few comes first in the text.
+-- A refusal names a rule that is broken at its place. No rule with a lesser number is broken
+-- anywhere. For S11 the variable and path are spelled as declared; no path of any process that
+-- reads a variable unset has fewer transitions, no process before has one as short; no path of this
+-- process that is as short comes first in the text.
 abbrev pub Refuses : PlainBlock → RuleFault → Type 0
 Refuses b (DoubleName at) = Contains (double_names b) at
 Refuses b (UnknownName at) = IsDistinct b × Contains (unknown_names b) at
@@ -79,7 +79,7 @@ Refuses b (Unset x path) =
     × IsFirst p path.steps.items
 Refuses b NoMemory = ⊤
 
--- why there are no tables, as a refusal
+-- the refusal if the tables can't be built
 abbrev pub rule_fault : TableFault → RuleFault
 rule_fault (NoTable at) = DoubleName at
 rule_fault NoRoom = NoMemory

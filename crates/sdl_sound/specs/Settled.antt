@@ -1,5 +1,5 @@
--- Which variables are set whenever a process is in a state. A set of variables is kept as the bits
--- of a number: bit v is variable v.
+-- The variables that are set whenever a process is in a state. A set of variables is a number: bit
+-- v stands for variable v.
 use Rattle.std.specs.Prelude.{◌≡◌, ℕ, ◌<◌, true, false, List, ◌++◌, Option, Some, length, All}
 use Rattle.std.specs.Prelude.{slice_get}
 use Rattle.std.specs.List.{AllZip}
@@ -11,9 +11,9 @@ use Rattle.sdl_tables.specs.Names.{inputs_by_state}
 use Rattle.sdl_sound.specs.Paths.{Event, IsWalk, Transition, start_transition, input_transition}
 use Rattle.sdl_sound.specs.Paths.{reads_first, sets_in}
 
--- Where a transition begins with the variables `before` set, and `sets` are those of the states:
--- what a walk reads before it sets it is set before, and what is set in the state where a walk ends
--- is set before or set on the walk.
+-- A transition begins with the variables `before` set, and `sets` are those of the states. If a
+-- walk reads a variable before setting it, the variable is in `before`. If a variable is in the set
+-- of the state where a walk ends, it is in `before` or the walk sets it.
 pub record IsSettled (p : PlainProcess) (sets : List ℕ) (before : ℕ) (t : Transition) : Type 0 where
   pub reads :
       (events : List Event) (end : Option (List ℕ)) (v : ℕ) (id : Identifier)
@@ -27,8 +27,8 @@ pub record IsSettled (p : PlainProcess) (sets : List ℕ) (before : ℕ) (t : Tr
       → slice_get (variable_names p) v ≡ Some id
       → bit_at set v ≡ 1 → sets_in (t.first ++ events) id.name ≡ false → bit_at before v ≡ 1
 
--- For each state of a process, by number, a set of variables: whenever the process is in the state,
--- they are set. Nothing is set before START (its initial values come first in its transition).
+-- For each state of a process, by number, the variables that are set whenever the process is in it.
+-- Before START none is set; the initial values are set first in its transition.
 pub record AreSettled (p : PlainProcess) (sets : List ℕ) : Type 0 where
   pub count : length sets ≡ length (states_of p)
   pub declared : All (λ set. (v : ℕ) → bit_at set v ≡ 1 → v < length (variables_of p)) sets

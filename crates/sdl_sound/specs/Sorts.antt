@@ -1,6 +1,6 @@
--- Sorts: which one each operand, assigned value, initial value, parameter, answer and place of an
--- INPUT has to have, and the places in the text where it has another one. (Z.100: expressions,
--- sorts of data.)
+-- Sorts: the sort that each operand, assigned value, initial value, parameter, answer and place of
+-- an INPUT must have, and the places of those with another sort. (Z.100: expressions, sorts of
+-- data.)
 use Rattle.std.specs.Prelude.{ℕ, Bool, true, false, ◌&&◌, List, [], ◌∷◌, ◌++◌, Option, None, Some}
 use Rattle.std.specs.Prelude.{if◌then◌else◌, length, nat_eq, nat_lt, find, zip}
 use Rattle.std.specs.List.{flat_map}
@@ -39,26 +39,26 @@ same_sort Integer Boolean = false
 same_sort Boolean Integer = false
 same_sort Boolean Boolean = true
 
--- whether something has a sort, and it is this one
+-- a part has a sort, and it is the expected one
 abbrev pub has_sort : Sort → Option Sort → Bool
 has_sort want found = option_map_or (same_sort want) found false
 
--- whether two things have one sort
+-- two parts have sorts, and they are the same
 abbrev pub have_one_sort : Option Sort → Option Sort → Bool
 have_one_sort one other = option_map_or (λ want. has_sort want other) one false
 
--- ---- the sort of an expression, which its operator tells, whatever its operands are
+-- ---- the sort of an expression, determined by its operator, independent of its operands
 
--- the sort of a variable; none where there is no such variable
+-- the sort of a variable; none if the variable isn't declared
 abbrev pub variable_sort : List Variable → List ℕ → Option Sort
 variable_sort vs x = option_map (λ v. v.sort) (find (λ v. same_name x v.name.name) vs)
 
--- what an operator takes and gives
+-- the sort of the operand and of the result
 abbrev pub unary_sort : UnaryOperator → Sort
 unary_sort Negate = Integer
 unary_sort Not = Boolean
 
--- what an operator gives
+-- the sort of the result
 abbrev pub binary_sort : BinaryOperator → Sort
 binary_sort Or = Boolean
 binary_sort Xor = Boolean
@@ -76,8 +76,8 @@ binary_sort Divide = Integer
 binary_sort Modulo = Integer
 binary_sort Remainder = Integer
 
--- what both operands have to be, where the left one has this sort: `=` and `/=` take two of any one
--- sort
+-- the expected sort of both operands, given the sort of the left one; `=` and `/=` accept two
+-- operands of the same sort
 abbrev pub operand_sort : BinaryOperator → Option Sort → Option Sort
 operand_sort Or left = Some Boolean
 operand_sort Xor left = Some Boolean
@@ -103,24 +103,24 @@ sort_in vs (variable at id) = variable_sort vs id.name
 sort_in vs (unary at operator operand) = Some (unary_sort operator)
 sort_in vs (binary at operator left right) = Some (binary_sort operator)
 
--- whether a question is a Boolean one
+-- the question is Boolean
 abbrev pub is_truth : List Variable → Tree → Bool
 is_truth vs q = has_sort Boolean (sort_in vs q)
 
 -- ---- S3: a wrong sort
 
--- the place of an expression that has another sort than is wanted
+-- the place of an expression that doesn't have the expected sort
 abbrev pub misfit : List Variable → Option Sort → Tree → List ℕ
 misfit vs want t = if have_one_sort want (sort_in vs t) then [] else place_of t ∷ []
 
--- the operands of an operator; where two of one sort are wanted and they differ, the right one is
+-- the operands with a wrong sort; if `=` or `/=` has operands of different sorts, the right one is
 -- wrong
 abbrev pub wrong_operands : List Variable → BinaryOperator → Tree → Tree → List ℕ
 wrong_operands vs operator left right =
     misfit vs (operand_sort operator (sort_in vs left)) left
     ++ misfit vs (operand_sort operator (sort_in vs left)) right
 
--- every wrong operand in an expression, also one under another
+-- all wrong operands in an expression, nested ones included
 abbrev pub wrong_in : List Variable → Tree → List ℕ
 wrong_in vs (number at value) = []
 wrong_in vs (truth at value) = []
@@ -130,11 +130,11 @@ wrong_in vs (unary at operator operand) =
 wrong_in vs (binary at operator left right) =
     wrong_in vs left ++ (wrong_in vs right ++ wrong_operands vs operator left right)
 
--- an expression that has to have this sort
+-- an expression that must have this sort
 abbrev pub wrong_for : List Variable → Sort → Tree → List ℕ
 wrong_for vs want t = wrong_in vs t ++ misfit vs (Some want) t
 
--- an assignment of a value of another sort is wrong at the variable
+-- if the assigned value has another sort, the fault is at the variable
 abbrev pub wrong_variable : List Variable → PlainAssignment → List ℕ
 wrong_variable vs a =
     if have_one_sort (variable_sort vs a.variable.name) (sort_in vs a.value) then []
@@ -147,11 +147,11 @@ wrong_assignment vs a = wrong_in vs a.value ++ wrong_variable vs a
 abbrev pub parameter_sorts : PlainBlock → List ℕ → List Sort
 parameter_sorts b x = option_map_or (λ s. s.parameters) (signal_named b x) []
 
--- an OUTPUT's parameter, with the sort that it has to have
+-- a parameter of an OUTPUT, with the sort that it must have
 abbrev pub wrong_parameter : List Variable → Sort × Tree → List ℕ
 wrong_parameter vs x = misfit vs (Some x.0) x.1
 
--- as many parameters as the signal has, or the signal's name is wrong
+-- there are as many parameters as the signal has, or the fault is at the signal's name
 abbrev pub wrong_number : List Sort → PlainSending → List ℕ
 wrong_number sorts s = if nat_eq (length sorts) (length s.parameters) then [] else s.signal.at ∷ []
 
@@ -168,12 +168,12 @@ wrong_action b vs (output at sendings to) = flat_map (wrong_sending b vs) sendin
 wrong_action b vs (set_timer at delay timer) = wrong_for vs Integer delay
 wrong_action b vs (reset_timer at timer) = []
 
--- a place of an INPUT, with the sort of the parameter that its variable gets
+-- a place of an INPUT, with the sort of the parameter that its variable receives
 abbrev pub wrong_place : List Variable → Sort × Option Identifier → List ℕ
 wrong_place vs (want, None) = []
 wrong_place vs (want, Some id) = if has_sort want (variable_sort vs id.name) then [] else id.at ∷ []
 
--- not more places than parameters, or the signal's or timer's name is wrong
+-- there are no more places than parameters, or the fault is at the name of the signal or timer
 abbrev pub too_many_places : List Sort → PlainStimulus → List ℕ
 too_many_places sorts s = if nat_lt (length sorts) (length s.places) then s.name.at ∷ [] else []
 
@@ -197,43 +197,43 @@ wrong_constant want (Some c) = if is_constant want c then [] else c.at ∷ []
 abbrev pub wrong_initial : Variable → List ℕ
 wrong_initial v = wrong_constant v.sort v.initial
 
--- the answers to a Boolean question are TRUE and FALSE, each alone
+-- the answers to a Boolean question are single values, TRUE or FALSE
 abbrev pub answers_truth : Range → Bool
 answers_truth (Value c) = is_constant Boolean c
 answers_truth (Compared at relation c) = false
 answers_truth (Between low high) = false
 
--- those to an Integer one are numbers: alone, with a relation, or in a range
+-- the answers to an Integer question are numbers: single, with a relation, or in a range
 abbrev pub answers_number : Range → Bool
 answers_number (Value c) = is_constant Integer c
 answers_number (Compared at relation c) = is_constant Integer c
 answers_number (Between low high) = is_constant Integer low && is_constant Integer high
 
--- the place of its first token
+-- the place of the first token of a range
 abbrev pub range_place : Range → ℕ
 range_place (Value c) = c.at
 range_place (Compared at relation c) = at
 range_place (Between low high) = low.at
 
--- whether an answer fits its question
+-- an answer fits its question
 abbrev pub answers_question : List Variable → Tree → Range → Bool
 answers_question vs q r = if is_truth vs q then answers_truth r else answers_number r
 
 abbrev pub wrong_answer : List Variable → Tree → Range → List ℕ
 wrong_answer vs q r = if answers_question vs q r then [] else range_place r ∷ []
 
--- a statement; a question may be of either sort
+-- the wrong sorts in a statement; a question may have either sort
 abbrev pub wrong_statement : PlainBlock → List Variable → Statement → List ℕ
 wrong_statement b vs (acts a) = wrong_action b vs a
 wrong_statement b vs (asks at q c) = wrong_in vs q
 wrong_statement b vs (covers q ranges) = flat_map (wrong_answer vs q) ranges
 wrong_statement b vs (finishes e) = []
 
--- the places of an INPUT
+-- the wrong sorts in the places of an INPUT
 abbrev pub wrong_input : PlainBlock → List Variable → PlainInput → List ℕ
 wrong_input b vs i = flat_map (wrong_stimulus b vs) i.stimuli
 
--- what a process declares, and the places of its INPUTs
+-- the wrong sorts in the declarations of a process and the places of its INPUTs
 abbrev pub wrong_declarations : PlainBlock → PlainProcess → List ℕ
 wrong_declarations b p =
     flat_map wrong_initial (variables_of p)

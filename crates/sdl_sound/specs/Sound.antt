@@ -1,4 +1,4 @@
--- Which blocks are sound.
+-- Sound blocks.
 use Rattle.std.specs.Prelude.{◌≡◌, [], None, All}
 use Rattle.sdl_tables.specs.Plain.{PlainBlock}
 use Rattle.sdl_tables.specs.Names.{processes_of}

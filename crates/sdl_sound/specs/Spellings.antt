@@ -8,12 +8,12 @@ use Rattle.sdl_sound.specs.Names.{trigger_names}
 use Rattle.sdl_sound.specs.declared.fault.Step.{Step}
 use Rattle.sdl_sound.specs.declared.fault.Step.TheVariants.{Start, Input as Takes}
 
--- one of these identifiers is spelled just so
+-- one of these identifiers has exactly this spelling
 abbrev pub IsSpelling : List Identifier → List ℕ → Type 0
 IsSpelling ids x = Any (λ (id : Identifier). id.name ≡ x) ids
 
--- a step spells its state as the first STATE that names it, and its signal or timer as that is
--- declared
+-- a step spells its state as the first STATE that names it, and its signal or timer as in its
+-- declaration
 abbrev pub IsDeclaredStep : PlainBlock → PlainProcess → Step → Type 0
 IsDeclaredStep b p Start = ⊤
 IsDeclaredStep b p (Takes state signal) =

@@ -1,4 +1,4 @@
--- The INPUTs that stand for a state, each once however many signals it names.
+-- The INPUTs of each state. Each is listed once, however many signals it names.
 use Rattle.std.specs.Prelude.{List}
 use Rattle.std.specs.Borrow.{Bor}
 use Rattle.std.specs.Global.{Vec}
@@ -8,10 +8,10 @@ use Rattle.sdl_tables.specs.Views.{input_of}
 use Rattle.sdl_tables.specs.Names.{Input}
 use Rattle.sdl_tables.specs.Rows.{stimulus_inputs}
 
--- what a state takes by an INPUT
+-- the inputs of a state that an INPUT yields
 abbrev pub taken_by : Bor InputPart → List Input
 taken_by i = stimulus_inputs (input_of i.now)
 
--- and by these
+-- the inputs of a state that these INPUTs yield
 abbrev pub taken_in : Vec (Bor InputPart) → List Input
 taken_in v = flat_map taken_by v.items

@@ -1,5 +1,5 @@
--- The statements of a transition, those in the answers of its DECISIONs too, in the order of the
--- text. (Z.100: transitions, decisions.)
+-- The statements of a transition in text order, including those in the answers of its DECISIONs.
+-- (Z.100: transitions, decisions.)
 use Rattle.std.specs.Prelude.{ℕ, List, [], ◌∷◌, ◌++◌}
 use Rattle.std.specs.List.{flat_map}
 use Rattle.sdl_tables.specs.sdl_ast_types.tree.Range.{Range}
@@ -13,7 +13,7 @@ pub data Statement : Type 0 where
   acts : PlainAction → Statement
   -- a DECISION: its place, the question, and the answers
   asks : ℕ → Tree → Choice → Statement
-  -- an answer: the question, and the values that it is for
+  -- an answer: the question, and the values that the answer matches
   covers : Tree → List Range → Statement
   -- a NEXTSTATE, STOP or JOIN
   finishes : End → Statement
@@ -25,7 +25,7 @@ abbrev mutual
   statements_of (does a rest) = acts a ∷ statements_of rest
   statements_of (decides at q c rest) = asks at q c ∷ (choice_statements q c ++ statements_of rest)
 
-  -- those of the answers to a question, and of what they do
+  -- the answers to a question, and the statements in their bodies
   pub choice_statements : Tree → Choice → List Statement
   choice_statements q nothing_else = []
   choice_statements q (otherwise body) = statements_of body

@@ -1,4 +1,4 @@
-//! What a text can break, and how it is printed.
+//! The rules that a text can break, and their printed form.
 ghost use Rattle.std.specs.Prelude.{◌≡◌, Some};
 ghost use Rattle.sdl_sound.specs.Printed.{limit_text, step_text, path_text, fault_text};
 
@@ -7,7 +7,7 @@ use std::alloc::AllocError;
 use std::fmt;
 use thiserror::Error;
 
-/// What a text has too many of, or too much of; `S10` names one of them.
+/// A limit that a text exceeds. `S10` names one of them.
 #[derive(Clone, Copy, Debug, PartialEq, Eq)]
 pub enum Limit {
     /// More than 16 processes.
@@ -28,9 +28,9 @@ pub enum Limit {
     Piece,
     /// More than 16 operands at once in a transition.
     Depth,
-    /// More than 32 outputs, settings and resettings of timers in a turn.
+    /// More than 32 signals sent, timers set and timers reset in one turn.
     Effects,
-    /// More than 8 instances of a process, or, which no text can have, none.
+    /// More than 8 instances of a process, or none, which is impossible in a text.
     Instances,
 }
 
@@ -39,7 +39,7 @@ pub enum Limit {
 pub enum Step {
     /// The transition after START.
     Start,
-    /// What a state does on an input.
+    /// The transition of a state on an input.
     Input { state: Name, signal: Name },
 }
 
@@ -94,34 +94,34 @@ impl fmt::Display for ControlPath {
 /// Why a text is refused. Places are bytes of the text, from 0.
 #[derive(Debug, Drop, Error)]
 pub enum RuleFault {
-    /// A name that its class and scope have already, a timer named as a signal, or a signal or timer
-    /// twice among what a state takes and saves.
+    /// A name that is declared already in its class and scope, a timer with the name of a signal, or a
+    /// signal or timer that a state consumes or saves twice.
     DoubleName(u32),
-    /// A name that its class and scope lack.
+    /// A name that isn't declared in its class and scope.
     UnknownName(u32),
-    /// A value, an answer or a place of an INPUT with the wrong sort, or not as many of them as there have to be.
+    /// A value, an answer or a place of an INPUT has the wrong sort, or there is a wrong number of them.
     WrongSort(u32),
     /// A NEXTSTATE to a state that no STATE names, a START, INPUT or CONNECTION whose actions run off their end, or the
-    /// first statement behind a DECISION none of whose bodies goes on: the place of that word.
+    /// first statement after a DECISION that no body continues past. Holds the place of that word.
     NoState(u32),
-    /// An OUTPUT that no route carries, or one TO SENDER where there is no sender (after START and for a timer) or no way
-    /// back to each who may have sent: the place of the signal's name.
+    /// An OUTPUT that no route carries, or one TO SENDER if there is no sender (after START and for a timer) or no
+    /// route back to each possible sender. Holds the place of the signal's name.
     NoReceiver(u32),
-    /// An OUTPUT that says to nobody, and that routes carry to several: the place of the signal's name.
+    /// An OUTPUT without a destination that routes carry to several parties. Holds the place of the signal's name.
     TwoReceivers(u32),
-    /// A JOIN in a connection that comes back to it: the place of the JOIN.
+    /// A JOIN that leads back to its own connection. Holds the place of the JOIN.
     JoinCycle(u32),
-    /// An Integer DECISION without ELSE, a Boolean one in which a value isn't answered exactly once, or one with an answer
-    /// without values: the place of the DECISION.
+    /// An Integer DECISION without ELSE, a Boolean one in which a value isn't answered exactly once, or one with an
+    /// answer without values. Holds the place of the DECISION.
     NoAnswer(u32),
-    /// Right of `/`, MOD or REM stands no number of 1 or more: the place of what stands there.
+    /// The right operand of `/`, MOD or REM isn't a number of 1 or more. Holds the place of that operand.
     BadDivisor(u32),
-    /// A limit is passed.
+    /// The text exceeds a limit.
     Limit(Limit),
-    /// A control path from START reads a variable before it is set. Names are spelled as they are declared, a state as the
-    /// first STATE names it.
+    /// A control path from START reads a variable before it is set. Names are spelled as declared, and a state as in
+    /// the first STATE that names it.
     Unset { variable: Name, path: ControlPath },
-    /// There was not enough memory.
+    /// Memory ran out.
     NoMemory,
 }
 

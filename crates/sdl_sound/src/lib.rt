@@ -1,6 +1,6 @@
-//! What makes a block of processes sound (Z.100, and the limits of this profile), and how a broken rule is named and printed. The
-//! definitions of all rules stand here, each in a module of its own; the crates above decide them. Its lemmas on lists and on
-//! views of the tree are for those crates.
+//! Defines when a block of processes is sound (Z.100, and the limits of this profile), and how a broken rule is
+//! printed. Each rule has a module in `specs`, and the crates above decide the rules. The lemmas on lists and on views
+//! of the tree are for those crates.
 #![tactic(auto)]
 
 mod fault;

@@ -1,10 +1,10 @@
-//! Small questions that the crates above ask alike.
+//! Small functions that several crates above use.
 ghost use Rattle.std.specs.Prelude.{◌≡◌, ◌&&◌, ◌||◌};
 ghost use Rattle.sdl_sound.specs.Longest.{is_division};
 
 use sdl_tables::BinaryOperator;
 
-/// Whether the right operand stands in the instruction itself.
+/// Whether the right operand is part of the instruction.
 pub fn is_division(operator: BinaryOperator) -> bool
     ensures { result ≡ is_division operator }
 {
@@ -14,14 +14,14 @@ pub fn is_division(operator: BinaryOperator) -> bool
     )
 }
 
-/// Behind two statements a text goes on where both do.
+/// Whether a walk can continue past two statements: it must be able to past both.
 pub fn both(one: bool, other: bool) -> bool
     ensures { result ≡ (one && other) }
 {
     one && other
 }
 
-/// A DECISION goes on where one of its bodies does.
+/// Whether a walk can continue past a DECISION: it must be able to past one of the bodies.
 pub fn one_of(one: bool, other: bool) -> bool
     ensures { result ≡ (one || other) }
 {

@@ -1,4 +1,4 @@
-//! The INPUTs of each state, each once however many signals it names: what is alike for all of them is found once.
+//! The INPUTs of each state. Each is listed once, however many signals it names, so checks are made once per INPUT.
 ghost use Rattle.std.specs.Prelude.{◌≡◌, ◌++◌, [], ℕ, ◌<◌, ◌==◌, if◌then◌else◌, map, length, IfOk, OnOk, vec_len};
 ghost use Rattle.std.specs.List.{flat_map};
 ghost use Rattle.sdl_tables.specs.Views.{state_of, input_of, process_of};
@@ -9,7 +9,7 @@ ghost use Rattle.sdl_sound.specs.Standing.{taken_in};
 use sdl_tables::{InputPart, NameTable, ProcessTable, StateClause, StatePart};
 use std::alloc::{AllocError, Global};
 
-/// One INPUT more.
+/// Appends an INPUT.
 fn push_input<'a>(inputs: &mut Vec<&'a InputPart>, input: &'a InputPart) -> Result<(), AllocError>
     ensures { OnOk result (taken_in inputs.new ≡ taken_in inputs.old ++ stimulus_inputs (input_of input.now)) }
 {
@@ -17,7 +17,7 @@ fn push_input<'a>(inputs: &mut Vec<&'a InputPart>, input: &'a InputPart) -> Resu
     Ok(())
 }
 
-/// The INPUTs of a STATE part, at the end.
+/// Appends the INPUTs of a STATE part.
 fn push_part<'a>(inputs: &mut Vec<&'a InputPart>, part: &'a StatePart) -> Result<(), AllocError>
     ensures { OnOk result (taken_in inputs.new ≡ taken_in inputs.old ++ part_inputs (state_of part.now)) }
 {
@@ -30,7 +30,7 @@ fn push_part<'a>(inputs: &mut Vec<&'a InputPart>, part: &'a StatePart) -> Result
     Ok(())
 }
 
-/// No INPUT for any of so many states.
+/// An empty list of INPUTs for each of `count` states.
 fn no_inputs<'a>(alloc: Global, count: usize) -> Result<Vec<Vec<&'a InputPart>>, AllocError>
     ensures len { IfOk result (λ v. vec_len v ≡ count) }
     ensures empty { IfOk result (λ v. (s : ℕ) → row_at taken_in v.items s ≡ []) }
@@ -42,7 +42,7 @@ fn no_inputs<'a>(alloc: Global, count: usize) -> Result<Vec<Vec<&'a InputPart>>,
     Ok(states)
 }
 
-/// Gives the INPUTs of a part to one state.
+/// Appends the INPUTs of a part to one state.
 fn push_state<'a>(
     states: &mut Vec<Vec<&'a InputPart>>,
     number: usize,
@@ -58,7 +58,7 @@ fn push_state<'a>(
     Ok(())
 }
 
-/// Gives the INPUTs of a part to each state that it names.
+/// Appends the INPUTs of a part to each state that it names.
 fn push_states<'a>(
     states: &mut Vec<Vec<&'a InputPart>>,
     names: &NameTable,
@@ -77,7 +77,7 @@ fn push_states<'a>(
     Ok(())
 }
 
-/// The INPUTs of each of these states, by number; those of a state in the order of the text.
+/// Collects the INPUTs of each of these states by number, in the order of the text.
 fn collect_states<'a>(
     alloc: Global,
     parts: &'a [StatePart],
@@ -94,7 +94,7 @@ fn collect_states<'a>(
     Ok(states)
 }
 
-/// The INPUTs of each state of a process, by number; those of a state in the order of the text.
+/// The INPUTs of each state of a process by number, in the order of the text.
 pub fn standing_inputs<'a>(
     alloc: Global,
     process: &ProcessTable<'a>,

@@ -6,7 +6,7 @@ use Rattle.sdl_sound.specs.Printed.{step_part}
 use Rattle.sdl_sound.proofs.fault.ControlPathDisplay.fmt.Goals as goal
 use lib.ListN.{get_or}
 
--- one item more
+-- One more item.
 more_parts : {X : Type 0} (f : X → List ℕ) (items : List X) (i : ℕ) (x : X) → i < length items → x ≡ get_or items i x
     → flat_map f (take i items) ++ f x ≡ flat_map f (take (i + 1) items)
 more_parts f items i x within is =
