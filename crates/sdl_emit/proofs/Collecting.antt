@@ -44,7 +44,7 @@ module _ (c : Scope) where
       by_sort true f = ap (λ l. answers_joins c (choice_of d) ++ l) (sym f) ∙ sym (bodies_split (choice_of d))
       by_sort false f = ap (λ l. l ++ answers_joins c (choice_of d)) (sym f)
 
-  -- ---- one statement and one answer further on
+  -- ---- one more statement, one more answer
 
   pub statement_on : (start old new : List Join) (ss : List Statement) (i : ℕ) (s : Statement) (last : Text) → i < length ss → s ≡ get_or ss i s
       → ((rest : Text) → new ++ code_joins c rest ≡ old ++ code_joins c (statement_of s rest)) → old ++ code_joins c (statements_before (drop i ss) last) ≡ start

@@ -1,4 +1,4 @@
--- What is made of a copy without quoted TASKs is what is made of the text; and the copies of connections by their numbers.
+-- The code of a copy without quoted TASKs is that of the text; and the copies of connections by their numbers.
 use Rattle.std.proofs.Common.{◌≡◌, ℕ, ◌<◌, ◌≤◌, List, length, map, Option, Some, None, refl, sym, ap, ◌∙◌, subst, get_or}
 use Rattle.std.specs.Prelude.{slice_get, option_map}
 use Rattle.std.specs.Option.{option_map_or}

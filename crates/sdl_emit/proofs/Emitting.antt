@@ -31,7 +31,7 @@ module _ (c : Scope) (to : ℕ → ℕ) where
   abbrev vs : List Variable
   vs = variables_of c.process
 
-  -- the code of a statement alone, where what follows it comes next
+  -- The code of one statement, with what follows it placed next.
   pub before_code : (p : PlainStatement) (n : ℕ) (rest : Text) → text_code c to n (before p rest) ≡ text_code c to n (before p falls) ++ text_code c to (n + size vs (before p falls)) rest
   before_code (act a) n rest =
       let e : n + (action_cost a + 0) ≡ n + action_cost a = omega arith in
@@ -83,7 +83,7 @@ module _ (c : Scope) (to : ℕ → ℕ) where
           ∙ ap (λ l. old ++ l) (sym (before_code (plain_statement s) (length old) rest))
           ∙ ap (λ t. old ++ text_code c to (length old) t) (sym is) ∙ e
 
-  -- ---- an answer, and those behind it
+  -- ---- an answer, and the answers after it
 
   module _ (at : ℕ) (rs : List Range) (body : Text) (choice others : Choice) (is : choice ≡ answer at rs body others) (after : ℕ) (old new : List Instruction)
       (made : new ≡ old ++ (text_code c to (length old) body ++ leave_code after body)) where
@@ -111,7 +111,7 @@ module _ (c : Scope) (to : ℕ → ℕ) where
   pub answer_named : (q : Tree) (at : ℕ) (rs : List Range) (body : Text) (choice others : Choice) → choice ≡ answer at rs body others → NamedChoice c q choice → NamedText c body
   answer_named q at rs body choice others is h = (subst (NamedChoice c q) is h).1
 
-  -- ---- ELSE behind the answers
+  -- ---- ELSE after the answers
 
   else_alone : (list : List PlainAnswer) (o : Option Transition) → else_size c (all_answers list (else_choice o)) ≡ else_size c (else_choice o)
   else_alone [] o = refl
@@ -134,7 +134,7 @@ module _ (c : Scope) (to : ℕ → ℕ) where
   pub else_named : (q : Tree) (list : List Answer) (o : Option Transition) → NamedChoice c q (answers_before list (else_choice o)) → NamedChoice c q (else_choice o)
   else_named q list o h = else_named_by q (map plain_answer list) o h
 
-  -- the bodies in the order of the text are those of the answers, and then that of ELSE
+  -- The bodies in the order of the text have the size of those of the answers and of ELSE.
   pub bodies_size_parts : (choice : Choice) → bodies_size vs choice ≡ answers_size c choice + else_size c choice
   bodies_size_parts nothing_else = refl
   bodies_size_parts (otherwise body) = omega arith
@@ -182,7 +182,7 @@ module _ (c : Scope) (to : ℕ → ℕ) where
         ∙ ap (λ l. old ++ (tree_code c q ++ l)) (sym (append-nil (x (is_truth c q))))
         ∙ ap (λ t. old ++ text_code c to (length old) t) (sym is)
 
-  -- the parts of a Boolean one
+  -- The parts of a Boolean DECISION.
   module _ (all : Choice) (old : List Instruction) (after : ℕ) where
     module _ (here : after ≡ after_choice c true (length old) all) (fits : after_choice c true (length old) all ≤ 512) (new : List Instruction) (x : Instruction) (made : new ≡ old ++ x ∷ []) where
       picked_length : length new ≡ length old + 1
@@ -204,7 +204,7 @@ module _ (c : Scope) (to : ℕ → ℕ) where
             ∙ ap (λ k. old ++ (x ∷ bodies_code c to n k all)) here
             ∙ ap (λ x. old ++ (x ∷ bodies_code c to n (after_choice c true (length old) all) all)) e
 
-    -- and of an Integer one
+    -- The parts of an Integer DECISION.
     module _ (here : after ≡ after_choice c false (length old) all) (fits : after_choice c false (length old) all ≤ 512) where
       module _ (first : ℕ) (there : first ≡ answers_place c (length old) all) (new : List Instruction) (made : new ≡ old ++ tests_code c first all) where
         tests_length_is : length new ≡ else_place (length old) all
@@ -250,7 +250,7 @@ module _ (c : Scope) (to : ℕ → ℕ) (ns : List ℕ) (i n : ℕ) (lt : i < le
 
 -- ---- a whole piece
 
--- each connection's text is named
+-- The text of each connection is named.
 pub each_named : (c : Scope) → NamedConnections c → (n : ℕ) → NamedText c (text_at c n)
 each_named c h n = by_place (slice_get c.process.connections n) refl
   where

@@ -1,4 +1,4 @@
--- Which connections stand behind a text: each that it joins or one of them does, once.
+-- The connections placed after a text: each that the text or one of them joins, only once.
 use Rattle.std.proofs.Common.{◌≡◌, ℕ, zero, suc, ◌+◌, ◌<◌, ◌≤◌, ◌⊎◌, inl, inr, ⊎_elim, Bool, true, false, cond, List, [], ◌∷◌, ◌++◌, length, take, Some, IsSome, refl, sym, ap, ◌∙◌, subst, arith, append_assoc, append-nil, length-append}
 use Rattle.std.specs.Prelude.{slice_get, get_or, fold, Contains}
 use Rattle.std.specs.List.{flat_map}
@@ -28,7 +28,7 @@ all_numbered c t named js e k d lt =
     let x = get_or js k d in
     each_of c (λ (j : Join). IsSome (connector_at c j.connector)) t x (each_named c t named) (subst (λ l. Contains l x) e (k, lt, get_or_default js k x d lt))
 
--- the connection with a number
+-- The connection with this number.
 pub there_is : (c : Scope) (p : Process) → c.process ≡ process_of p → (n : ℕ) (x : Connection) → n < length c.process.connections → x ≡ get_or p.connections.items n x → slice_get c.process.connections n ≡ Some (connection_of x)
 there_is c p e n x lt f =
     let l = ap (λ q. length q.connections) e in
@@ -39,7 +39,7 @@ there_is c p e n x lt f =
 pub text_there : (c : Scope) (n : ℕ) (k : PlainConnection) → slice_get c.process.connections n ≡ Some k → text_at c n ≡ k.text
 text_there c n k at = ap (λ o. option_map_or (λ (k : PlainConnection). k.text) o falls) at
 
--- ---- lists of numbers, each once
+-- ---- lists of numbers, each only once
 
 fold_joined : (xs ys acc : List ℕ) → fold add_number acc (xs ++ ys) ≡ fold add_number (fold add_number acc xs) ys
 fold_joined [] ys acc = refl
@@ -97,7 +97,7 @@ take_less (n ∷ ns) zero k h = (take k (n ∷ ns), refl)
 take_less (n ∷ ns) (suc i) zero h = absurd (omega (arith, h))
 take_less (n ∷ ns) (suc i) (suc k) h = let r = take_less ns i k (omega (arith, h)) in (r.0, ap (λ l. n ∷ l) r.1)
 
--- ---- the list while it grows: what the first of these join is there
+-- ---- the list while it grows: it has the connections that the first ones join
 
 module _ (c : Scope) (t : Text) where
   abbrev joins_at : ℕ → List ℕ
@@ -169,13 +169,13 @@ module _ (c : Scope) (t : Text) where
         subst (λ l. Contains l n) (sym e) (Contains-append_left (joins_to b.0 ns) (flat_map joins_at r.0) n b.3);
   }
 
-  -- they are no more than there are connections
+  -- The list is no longer than the list of connections.
   pub gathered_few : (ns : List ℕ) (next : ℕ) → Gathered ns next → length ns ≤ length c.process.connections
   gathered_few ns next h =
       let few = once_few c.process.connections (joins_to next ns) (λ n there. h.known n (subst (λ l. Contains l n) (sym h.once) (once_there (joins_to next ns) n there))) in
       let e = ap length h.once in
       omega (arith, few, e)
 
-  -- the next of them is a connection
+  -- The next number in the list is that of a connection.
   pub next_there : (ns : List ℕ) (next m : ℕ) → Gathered ns next → slice_get ns next ≡ Some m → m < length c.process.connections
   next_there ns next m h at = let w = h.known m (contains_at ns next m at) in none_past c.process.connections m w.0 w.1

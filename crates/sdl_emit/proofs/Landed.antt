@@ -1,4 +1,4 @@
--- The code of a DECISION once its jumps are led to what follows it, and its choice or its tests stand in the places kept for them.
+-- The code of a DECISION, once its jumps lead to what follows it and its choice or tests are in their places.
 use Rattle.std.proofs.Common.{◌≡◌, ℕ, ◌+◌, ◌≤◌, Bool, true, false, cond, ◌&&◌, ◌||◌, List, [], ◌∷◌, ◌++◌, length, map, replicate, Option, refl, sym, ap, ◌∙◌, arith, append_assoc, append-nil, length-append}
 use Rattle.std.specs.Prelude.{slice_set}
 use Rattle.std.specs.List.{list_any}
@@ -21,7 +21,7 @@ use Rattle.sdl_meaning.proofs.Sizes.{leave_size, tests_are, text_size_is, else_s
 use Rattle.sdl_emit.proofs.Emitting.{bodies_size_parts, answers_length, body_length, truth_whole, integer_whole}
 use Rattle.std.proofs.Math.Bool.{or-false as or_false, and_assoc as and_three}
 
--- ---- one instruction in another's stead
+-- ---- one instruction in place of another
 
 set_seam : (xs : List Instruction) (x y : Instruction) (ys : List Instruction) → slice_set (xs ++ x ∷ ys) (length xs) y ≡ xs ++ y ∷ ys
 set_seam [] x y ys = refl
@@ -30,7 +30,7 @@ set_seam (z ∷ xs) x y ys = ap (λ l. z ∷ l) (set_seam xs x y ys)
 set_behind : (xs : List Instruction) (x y : Instruction) (ys : List Instruction) (n : ℕ) → n ≡ length xs → slice_set (xs ++ x ∷ ys) n y ≡ xs ++ y ∷ ys
 set_behind xs x y ys n e = ap (λ k. slice_set (xs ++ x ∷ ys) k y) e ∙ set_seam xs x y ys
 
--- as many in others' stead
+-- Instructions in place of the same number of others.
 filled_whole : (ys xs pre post : List Instruction) (n : ℕ) → n ≡ length pre → length xs ≡ length ys → filled (pre ++ (xs ++ post)) n ys ≡ pre ++ (ys ++ post)
 filled_whole [] [] pre post n e h = refl
 filled_whole [] (x ∷ xs) pre post n e h = absurd (omega (arith, h))
@@ -188,7 +188,7 @@ module _ (c : Scope) (to : ℕ → ℕ) (all : Choice) (old : List Instruction) 
               ∙ ap (λ n. (one ++ answers_code c to n (length code3) all) ++ last) same
               ∙ ap (λ n. two ++ else_code c to n (length code3) all) two_length)
 
-  -- ---- an Integer one
+  -- ---- an Integer DECISION
   module _ (fits : after_choice c false (length old) all ≤ 512) where
     pub tests_fit : tests_size all ≤ 512
     tests_fit = omega (arith, fits)
@@ -284,7 +284,7 @@ module _ (c : Scope) (to : ℕ → ℕ) (at : ℕ) (rs : List Range) (body : Tex
       ∙ ap (λ n. ss ++ (l ++ starts_from c n others)) (body_length c to at rs body choice others is 0 old new made)
       ∙ ap (λ ch. ss ++ starts_from c (length old) ch) (sym is) ∙ e
 
--- ---- ELSE behind the answers
+-- ---- ELSE after the answers
 
 else_leave_by : (c : Scope) (to : ℕ → ℕ) (list : List PlainAnswer) (o : Option Transition) (n : ℕ) → else_leave c to n (all_answers list (else_choice o)) ≡ else_leave c to n (else_choice o)
 else_leave_by c to [] o n = refl
@@ -312,7 +312,7 @@ any_leaves c to n body qs = by_test (goes_on body)
     by_test true = refl
     by_test false = refl
 
--- a DECISION goes on where one of its bodies has a jump
+-- A DECISION goes on if one of its bodies has a jump.
 pub truth_goes : (c : Scope) (to : ℕ → ℕ) (n m : ℕ) (choice : Choice) → has_any (answers_leave c to n choice ++ else_leave c to m choice) ≡ choice_goes_on choice
 truth_goes c to n m nothing_else = refl
 truth_goes c to n m (otherwise body) = ap has_any (sym (append-nil (leave_place c to m body))) ∙ any_leaves c to m body [] ∙ or_false (goes_on body)

@@ -1,4 +1,4 @@
--- How a body ends, what a statement is, and what stands behind the last item of a list.
+-- The end of a body, the code of one statement, and what follows the last item of a list.
 use Rattle.std.proofs.Common.{◌≡◌, ℕ, ◌+◌, ◌≤◌, Bool, List, [], ◌++◌, length, drop, Option, Some, None, refl, sym, ap, ◌∙◌, append_assoc, length-append}
 use Rattle.std.proofs.lemmas.List.{drop_all}
 use Rattle.sdl_ast.specs.declared.tree.Action.{Action}
@@ -16,7 +16,7 @@ use Rattle.sdl_meaning.specs.Outcomes.{Scope}
 use Rattle.sdl_meaning.specs.Code.{leave_code, text_code, answers_code}
 use Rattle.sdl_emit.specs.Landing.{left_jump, left_place, leave_place, answers_leave, starts_from}
 
--- ---- behind the last item
+-- ---- after the last item
 
 pub statements_past : {A : Type 0} (f : Text → A) (all : A) (ss : List Statement) (i : ℕ) (last : Text) → length ss ≤ i → f (statements_before (drop i ss) last) ≡ all → f last ≡ all
 statements_past f all ss i last past h = ap (λ l. f (statements_before l last)) (sym (drop_all i ss past)) ∙ h
@@ -24,7 +24,7 @@ statements_past f all ss i last past h = ap (λ l. f (statements_before l last))
 pub answers_past : {A : Type 0} (f : Choice → A) (all : A) (xs : List Answer) (i : ℕ) (others : Choice) → length xs ≤ i → f (answers_before (drop i xs) others) ≡ all → f others ≡ all
 answers_past f all xs i others past h = ap (λ l. f (answers_before l others)) (sym (drop_all i xs past)) ∙ h
 
--- ---- a statement alone
+-- ---- one statement
 
 pub acted : (s : Statement) (a : Action) → s ≡ Act a → (rest : Text) → statement_of s rest ≡ does (action_of a) rest
 acted s a e rest = ap (λ s. statement_of s rest) e ∙ statement_of-act a rest
@@ -50,7 +50,7 @@ module _ (c : Scope) (n : ℕ) where
   no_starts None = refl
   no_starts (Some body) = refl
 
--- ---- a body, and its jump where it goes on
+-- ---- a body, and its jump if it goes on
 
 module _ (c : Scope) (to : ℕ → ℕ) (t : Text) (old one : List Instruction) (b : Bool) (made : one ≡ old ++ text_code c to (length old) t) (goes : b ≡ goes_on t) where
   text_end : length one ≡ length old + length (text_code c to (length old) t)

@@ -16,10 +16,10 @@ free_at zero n lt = absurd (omega (arith, lt))
 free_at (suc size) zero lt = refl
 free_at (suc size) (suc n) lt = free_at size n (omega (arith, lt))
 
--- ---- a connection more
+-- ---- one more connection
 
 module _ (c : Scope) where
-  -- the number of a connection that is there has a mark
+  -- The number of a connection that exists has a mark.
   pub mark_there : (ns : List ℕ) (marks : List Bool) (id : Identifier) → AreMarked c ns marks → IsSome (connector_at c id) → number_or_zero (connector_at c id) < length marks
   mark_there ns marks id are some =
       let w = has_connection c id some in
@@ -32,7 +32,7 @@ module _ (c : Scope) where
     each = λ n lt. free_at size n (omega (arith, lt, length-replicate size false));
   }
 
--- ---- a JOIN more
+-- ---- one more JOIN
 
 pub next_first : {A : Type 0} (xs : List A) (i : ℕ) (x : A) → i < length xs → x ≡ get_or xs i x → drop i xs ≡ x ∷ drop (i + 1) xs
 next_first [] i x lt e = absurd (omega (arith, lt))

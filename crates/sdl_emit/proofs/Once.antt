@@ -1,4 +1,4 @@
--- Numbers each once: how many they are, and the sum of what they stand for.
+-- Numbers that occur only once: how many there are, and the sum over their items.
 use Rattle.std.proofs.Common.{◌≡◌, ℕ, zero, suc, ◌+◌, ◌≤◌, Bool, true, false, ◌||◌, cond, List, [], ◌∷◌, ◌++◌, length, Some, refl, sym, ap, ◌∙◌, arith}
 use Rattle.std.specs.Prelude.{slice_get, nat_eq, fold, filter, Contains}
 use Rattle.std.specs.List.{sum_by}
@@ -14,7 +14,7 @@ has_last [] n i = or_none (nat_eq n i)
 has_last (m ∷ ns) n i = ap (λ b. nat_eq m i || b) (has_last ns n i) ∙ sym (or_assoc (nat_eq m i) (has ns i) (nat_eq n i))
 
 module _ {A : Type 0} (h : A → ℕ) where
-  -- the sum over those items whose places, counted from o on, are marked
+  -- The sum over the items whose places, counted from o on, are marked.
   abbrev pub total : (ℕ → Bool) → List A → ℕ → ℕ
   total p [] o = 0
   total p (x ∷ xs) o = cond (p o) (h x) 0 + total p xs (o + 1)
@@ -26,7 +26,7 @@ module _ {A : Type 0} (h : A → ℕ) where
       let g = total_same p q xs (o + 1) (λ i le. e i (omega (arith, le))) in
       omega (arith, f, g)
 
-  -- one place more is marked
+  -- One more place is marked.
   total_more : (p q : ℕ → Bool) (xs : List A) (o m n : ℕ) (x : A) → slice_get xs m ≡ Some x → n ≡ o + m → p n ≡ false → q n ≡ true → ((i : ℕ) → (i ≡ n → ⊥) → p i ≡ q i) → total q xs o ≡ total p xs o + h x
   total_more p q [] o m n x at e f g s = absurd (let k : ⊥ = cc in k)
   total_more p q (y ∷ ys) o zero n x at e f g s =
@@ -68,7 +68,7 @@ module _ {A : Type 0} (h : A → ℕ) where
   total_none [] o = refl
   total_none (x ∷ xs) o = let e = total_none xs (o + 1) in omega (arith, e)
 
-  -- numbers each once, which are places of these items, sum up what stands there
+  -- For places of items that occur only once: the sum over the places is the sum over the items.
   module _ (g : ℕ → ℕ) (xs : List A) where
     abbrev Are : List ℕ → Type 0
     Are ns = (n : ℕ) → Contains ns n → (x : A) × (slice_get xs n ≡ Some x) × (g n ≡ h x)
@@ -100,7 +100,7 @@ sum_ones : (ns : List ℕ) → sum_by (λ n. 1) ns ≡ length ns
 sum_ones [] = refl
 sum_ones (n ∷ ns) = let h = sum_ones ns in omega (arith, h, sum_by-cons (λ n. 1) n ns)
 
--- numbers each once, below the length of a list, are no more than that
+-- Places of a list that occur only once are no more than its items.
 pub once_few : {A : Type 0} (xs : List A) (ns : List ℕ) → ((n : ℕ) → Contains ns n → (x : A) × (slice_get xs n ≡ Some x)) → length (fold add_number [] ns) ≤ length xs
 once_few xs ns are =
     let e = sum_once (λ x. 1) (λ n. 1) xs ns (λ n h. let r = are n h in (r.0, r.1, refl)) in

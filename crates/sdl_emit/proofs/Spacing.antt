@@ -1,4 +1,4 @@
--- Connections one behind another, from the last back to the first.
+-- Connections placed one after another, from the last back to the first.
 use Rattle.std.proofs.Common.{◌≡◌, ℕ, zero, suc, ◌+◌, ◌-◌, ◌<◌, ◌≤◌, ⊎_elim, Bool, true, false, cond, List, [], ◌∷◌, length, take, drop, replicate, set, Some, refl, sym, ap, ◌∙◌, arith, get_or-set_same, get_or-set_other}
 use Rattle.std.specs.Prelude.{slice_get, get_or, nat_eq, All}
 use Rattle.std.specs.List.{sum_by}
@@ -29,7 +29,7 @@ none_past [] k x e = absurd (let k : ⊥ = cc in k)
 none_past (y ∷ xs) zero x e = omega arith
 none_past (y ∷ xs) (suc k) x e = let h = none_past xs k x e in omega (arith, h)
 
--- those from number `left` on have their places, of which the first is p
+-- The connections from number `left` on have their places, and p is the first of these.
 pub record Spaced (c : Scope) (start : ℕ) (ns ps : List ℕ) (p left : ℕ) : Type 0 where
   pub places : (n : ℕ) → places_by ps n ≡ place_in c p (drop left ns) n
   pub rest : p + sum_by (size_at c) (drop left ns) ≡ start + sum_by (size_at c) ns
@@ -37,7 +37,7 @@ pub record Spaced (c : Scope) (start : ℕ) (ns ps : List ℕ) (p left : ℕ) : 
   pub low : (n : ℕ) → places_by ps n ≤ start + sum_by (size_at c) ns
   pub within : left ≤ length ns
 
--- the sum up to a place
+-- The sum up to a place and the sum from it on.
 sum_to : (c : Scope) (ns : List ℕ) (k : ℕ) → sum_by (size_at c) (take k ns) + sum_by (size_at c) (drop k ns) ≡ sum_by (size_at c) ns
 sum_to c [] zero = refl
 sum_to c [] (suc k) = refl

@@ -1,5 +1,5 @@
--- Where the bodies of a DECISION begin and where the jumps at their ends stand, and what is put in
--- the places that were kept for what is known only behind them.
+-- The places where the bodies of a DECISION begin and those of the jumps at their ends; and what
+-- fills the places kept for instructions that are known only later.
 use Rattle.std.specs.Prelude.{ℕ, ◌+◌, Bool, true, false, List, [], ◌∷◌, ◌++◌, length, if◌then◌else◌}
 use Rattle.std.specs.Prelude.{slice_set}
 use Rattle.std.specs.List.{list_any}
@@ -14,21 +14,21 @@ use Rattle.sdl_meaning.specs.Code.{jump, body_size, text_code, names_truth, rang
 abbrev pub code_place : ℕ → CodePlace
 code_place n = record { 0 = n }
 
--- where the bodies of answers begin, which stand one behind another from a place on
+-- The places where the bodies of answers begin, which follow one another from place n on.
 abbrev pub starts_from : Scope → ℕ → Choice → List CodePlace
 starts_from c n nothing_else = []
 starts_from c n (otherwise body) = []
 starts_from c n (answer at rs body others) =
     code_place n ∷ starts_from c (n + body_size c body) others
 
--- the jump that ends a body which goes on, and the place of it
+-- The jump that ends a body which goes on, and its place.
 abbrev pub left_jump : Bool → List Instruction
 left_jump goes = if goes then jump 0 ∷ [] else []
 
 abbrev pub left_place : Bool → ℕ → List ℕ
 left_place goes n = if goes then n ∷ [] else []
 
--- the place of the jump that ends a body, if it goes on
+-- The place of the jump that ends a body, if the body goes on.
 abbrev pub leave_place : Scope → (ℕ → ℕ) → ℕ → Text → List ℕ
 leave_place c to n body = if goes_on body then (n + length (text_code c to n body)) ∷ [] else []
 
@@ -43,22 +43,22 @@ else_leave c to n nothing_else = []
 else_leave c to n (otherwise body) = leave_place c to n body
 else_leave c to n (answer at rs body others) = else_leave c to n others
 
--- whether there are places
+-- Whether there are any places.
 abbrev pub has_any : List ℕ → Bool
 has_any [] = false
 has_any (p ∷ ps) = true
 
--- code whose jumps at these places lead to another place
+-- Code whose jumps at these places lead to `after`.
 abbrev pub landed : CodePlace → List Instruction → List ℕ → List Instruction
 landed after code [] = code
 landed after code (p ∷ ps) = landed after (slice_set code p (i.Jump after)) ps
 
--- code with these instructions from a place on
+-- Code with these instructions from place n on.
 abbrev pub filled : List Instruction → ℕ → List Instruction → List Instruction
 filled code n [] = code
 filled code n (x ∷ xs) = filled (slice_set code n x) (n + 1) xs
 
--- the first of places, else another
+-- The first of these places, or else p.
 abbrev pub first_or : CodePlace → List CodePlace → CodePlace
 first_or p [] = p
 first_or p (q ∷ qs) = q
@@ -67,8 +67,8 @@ abbrev pub behind_first : List CodePlace → List CodePlace
 behind_first [] = []
 behind_first (q ∷ qs) = qs
 
--- where the body for a truth value stands, if those of the answers begin at these places and that
--- of ELSE at another
+-- The place of the body for a truth value, if the bodies of the answers begin at these places and
+-- that of ELSE at p.
 abbrev pub picked_by : CodePlace → List CodePlace → Choice → Bool → CodePlace
 picked_by p starts nothing_else b = p
 picked_by p starts (otherwise body) b = p
@@ -76,7 +76,7 @@ picked_by p starts (answer at rs body others) b =
     if list_any (names_truth b) rs then first_or p starts
     else picked_by p (behind_first starts) others b
 
--- the tests of an Integer DECISION, if the bodies of the answers begin at these places
+-- The tests of an Integer DECISION, if the bodies of the answers begin at these places.
 abbrev pub tests_by : List CodePlace → Choice → List Instruction
 tests_by starts nothing_else = []
 tests_by starts (otherwise body) = i.Drop ∷ []

@@ -1,4 +1,4 @@
--- Numbers that are kept once, with a mark for each number that there may be.
+-- Numbers that are kept only once, with a mark for each possible number.
 use Rattle.std.specs.Prelude.{◌≡◌, ◌<◌, ℕ, Bool, nat_eq, List, length, Some, slice_get}
 use Rattle.std.specs.List.{list_any}
 
@@ -6,7 +6,7 @@ use Rattle.std.specs.List.{list_any}
 abbrev pub has : List ℕ → ℕ → Bool
 has ns n = list_any (λ m. nat_eq m n) ns
 
--- a mark for each of so many numbers: whether it is among these
+-- Each number below `size` has a mark that says whether it is among these.
 pub record HaveMarks (size : ℕ) (ns : List ℕ) (marks : List Bool) : Type 0 where
   pub count : length marks ≡ size
   pub each : (n : ℕ) → n < length marks → slice_get marks n ≡ Some (has ns n)

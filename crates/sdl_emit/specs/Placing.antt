@@ -11,7 +11,7 @@ use Rattle.sdl_meaning.specs.Code.{number_or_zero, else_joins, answers_joins}
 use Rattle.sdl_emit.specs.Marks.{has}
 use Rattle.sdl_emit.specs.Scopes.{question_in}
 
--- those of a DECISION: the JOINs of ELSE come last in a Boolean one, and first in an Integer one
+-- The JOINs of a DECISION. Those of ELSE come last in a Boolean one and first in an Integer one.
 abbrev pub decision_joins : Scope → Decision → List Join
 decision_joins c d =
     if is_truth c (question_in d)
@@ -21,11 +21,11 @@ decision_joins c d =
 abbrev pub numbers_of : Scope → List Join → List ℕ
 numbers_of c js = map (λ j. number_or_zero (connector_at c j.connector)) js
 
--- each leads to a connection that is there
+-- Each JOIN leads to a connection that exists.
 abbrev pub HaveNumbers : Scope → List Join → Type 0
 HaveNumbers c js = All (λ (j : Join). IsSome (connector_at c j.connector)) js
 
--- a mark for each connection: whether its number is among these
+-- Each connection has a mark that says whether its number is among these.
 pub record AreMarked (c : Scope) (ns : List ℕ) (marks : List Bool) : Type 0 where
   pub count : length marks ≡ length c.process.connections
   pub each : (n : ℕ) → n < length marks → slice_get marks n ≡ Some (has ns n)

@@ -1,4 +1,4 @@
-//! A transition beside its copy without TASKs in which all is quoted: the code of the one is that of the other.
+//! A transition with its copy, which leaves out the TASKs that hold only quoted text and so has the same code.
 ghost use Rattle.std.specs.Prelude.{◌≡◌, ◌≤◌};
 ghost use Rattle.sdl_ast.specs.Views.{text_of, process_of};
 ghost use Rattle.sdl_tables.specs.Names.{variables_of};

@@ -19,7 +19,7 @@ use sdl_sound::is_division;
 use std::alloc::AllocError;
 use turn_code::{Instruction, Relation};
 
-/// An operator with one operand.
+/// The instruction of an operator with one operand.
 fn unary(operator: UnaryOperator) -> Instruction
     ensures { result ≡ unary_code operator }
 {
@@ -29,7 +29,7 @@ fn unary(operator: UnaryOperator) -> Instruction
     }
 }
 
-/// `=` of Booleans or of Integers.
+/// The instruction of `=`, of Booleans if `truth`, else of Integers.
 fn equal(truth: bool) -> Instruction
     ensures { result ≡ binary_code truth EqualSign }
 {
@@ -40,7 +40,7 @@ fn equal(truth: bool) -> Instruction
     }
 }
 
-/// `/=` of Booleans or of Integers.
+/// The instruction of `/=`, of Booleans if `truth`, else of Integers.
 fn unequal(truth: bool) -> Instruction
     ensures { result ≡ binary_code truth NotEqualSign }
 {
@@ -51,7 +51,7 @@ fn unequal(truth: bool) -> Instruction
     }
 }
 
-/// An operator whose left operand is a Boolean, or is none.
+/// The instruction of an operator. `truth` says whether its left operand is a Boolean.
 fn binary(truth: bool, operator: BinaryOperator) -> Instruction
     ensures { result ≡ binary_code truth operator }
 {
@@ -74,7 +74,7 @@ fn binary(truth: bool, operator: BinaryOperator) -> Instruction
     }
 }
 
-/// A division by this number.
+/// The instruction of a division by this number.
 fn division(operator: BinaryOperator, divisor: i32) -> Instruction
     ensures { result ≡ division_code operator divisor }
 {
@@ -92,7 +92,7 @@ fn integer(value: u32) -> i32
     value.cast_signed()
 }
 
-/// The number right of a division.
+/// The divisor of a division: the number, or 0 if it is another expression.
 fn divisor(expression: &Expression) -> i32
     ensures { result ≡ divisor_of (tree_of expression.now) }
 {
@@ -102,7 +102,7 @@ fn divisor(expression: &Expression) -> i32
     }
 }
 
-/// The operands from left to right, each before its operator.
+/// Adds an expression: the operands from left to right, each before its operator.
 pub fn emit_expression(
     code: &mut Vec<Instruction>,
     names: &Names,
@@ -140,7 +140,7 @@ pub fn emit_expression(
     }
 }
 
-/// The value of an assignment, and the store to its variable.
+/// Adds the value of an assignment, and the store to its variable.
 fn emit_assignment(
     code: &mut Vec<Instruction>,
     names: &Names,
@@ -156,7 +156,7 @@ fn emit_assignment(
     )
 }
 
-/// Assignments, one behind another.
+/// Adds assignments, one after another.
 fn emit_assignments(
     code: &mut Vec<Instruction>,
     names: &Names,
@@ -171,7 +171,7 @@ fn emit_assignments(
     Ok(())
 }
 
-/// The parameters of a signal, one behind another.
+/// Adds the parameters of a signal, one after another.
 fn emit_parameters(
     code: &mut Vec<Instruction>,
     names: &Names,
@@ -186,7 +186,7 @@ fn emit_parameters(
     Ok(())
 }
 
-/// The parameters of a signal, and the sending of it.
+/// Adds the parameters of a signal, and the OUTPUT of the signal.
 fn emit_sending(
     code: &mut Vec<Instruction>,
     names: &Names,
@@ -203,7 +203,7 @@ fn emit_sending(
     put(code, Instruction::Output(signal, receiver, count))
 }
 
-/// The sendings of an OUTPUT, one behind another.
+/// Adds the sendings of an OUTPUT, one after another.
 fn emit_sendings(
     code: &mut Vec<Instruction>,
     names: &Names,
@@ -219,7 +219,7 @@ fn emit_sendings(
     Ok(())
 }
 
-/// What an action does.
+/// Adds the instructions of an action.
 pub fn emit_action(
     code: &mut Vec<Instruction>,
     names: &Names,
@@ -239,7 +239,7 @@ pub fn emit_action(
     }
 }
 
-/// The instructions that pass the parameters of a signal to the variables of INPUT's places.
+/// Adds the instructions that store the parameters of a signal in the variables of the places of INPUT.
 pub fn emit_places(
     code: &mut Vec<Instruction>,
     names: &Names,

@@ -1,5 +1,5 @@
-//! What is put in the code of a DECISION once its bodies stand: the jumps to what follows it, and the tests or the choice in
-//! front of them.
+//! The parts of the code of a DECISION that are known only after its bodies: the jumps to what follows it, and the
+//! tests or the choice before them.
 ghost use Rattle.std.specs.Prelude.{◌≡◌, ◌+◌, ◌≤◌, [], ◌∷◌, ◌++◌, ◌&&◌, false, true, drop, length, replicate, slice_set, OnOk};
 ghost use Rattle.std.specs.List.{list_any};
 ghost use Rattle.sdl_ast.specs.Views.{choice_of};
@@ -13,7 +13,7 @@ use sdl_ast::{Constant, Decision, Literal, Range};
 use std::alloc::AllocError;
 use turn_code::{CodePlace, Instruction};
 
-/// One instruction more.
+/// Adds an instruction.
 pub fn put(code: &mut Vec<Instruction>, instruction: Instruction) -> Result<(), AllocError>
     ensures { OnOk result (code.new.items ≡ code.old.items ++ instruction ∷ []) }
 {
@@ -46,7 +46,7 @@ fn is_truth(value: bool, constant: &Constant) -> bool
     }
 }
 
-/// Whether a range is this truth value.
+/// Whether a range is only this truth value.
 fn names_truth(value: bool, range: &Range) -> bool
     ensures { result ≡ names_truth value range.now }
 {
@@ -56,7 +56,7 @@ fn names_truth(value: bool, range: &Range) -> bool
     }
 }
 
-/// Whether one of the ranges of an answer is.
+/// Whether one of the ranges of an answer is this truth value.
 fn any_names(value: bool, ranges: &[Range]) -> bool
     ensures { result ≡ list_any (names_truth value) ranges.now }
 {
@@ -68,7 +68,7 @@ fn any_names(value: bool, ranges: &[Range]) -> bool
     false
 }
 
-/// The place with a number, else another.
+/// The place with this number, or else `otherwise`.
 pub(crate) fn start_at(starts: &[CodePlace], number: usize, otherwise: CodePlace) -> CodePlace
     ensures { result ≡ first_or otherwise (drop number starts.now) }
 {
@@ -78,7 +78,7 @@ pub(crate) fn start_at(starts: &[CodePlace], number: usize, otherwise: CodePlace
     }
 }
 
-/// Where the body for a truth value stands, if those of the answers begin at these places, and that of ELSE at another.
+/// The place of the body for a truth value, given the places of the bodies of the answers and that of ELSE.
 fn picked_place(
     decision: &Decision,
     starts: &[CodePlace],
@@ -105,7 +105,7 @@ pub fn has_any(places: &[usize]) -> bool
     }
 }
 
-/// Keeps places for instructions that aren't known yet.
+/// Adds placeholders for instructions that aren't known yet.
 pub fn keep_places(code: &mut Vec<Instruction>, count: usize) -> Result<(), AllocError>
     ensures { OnOk result (code.new.items ≡ code.old.items ++ replicate count DropCode) }
 {
@@ -115,7 +115,7 @@ pub fn keep_places(code: &mut Vec<Instruction>, count: usize) -> Result<(), Allo
     Ok(())
 }
 
-/// Puts an instruction at a place.
+/// Replaces the instruction at a place.
 fn set_at(code: &mut Vec<Instruction>, place: usize, instruction: Instruction)
     ensures { code.new.items ≡ slice_set code.old.items place instruction }
 {
@@ -124,7 +124,7 @@ fn set_at(code: &mut Vec<Instruction>, place: usize, instruction: Instruction)
     }
 }
 
-/// The choice of a Boolean DECISION, put in the place that was kept for it.
+/// Puts the choice of a Boolean DECISION in the place kept for it.
 pub fn choose(
     code: &mut Vec<Instruction>,
     place: usize,
@@ -139,7 +139,7 @@ pub fn choose(
     set_at(code, place, Instruction::Pick(falsity, truth));
 }
 
-/// The jump that ends a body which goes on. Its place is told, since what follows the DECISION has none so far.
+/// Adds the jump that ends a body, if it goes on, and records its place: what follows the DECISION has no place yet.
 pub fn leave(
     code: &mut Vec<Instruction>,
     jumps: &mut Vec<usize>,
@@ -155,7 +155,7 @@ pub fn leave(
     Ok(())
 }
 
-/// Leads the jumps at these places to another place.
+/// Makes the jumps at these places lead to `after`.
 pub fn land_jumps(code: &mut Vec<Instruction>, jumps: &[usize], after: CodePlace)
     ensures { code.new.items ≡ landed after code.old.items jumps.now }
 {
@@ -164,7 +164,7 @@ pub fn land_jumps(code: &mut Vec<Instruction>, jumps: &[usize], after: CodePlace
     }
 }
 
-/// Puts instructions from a place on.
+/// Replaces the instructions from a place on.
 pub fn fill_places(code: &mut Vec<Instruction>, first: usize, instructions: &[Instruction])
     requires { first + length instructions.now ≤ MOST_INSTRUCTIONS }
     ensures { code.new.items ≡ filled code.old.items first instructions.now }

@@ -1,4 +1,4 @@
-//! From a transition whose names are all there to its code: INPUT's places, its text, and the connections that it comes to, each once.
+//! From a transition with known names to its code: the places of INPUT, its text, and the connections it leads to.
 #![tactic(auto)]
 
 mod bodies;

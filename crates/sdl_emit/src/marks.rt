@@ -1,11 +1,11 @@
-//! Numbers that are kept once.
+//! Numbers that are kept only once.
 ghost use Rattle.std.specs.Prelude.{◌≡◌, ◌<◌, length, OnOk};
 ghost use Rattle.sdl_meaning.specs.Code.{add_number};
 ghost use Rattle.sdl_emit.specs.Marks.{HaveMarks};
 
 use std::alloc::AllocError;
 
-/// One number more, unless it is kept already, which its mark tells.
+/// Adds a number, unless its mark says that it is kept already.
 pub fn add_once(
     kept: &mut Vec<usize>,
     marks: &mut Vec<bool>,

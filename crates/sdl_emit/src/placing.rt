@@ -1,4 +1,4 @@
-//! Which connections stand behind the text of a piece, and where.
+//! The connections whose code follows the text of a piece, and their places.
 ghost use Rattle.std.specs.Prelude.{◌≡◌, ◌+◌, ◌≤◌, ◌<◌, ◌++◌, ℕ, [], fold, length, replicate, All, IsSome, OnOk, IfOk};
 ghost use Rattle.std.specs.List.{list_any, sum_by};
 ghost use Rattle.sdl_ast.specs.Views.{text_of, end_text, statement_of, choice_of, else_choice, process_of};
@@ -20,7 +20,7 @@ use sdl_measures::Measure;
 use sdl_names::Names;
 use std::alloc::{AllocError, Global};
 
-/// The JOIN with which a text may end.
+/// Adds the JOIN that ends a text, if one does.
 fn collect_end(found: &mut Vec<Join>, end: Option<End>) -> Result<(), AllocError>
     ensures { OnOk result ((c : Scope) → found.new.items ≡ found.old.items ++ code_joins c (end_text end)) }
 {
@@ -32,7 +32,7 @@ fn collect_end(found: &mut Vec<Join>, end: Option<End>) -> Result<(), AllocError
     }
 }
 
-/// The JOINs of the bodies of a DECISION's answers.
+/// Adds the JOINs of the bodies of the answers of a DECISION.
 #[cycle(placing)]
 fn collect_answers(
     found: &mut Vec<Join>,
@@ -47,7 +47,7 @@ fn collect_answers(
     Ok(())
 }
 
-/// The JOINs of the body of ELSE, if there is one.
+/// Adds the JOINs of the body of ELSE, if there is one.
 #[cycle(placing)]
 fn collect_else(
     found: &mut Vec<Join>,
@@ -62,7 +62,7 @@ fn collect_else(
     }
 }
 
-/// The bodies of an Integer DECISION stand behind that of its ELSE.
+/// Adds the JOINs of a DECISION. In an Integer one the bodies of the answers follow that of ELSE.
 #[cycle(placing)]
 fn collect_decision(
     found: &mut Vec<Join>,
@@ -80,7 +80,7 @@ fn collect_decision(
     }
 }
 
-/// The JOINs of a statement: an action has none.
+/// Adds the JOINs of a statement. An action has none.
 #[cycle(placing)]
 fn collect_statement(
     found: &mut Vec<Join>,
@@ -95,7 +95,7 @@ fn collect_statement(
     }
 }
 
-/// The JOINs of a text in the order of its code.
+/// Adds the JOINs of a text in the order of its code.
 #[cycle(placing)]
 fn collect_joins(
     found: &mut Vec<Join>,
@@ -110,7 +110,7 @@ fn collect_joins(
     collect_end(found, transition.end)
 }
 
-/// One more connection, unless it is placed already, which its mark tells.
+/// Adds a connection, unless its mark says that it is placed already.
 fn place_one(
     placed: &mut Vec<usize>,
     marks: &mut Vec<bool>,
@@ -126,7 +126,7 @@ fn place_one(
     add_once(placed, marks, number)
 }
 
-/// The connections to which these JOINs lead, in their order, each unless it is placed already.
+/// Adds the connections to which these JOINs lead, in their order, each unless it is placed already.
 fn place_each(
     placed: &mut Vec<usize>,
     marks: &mut Vec<bool>,
@@ -144,7 +144,7 @@ fn place_each(
     Ok(())
 }
 
-/// The connections that a text joins. `found` keeps its memory from one text to the next.
+/// Adds the connections that a text joins. `found` keeps its memory from one text to the next.
 fn place_joined(
     found: &mut Vec<Join>,
     placed: &mut Vec<usize>,
@@ -162,7 +162,7 @@ fn place_joined(
     place_each(placed, marks, names, found)
 }
 
-/// The connections that one of them joins.
+/// Adds the connections that a placed one joins.
 fn place_more(
     found: &mut Vec<Join>,
     placed: &mut Vec<usize>,
@@ -182,7 +182,7 @@ fn place_more(
     place_joined(found, placed, marks, names, copy)
 }
 
-/// No connection is placed so far.
+/// Marks for all connections, of which none is placed yet.
 fn no_marks(alloc: Global, names: &Names) -> Result<Vec<bool>, AllocError>
     ensures { IfOk result (λ marks. AreMarked (scope_in names.now) [] marks.items) }
 {
@@ -191,8 +191,8 @@ fn no_marks(alloc: Global, names: &Names) -> Result<Vec<bool>, AllocError>
     Ok(marks)
 }
 
-/// The connections that a text joins or one of them does, by number, in the order in which the code
-/// joins them first. `copies` has the copy of each.
+/// The numbers of the connections that a text or one of these connections joins, in the order in which the code first
+/// joins them. `copies` has the copy of each connection. Fails only if memory runs out.
 pub fn place_connections(
     alloc: Global,
     names: &Names,
@@ -218,7 +218,7 @@ pub fn place_connections(
     Ok(placed)
 }
 
-/// How many instructions the text of the connection with a number has; 0 where nothing is measured of it.
+/// How many instructions the text of the connection with this number has; 0 if it has no measure.
 fn measured_size(measures: &[Measure], number: usize) -> u32
     ensures { result ≡ (measure_at measures.now number).size }
 {
@@ -228,7 +228,7 @@ fn measured_size(measures: &[Measure], number: usize) -> u32
     }
 }
 
-/// How many instructions the connection with a number has: that is measured already.
+/// How many instructions the connection with this number has, which is its measured size.
 fn connection_size(names: &Names, measures: &[Measure], number: usize) -> usize
     requires measured { AreMeasures (process_of names.now.process.now) measures.now }
     requires there { number < length (process_of names.now.process.now).connections }
@@ -238,7 +238,7 @@ fn connection_size(names: &Names, measures: &[Measure], number: usize) -> usize
     measured_size(measures, number) as usize
 }
 
-/// How many instructions they have together.
+/// How many instructions these connections have together.
 fn total_size(names: &Names, measures: &[Measure], placed: &[usize]) -> usize
     requires measured { AreMeasures (process_of names.now.process.now) measures.now }
     requires there { All (λ n. n < length (process_of names.now.process.now).connections) placed.now }
@@ -252,7 +252,7 @@ fn total_size(names: &Names, measures: &[Measure], placed: &[usize]) -> usize
     total
 }
 
-/// Where connections stand one behind another from a place on, by number: 0 for one that isn't placed.
+/// The places of connections that follow one another from `start` on, by number; 0 for a connection that isn't placed.
 pub fn connection_places(
     alloc: Global,
     names: &Names,

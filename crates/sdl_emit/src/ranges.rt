@@ -1,4 +1,4 @@
-//! The tests of DECISIONs for an Integer: a range each.
+//! The tests of DECISIONs for an Integer, one for each range.
 ghost use Rattle.std.specs.Prelude.{◌≡◌, ◌++◌, OnOk};
 ghost use Rattle.sdl_ast.specs.Views.{choice_of};
 ghost use Rattle.sdl_meaning.specs.Act.{relation_of, integer_in};
@@ -10,7 +10,7 @@ use sdl_ast::{Constant, Decision, Literal, Range};
 use std::alloc::AllocError;
 use turn_code::{CodePlace, Instruction, Relation};
 
-/// A comparison, as an instruction has it.
+/// The relation of an instruction for one of the text.
 fn relation(sign: sdl_ast::Relation) -> Relation
     ensures { result ≡ relation_of sign }
 {
@@ -24,7 +24,7 @@ fn relation(sign: sdl_ast::Relation) -> Relation
     }
 }
 
-/// The Integer that a constant is.
+/// The Integer of a constant.
 fn integer(constant: &Constant) -> i32
     ensures { result ≡ constant_or_zero (integer_in constant.now.value) }
 {
@@ -34,7 +34,7 @@ fn integer(constant: &Constant) -> i32
     }
 }
 
-/// The test of a range, where the body of its answer stands at a place.
+/// The test of a range, if the body of its answer begins at a place.
 fn range_test(place: CodePlace, range: &Range) -> Instruction
     ensures { result ≡ range_code place.0 range.now }
 {
@@ -49,7 +49,7 @@ fn range_test(place: CodePlace, range: &Range) -> Instruction
     }
 }
 
-/// A test for each range of an answer whose body stands at a place.
+/// Adds a test for each range of an answer whose body begins at a place.
 fn emit_ranges(
     code: &mut Vec<Instruction>,
     place: CodePlace,
@@ -63,7 +63,7 @@ fn emit_ranges(
     Ok(())
 }
 
-/// The tests of an Integer DECISION, whose answers' bodies begin at these places.
+/// Adds the tests of an Integer DECISION, if the bodies of its answers begin at these places.
 pub fn emit_tests(
     code: &mut Vec<Instruction>,
     decision: &Decision,

@@ -1,5 +1,5 @@
-//! The instructions of transitions with their DECISIONs and JOINs. Targets are places in the whole piece. Those of connections
-//! are known beforehand; those within a DECISION once its bodies stand, so each body is gone through once.
+//! The instructions of transitions with their DECISIONs and JOINs. Targets are places in the whole piece. Those of
+//! connections are known beforehand, those in a DECISION after its bodies, so each body is emitted once.
 ghost use Rattle.std.specs.Prelude.{◌≡◌, ◌+◌, ◌≤◌, ◌++◌, ◌&&◌, true, false, ℕ, OnOk, IfOk, All, length, sum_by};
 ghost use Rattle.sdl_ast.specs.Plain.{Text, falls};
 ghost use Rattle.sdl_ast.specs.Views.{text_of, statement_of, decision_of, choice_of, process_of};
@@ -26,7 +26,7 @@ use sdl_sound::both;
 use std::alloc::{AllocError, Global};
 use turn_code::{CodePlace, Instruction};
 
-/// A place within the limit of a piece.
+/// A place of code, which the limit of a piece keeps within 16 bits.
 fn code_place(place: usize) -> CodePlace
     requires { place ≤ MOST_INSTRUCTIONS }
     ensures { result.0 ≡ place }
@@ -34,7 +34,7 @@ fn code_place(place: usize) -> CodePlace
     CodePlace(place as u16)
 }
 
-/// Where the connection with a number stands: nowhere where it has no place.
+/// The place of the connection with this number; 0 if it has none.
 fn place_of(places: &[usize], number: usize) -> usize
     requires { All (λ p. p ≤ MOST_INSTRUCTIONS) places.now }
     ensures place { result ≡ places_by places.now number }
@@ -46,7 +46,7 @@ fn place_of(places: &[usize], number: usize) -> usize
     }
 }
 
-/// The end of a transition: its state, STOP, or the jump to the connection of a JOIN.
+/// Adds the end of a transition: its next state, STOP, or the jump to the connection of a JOIN.
 fn emit_end(
     code: &mut Vec<Instruction>,
     names: &Names,
@@ -67,7 +67,7 @@ fn emit_end(
     }
 }
 
-/// A body, with its jump where it goes on. The jump's place is told, since what follows the DECISION has none so far.
+/// Adds a body and, if it goes on, its jump. Records the place of the jump, whose target has no place yet.
 #[cycle(texts)]
 fn emit_body(
     alloc: Global,
@@ -87,7 +87,7 @@ fn emit_body(
     leave(code, jumps, goes)
 }
 
-/// The body of ELSE, if there is one.
+/// Adds the body of ELSE, if there is one.
 #[cycle(texts)]
 fn emit_else(
     alloc: Global,
@@ -109,7 +109,7 @@ fn emit_else(
     }
 }
 
-/// The bodies of the answers, one behind another, and where they begin.
+/// Adds the bodies of the answers, one after another, and records where they begin.
 #[cycle(texts)]
 fn emit_answers(
     alloc: Global,
@@ -134,7 +134,7 @@ fn emit_answers(
     Ok(())
 }
 
-/// A Boolean DECISION behind its question: the choice, and the bodies in the order of the text.
+/// Adds a Boolean DECISION after its question: the choice, and the bodies in the order of the text.
 #[cycle(texts)]
 fn emit_truth(
     alloc: Global,
@@ -169,7 +169,7 @@ fn emit_truth(
     Ok(has_any(&jumps))
 }
 
-/// An Integer DECISION behind its question: the tests, the drop, the body of ELSE, and the bodies of the answers.
+/// Adds an Integer DECISION after its question: the tests, the drop, the body of ELSE, and the bodies of the answers.
 #[cycle(texts)]
 fn emit_integer(
     alloc: Global,
@@ -205,7 +205,7 @@ fn emit_integer(
     Ok(has_any(&jumps))
 }
 
-/// A DECISION: its question, and what stands behind that. Whether one of the bodies goes on.
+/// Adds a DECISION: its question, and the code after that. Returns whether one of the bodies goes on.
 #[cycle(texts)]
 fn emit_decision(
     alloc: Global,
@@ -228,7 +228,7 @@ fn emit_decision(
     }
 }
 
-/// One statement, alone, and whether what stands behind it may follow.
+/// Adds one statement. Returns whether the statements after it may be reached.
 #[cycle(texts)]
 fn emit_statement(
     alloc: Global,
@@ -252,7 +252,7 @@ fn emit_statement(
     }
 }
 
-/// The instructions of a transition, at the end of the code so far, and whether it may run off its end.
+/// Adds the instructions of a transition. Returns whether it may run off its end.
 #[cycle(texts)]
 pub(crate) fn emit_text(
     alloc: Global,
@@ -281,7 +281,7 @@ pub(crate) fn emit_text(
     }
 }
 
-/// The text of the connection with a number.
+/// Adds the text of the connection with this number.
 fn emit_connection(
     alloc: Global,
     code: &mut Vec<Instruction>,
@@ -305,7 +305,7 @@ fn emit_connection(
     }
 }
 
-/// The texts of connections by number, one behind another. `copies` has the copy of each.
+/// Adds the texts of connections by number, one after another. `copies` has the copy of each.
 pub(crate) fn emit_connections(
     alloc: Global,
     code: &mut Vec<Instruction>,
@@ -326,8 +326,8 @@ pub(crate) fn emit_connections(
     Ok(())
 }
 
-/// The instructions of a transition: the places of its INPUT, its text, and the connections with these numbers. `targets` has
-/// the place of each connection by its number.
+/// The instructions of a transition: the places of its INPUT, its text, and the connections with these numbers.
+/// `targets` has the place of each connection by its number. Fails only if memory runs out.
 pub fn emit_piece(
     alloc: Global,
     names: &Names,

@@ -5,7 +5,7 @@ use Rattle.std.proofs.lemmas.Int.{of_z-to_z}
 use Rattle.turn_code.specs.Values.{wrap}
 use Rattle.sdl_emit.proofs.emit.integer.Goals as goal
 
--- a number below 2^32, read as a number of 32 bits with a sign
+-- A number below 2^32, read as a signed number of 32 bits.
 wrap_of : (n : ℕ) → n < 2 ^ 32 → cast_signed w32 n ≡ wrap (pos n)
 unfolding int_wrap
 wrap_of n h = ap (cast_signed w32) (sym (mod-eq_of_lt h))

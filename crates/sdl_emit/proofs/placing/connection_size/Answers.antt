@@ -11,7 +11,7 @@ use Rattle.sdl_measures.specs.Counting.{measure_at}
 use Rattle.sdl_measures.specs.declared.measures.Measure.{Measure}
 use Rattle.sdl_emit.proofs.placing.connection_size.Goals as goal
 
--- the size of connection n is measured, up to the greatest count
+-- The size of connection n is its measure, up to the greatest count.
 size_told : (p : PlainProcess) (cs : List PlainConnection) (ms : List Measure) (n : ℕ) → AllZip (IsMeasureOf p) cs ms → n < length cs
     → (measure_at ms n).size ≡ capped (size (variables_of p) (option_map_or (λ k. k.text) (slice_get cs n) falls))
 size_told p [] ms n h lt = absurd (omega (arith, lt))
