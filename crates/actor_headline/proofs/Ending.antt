@@ -1,4 +1,4 @@
--- Each turn that ends along a list of events gives what the text's transition means, within its certificate.
+-- Each turn that ends along a list of events has the result that the text's transition means, within its certificate.
 use Rattle.std.proofs.Common.{◌≡◌, ℕ, List, [], ◌∷◌, Option, Some, None, refl, sym, ◌∙◌, subst}
 use Rattle.std.specs.Prelude.{Ok, slice_get}
 use Rattle.std.proofs.lemmas.Option.{same_Some}
@@ -62,7 +62,7 @@ unfolding turn_out
 of_turn b k n t me is_set fits called h =
     of_actor b k.set is_set n t me (slice_get (state_of k).actors n) (fits.each n) (λ a there. name_is (state_of k).actors n a me there called) h
 
--- a run that has an outcome gives it
+-- the result of a run is its outcome, if it has one
 ended_so : (r : Ran) (o : Outcome) → outcome_in r ≡ Some o → result_in r ≡ Ok o
 ended_so (ended e s) o h = cc
 ended_so (got_stuck x) o h = cc

@@ -1,4 +1,4 @@
--- What becomes of a link that was opened with a set, from what its parts promise: opening it, and running events.
+-- The run of a link opened with a set, from the promises of its parts: opening the link, and running events.
 use Rattle.std.proofs.Common.{◌≡◌, ◌≤◌, List, map, sym, subst}
 use Rattle.plain_laws.specs.Limits.{MOST_JOURNAL}
 use Rattle.sdl_ast.specs.Plain.{PlainBlock}
@@ -17,7 +17,7 @@ use Rattle.actor_headline.specs.Headline.{RunsBy, EachEnds, opened_by}
 use Rattle.actor_headline.proofs.Ending.{each_ends}
 
 module _ (d : Draft) (l : LimitNumbers) (es : List Event) (new : Ledger) (rs : List Reply) where
-  -- what running events promises, of the book before them
+  -- the promise of running events, for the book before them
   abbrev Ran : Ledger → Type 0
   Ran old = ((act : Meaning) → Means act old.set → map Says rs ≡ answers_by act old es)
       → ((act : Meaning) → Means act old.set → new ≡ after_by act old es)

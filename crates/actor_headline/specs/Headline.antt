@@ -1,4 +1,4 @@
--- The headline: what becomes of a text that is loaded and run, whatever the events and their order.
+-- The headline: the result of loading and running a text, whatever the events and their order.
 use Rattle.std.specs.Prelude.{◌≡◌, ℕ, ◌≤◌, List, [], ◌∷◌, map, Some, Result, Ok, Err}
 use Rattle.sdl_lex.specs.declared.lexemes.Token.{Token}
 use Rattle.sdl_ast.specs.Plain.{PlainBlock}
@@ -30,24 +30,23 @@ use Rattle.actor_headline.specs.declared.running.TextRun.{TextRun}
 abbrev pub opened_by : Draft → LimitNumbers → Ledger
 opened_by d l = opened_book d l.port l.env l.journal
 
--- What events do to a link that was opened with a set, by a meaning of its turns: the replies, the
--- book and its state are the machine's. The machine has an answer Stuck too, for a turn whose
--- meaning gives a trouble in place of an outcome: Unset, WrongSort, Underflow, NoState, NoReceiver,
--- NoAnswer or Outside; no reply is that. A full port is its `Refused Full` (B1) for an offer, and
--- `Full` among a report's lost outputs for an output; a full environment is `EnvFull` there.
+-- Events on a link opened with a set, by a meaning of its turns: the replies, the book and its
+-- state are the machine's. The machine also has an answer Stuck, for a turn whose meaning is a
+-- trouble instead of an outcome: Unset, WrongSort, Underflow, NoState, NoReceiver, NoAnswer or
+-- Outside. No reply is Stuck. A full port is `Refused Full` (B1) for an offer, and `Full` among a
+-- report's lost outputs for an output. A full environment is `EnvFull` there.
 pub record RunsBy (act : Meaning) (d : Draft) (l : LimitNumbers) (es : List Event) (book : Ledger)
     (replies : List Reply) : Type 0 where
   pub answers : map Says replies ≡ answers_by act (opened_by d l) es
   pub after : book ≡ after_by act (opened_by d l) es
   pub state : state_of book ≡ state_by act book
 
--- The turn that an actor has out comes to an end. The text's transition of the actor's process
--- gives that end, with its variables, effects and count, on the turn's input: so it reads no
--- variable that is unset, has no wrong operand nor lacks one, no answer, next state or receiver,
--- and doesn't leave its text, for each of which it would give a trouble. Each of its outputs goes
--- to the environment, or `number_for` finds an actor of the process that it goes to. The answer
--- says so; the count is within the certificate's budget; and that is the longest path of the
--- transition.
+-- The turn that an actor has out ends. On the turn's input, the text's transition of the actor's
+-- process has that end, with these variables, effects and count. So the turn is in no trouble: it
+-- reads no unset variable, has no wrong or missing operand, lacks no answer, next state or
+-- receiver, and doesn't leave its text. Each output goes to the environment, or `number_for` finds
+-- an actor of the receiving process. The answer says so. The count is within the certificate's
+-- budget, which is the longest path of the transition.
 pub record EndsAsMeant (b : PlainBlock) (k : Ledger) (n : ℕ) (t : Turn) : Type 0 where
   pub outcome : Outcome
   pub name : ActorName
@@ -59,7 +58,7 @@ pub record EndsAsMeant (b : PlainBlock) (k : Ledger) (n : ℕ) (t : Turn) : Type
   pub within : outcome.progress.count ≤ t.certificate.budget
   pub longest : IsCertifiedBy b name.process.0 t.place t.input_number t.certificate
 
--- so where an event is the end of a turn
+-- as `EndsAsMeant`, if the event is the end of a turn
 abbrev pub EndsAt : PlainBlock → Ledger → Event → Type 0
 EndsAt b k (Offer o) = Unit {0}
 EndsAt b k (Begin n) = Unit {0}
@@ -68,15 +67,15 @@ EndsAt b k (Finish n) = (t : Turn) → turn_out k n ≡ Some t → EndsAsMeant b
 EndsAt b k (Advance ticks) = Unit {0}
 EndsAt b k TakeEnv = Unit {0}
 
--- so along a list of events
+-- as `EndsAt`, along a list of events
 abbrev pub EachEnds : PlainBlock → Ledger → List Event → Type 0
 EachEnds b k [] = Unit {0}
 EachEnds b k (e ∷ es) = EndsAt b k e × EachEnds b (ask k e).book es
 
--- What a block's set does: its numbers and names are in the order of the text, each turn is what
--- the text's transition means, by the set's own code the answers are the same, and of the machine
--- by which it answers it holds, whatever its turns mean, that what is full or has stopped is told
--- by name, of outputs once and at its place, and of offers and outputs nothing else.
+-- What a block's set does. Its numbers and names are in the order of the text. Each turn is what
+-- the text's transition means, and the set's own code has the same answers. The machine that
+-- answers, whatever its turns mean, reports by name what is full or has stopped: of outputs once
+-- and at its place, and of offers and outputs nothing else.
 pub record RunsAsRead (b : PlainBlock) (d : Draft) (l : LimitNumbers) (es : List Event)
     (book : Ledger) (replies : List Reply) : Type 0 where
   pub is_set : IsSetOf b d
@@ -85,8 +84,8 @@ pub record RunsAsRead (b : PlainBlock) (d : Draft) (l : LimitNumbers) (es : List
   pub ends : EachEnds b (opened_by d l) es
   pub full : FullLaw
 
--- The text has tokens, reads as a block that is low enough, and breaks no rule; and this is what
--- its set does, however it is read.
+-- The text has tokens, reads as a block that is low enough, and breaks no rule. However it is read,
+-- its set does this.
 pub record IsRun (text : List ℕ) (l : LimitNumbers) (es : List Event) (book : Ledger)
     (replies : List Reply) : Type 0 where
   pub sound : IsSound text
@@ -94,8 +93,8 @@ pub record IsRun (text : List ℕ) (l : LimitNumbers) (es : List Event) (book : 
   pub every :
       (ts : List Token) (b : PlainBlock) → IsRead text ts b → RunsAsRead b set l es book replies
 
--- A fault of the text is named, and it isn't sound: so where memory is there, a text goes on
--- exactly where it is. Want of memory says nothing of it.
+-- A fault of the text is named, and the text isn't sound. So if there is memory, exactly the sound
+-- texts are run. NoMemory says nothing about the text.
 abbrev pub IsFault : List ℕ → LoadFault → Type 0
 IsFault text (Lex fault line) = IsRefused text (Lex fault line) × (IsSound text → ⊥)
 IsFault text (Parse fault line) = IsRefused text (Parse fault line) × (IsSound text → ⊥)

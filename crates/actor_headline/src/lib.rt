@@ -1,5 +1,5 @@
-//! The whole way of a text, in one call: it is loaded, a link is opened with its set, and events happen to that. Its one clause says what a
-//! text's processes do on any events in any order.
+//! A text's whole way in one call: it is loaded, a link is opened with its set, and events are applied to the link. One
+//! clause says what the text's processes do on any events in any order.
 #![tactic(auto)]
 
 mod running;

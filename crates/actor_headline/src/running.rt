@@ -1,4 +1,4 @@
-//! A text is loaded and run.
+//! Loading and running a text.
 ghost use Rattle.std.specs.Prelude.{IfOk};
 ghost use Rattle.sdl_ast.specs.Plain.{PlainBlock};
 ghost use Rattle.turn_verify.specs.Meant.{IsSetOf};
@@ -9,27 +9,27 @@ use actor_machine::laws::{finish_law, fits_law, full_law, keeps_law, set_law};
 use std::alloc::{AllocError, Global};
 use turn_verify::{LoadFault, Verified, load};
 
-/// A text that was run: the link's book behind the last event, and what was answered to each.
+/// The result of running a text: the link's book after the last event, and the answer to each event.
 #[derive(Drop)]
 pub struct TextRun {
     pub book: Book,
     pub replies: Vec<Reply>,
 }
 
-/// Loads a text, opens a link with its set, and lets events happen to it in order.
+/// Loads a text, opens a link with its set, and applies events to it in order.
 ///
-/// A text goes on exactly where it has tokens, reads as a tree that is at most 32 high, and breaks no rule. Whatever the events and their
-/// order, no transition of it then reads a variable that is unset, meets a wrong operand, lacks an operand, an answer, a next state or a
-/// receiver, or leaves its code: each does what its text means (Z.100), and takes at most as many instructions as its certificate's budget,
-/// which is the cost of the longest path through its text. Each of its outputs goes to the environment or to an actor of the set, who is there. What
-/// is full is told by name: of the offers those to a full port are refused as B1 Full, and of a turn's outputs those to a full port, to a full
-/// environment or to an actor that has stopped are reported as lost for that, each once, in order, with their places among the turn's effects;
-/// and these alone.
+/// A text is run exactly if it has tokens, reads as a tree at most 32 high, and breaks no rule. Then, whatever the
+/// events and their order, no transition reads an unset variable, meets a wrong operand, lacks an operand, an answer, a
+/// next state or a receiver, or leaves its code. Each does what its text means (Z.100), within its certificate's
+/// budget, the cost of the longest path through its text. Each output goes to the environment or to an existing actor
+/// of the set. A refusal or loss for fullness is reported by name. An offer to a full port is refused as B1 Full. A
+/// turn's outputs to a full port, a full environment or a stopped actor are reported as lost, each once, in order, with
+/// their places among the turn's effects. No others are.
 ///
 /// # Errors
 ///
-/// A fault that the text has, of the first layer that finds one, with its line where it has one; or [`LoadFault::NoMemory`], which says
-/// nothing of the text.
+/// A fault of the text, from the first layer that finds one, with its line if it has one; or [`LoadFault::NoMemory`],
+/// which says nothing about the text.
 pub fn run_text(
     alloc: Global,
     text: &str,
@@ -45,7 +45,7 @@ pub fn run_text(
     }
 }
 
-/// Opens a link with a set, and lets events happen to it.
+/// Opens a link with a set, and applies events to it.
 fn run_set(
     alloc: Global,
     set: &Verified,

@@ -1,4 +1,4 @@
-//! A text that is loaded and run in one call: that it does so where there is memory.
+//! Tests that a text is loaded and run in one call if there is memory.
 use crate::running::run_text;
 use actor_book::{Event, Limits, Offer, Refusal, Reply};
 use arrayvec::ArrayVec;
@@ -26,7 +26,7 @@ fn seven() -> Event {
     })
 }
 
-/// START, two 7s of which the port has room for one, a turn, and what nobody sent.
+/// START, two 7s although the port has room for only one, a turn, and taking a signal that nobody sent.
 fn events() -> [Event; 7] {
     [
         Event::Begin(0),
@@ -39,8 +39,8 @@ fn events() -> [Event; 7] {
     ]
 }
 
-/// A number for what is answered: 1 for an offer, 2 for a begin, 100 and the count for a finish, 10 for a full port, 20 where nothing waits for
-/// the environment, 0 else.
+/// A number for an answer: 1 for an offer, 2 for a begin, 100 plus the count for a finish, 10 for a full port, 20 if
+/// nothing waits for the environment, otherwise 0.
 fn told(reply: &Reply) -> u32 {
     match reply {
         Reply::Offered => 1,
@@ -52,8 +52,8 @@ fn told(reply: &Reply) -> u32 {
     }
 }
 
-/// What a text comes to: the number of each answer; or the layer that refuses it, 1 for its tokens, 2 for its tree, 3 for its rules, and 4 for
-/// want of memory.
+/// The result of a text: the number of each answer; or that of the layer that refuses it: 1 for its tokens, 2 for its
+/// tree, 3 for its rules, and 4 if memory runs out.
 fn run(alloc: Global, text: &str) -> Option<Result<[u32; 7], u32>> {
     match run_text(alloc, text, Limits::new(1, 1, 16)?, &events()) {
         Ok(ran) => {

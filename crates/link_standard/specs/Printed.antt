@@ -5,7 +5,7 @@ use Rattle.link_term.specs.Printed.{open_error_text}
 use Rattle.link_standard.specs.declared.opening.NewError.{NewError}
 use Rattle.link_standard.specs.declared.opening.NewError.TheVariants as new
 
--- what is wrong with the text and its line, or why there is no terminal over its set
+-- the fault of the text with its line, or why there is no terminal over its set
 abbrev pub new_error_text : NewError → List ℕ
 new_error_text (new.Load fault) = fault_text fault
 new_error_text (new.Open error) = open_error_text error

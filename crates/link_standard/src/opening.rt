@@ -11,9 +11,9 @@ use thiserror::Error;
 /// Why there is no terminal over the program's own set.
 #[derive(Debug, Drop, Error)]
 pub enum NewError {
-    /// The text of the processes is refused, or there is no memory to load it.
+    /// The text of the processes is refused, or memory runs out as it is loaded.
     Load(LoadFault),
-    /// There is no terminal over its set.
+    /// There is no terminal over the text's set.
     Open(OpenError),
 }
 
@@ -35,7 +35,7 @@ impl fmt::Display for NewError {
 ///
 /// # Errors
 ///
-/// What `load` answers for the text, which the table of texts shows to be accepted; what [`Terminal::of_set`] does for its set.
+/// The fault that `load` returns for the text (the table of texts shows none), or that of [`Terminal::of_set`].
 pub fn new_terminal(alloc: Global, mode: Mode) -> Result<Terminal, NewError>
     ensures ok { IfOk result (IsNew STANDARD.now mode) }
     ensures err { IfErr result (IsRefusedNew STANDARD.now) }

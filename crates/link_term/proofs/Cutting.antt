@@ -1,4 +1,4 @@
--- Octets in several calls.
+-- Octets passed in several calls.
 use Rattle.std.proofs.Common.{◌≡◌, ℕ, ◌+◌, ◌-◌, Bool, List, [], ◌∷◌, ◌++◌, length, take, drop, refl, sym, ap, ◌∙◌, subst, append-nil, append_assoc, arith}
 use Rattle.std.proofs.lemmas.List.{take_all, length-drop}
 use Rattle.std.proofs.Math.Seq.{take-add}
@@ -65,7 +65,7 @@ rest_is i octets = take_all (length octets - i) (drop i octets) (omega (arith, l
 pub rest_length : (i : ℕ) (octets : List ℕ) → length (take (length octets - i) (drop i octets)) ≡ length octets - i
 rest_length i octets = ap length (rest_is i octets) ∙ length-drop i octets
 
--- some octets more of a slice
+-- some more octets of a slice
 pub heard_more : (t m u : Term) (octets : List ℕ) (i n : ℕ) → Heard t (take i octets) m → Heard m (take n (take (length octets - i) (drop i octets))) u
     → Heard t (take (i + n) octets) u
 heard_more t m u octets i n first second =

@@ -1,4 +1,4 @@
--- What calls take from the messages that are kept to send, and how many of these count as sent.
+-- Which messages held for sending calls remove, and how many count as sent.
 use Rattle.std.proofs.Common.{◌≡◌, ℕ, zero, suc, ◌+◌, ◌≤◌, Bool, false, List, [], ◌++◌, length, refl, sym, ap, ◌∙◌, subst, length-append, append_assoc, arith}
 use Rattle.resend_store.specs.declared.messages.Msu.{Msu}
 use Rattle.resend_store.specs.Window.{Window}
@@ -80,7 +80,7 @@ took_more t m u first second = record {
   loses = losses_joined first.gone second.gone (window_of t) (window_of m) (window_of u) first.loses second.loses;
 }
 
--- octets that are taken take away the messages that they acknowledge
+-- octets taken remove the messages that they acknowledge
 pub took_heard : StaysKept → (t u : Term) (bits : List Bool) (octets : List ℕ) → Stands bits t.line → Heard t octets u → Took t u
 took_heard law t u bits octets stands heard =
     let are = stands_events bits t.line stands in
@@ -117,7 +117,7 @@ module _ (law : KeptLaw) where
         (let P : Processes → Type 0 = λ x. x.transceiver.sender.sent ≤ t.processes.transceiver.sender.sent + n in subst P (sym is) (left_sent n t.processes)) few;
   }
 
-  -- units that went out
+  -- sent units
   pub spoke_sends : (t u : Term) (before after : List ℕ) (n most : ℕ) → n ≤ most → Spoke t before n u after → Sends most t u
   spoke_sends t u before after n most few spoke =
       let s = left_sends t n most u.processes few spoke.processes in record { kept = s.kept; sent = s.sent }

@@ -1,4 +1,4 @@
--- Octets of which none but the last reports anything.
+-- Octets of which only the last causes an event.
 use Rattle.std.proofs.Common.{◌≡◌, ℕ, ◌+◌, ◌-◌, ◌<◌, ◌≤◌, Bool, true, false, ◌&&◌, ◌⊎◌, inl, inr, is_some, Option, List, [], ◌∷◌, ◌++◌, length, reverse, take, get_or, refl, sym, ap, ◌∙◌, subst, append-nil, append_assoc, length-append, arith}
 use Rattle.std.specs.Prelude.{if◌then◌else◌, ◌≢◌}
 use Rattle.std.proofs.lemmas.Bool.{true≢false}
@@ -23,7 +23,7 @@ use Rattle.link_term.specs.Hearing.{AreTaken, nothing, Hears, silent, octet, Hea
 use Rattle.link_term.proofs.Cutting.{no_bits, next_bits, one_bits}
 use Rattle.link_term.proofs.Delivering.{tidied_transceiver}
 
--- ---- room that was made is there
+-- ---- room that was made stays
 
 abbrev ledger_from : Ledger → ℕ → Ledger
 ledger_from b n = record (rebased b) { first = n }
@@ -36,7 +36,7 @@ either_way : (c : Bool) (x y : Processes) → x ≡ y → (if c then x else y) �
 either_way true x y h = h
 either_way false x y h = refl
 
--- the processes whose book was rebased is as it was rebased once more
+-- rebasing the book a second time changes nothing
 rebased_stays : (t : Processes) → tidied (with_book t (rebased t.book)) ≡ with_book t (rebased t.book)
 unfolding tidied
 rebased_stays t =
@@ -55,7 +55,7 @@ pub tidied_twice : (t : Processes) → tidied (tidied t) ≡ tidied t
 unfolding tidied
 tidied_twice t = made_twice (is_low t) t refl
 
--- ---- no report in all is none on the way
+-- ---- no events in all means none on the way
 
 runs_before : (k h : List Bool) (m : Option ℕ) (all : List LineEvent) → Runs (k ++ h) m all
     → (n : Option ℕ) × (first more : List LineEvent) × Runs h n first × (all ≡ first ++ more)
@@ -86,7 +86,7 @@ quiet_first bits x y all before after =
     let R : List LineEvent → Type 0 = λ l. Runs (reverse (bits ++ x)) a.0 l in
     (a.0, subst R (nothing_between all a.1 b.1 b.2 a.2 (one_events bits b.1 all (b.0, b.3) before) b.4 a.4) a.3)
 
--- ---- a set that doesn't hear of octet counting
+-- ---- a set without Counting
 
 abbrev Deaf : Processes → Type 0
 Deaf t = is_there t.names.options.counting ≡ false
@@ -111,7 +111,7 @@ tidied_names t = names_if (is_low t) (with_book t (rebased t.book)) t t.names re
 deaf_tidied : (t : Processes) → Deaf t → Deaf (tidied t)
 deaf_tidied t deaf = ap (λ (n : Names). is_there n.options.counting) (tidied_names t) ∙ deaf
 
--- there is one octet, or nothing is told between octets
+-- there is one octet, or the set has no Counting
 abbrev IsHushed : List ℕ → Processes → Type 0
 IsHushed xs t = (xs ≡ []) ⊎ Deaf t
 
@@ -122,9 +122,9 @@ hushed_more y ys t (inr deaf) = deaf
 counted_by : (bits : List Bool) (all : List LineEvent) → AreEvents bits all → (on : Bool) × IsCounting bits on
 counted_by bits all are = (is_some are.0, (are.0, all, are.1, refl))
 
--- ---- octets in turn
+-- ---- octets in order
 
--- room is made before the first of them, and is there before each of the others
+-- room is made before the first octet, and is still there before each other one
 hears_run : (bits : List Bool) (all given : List LineEvent) (t m : Processes) (xs : List ℕ) (x : ℕ) (on : Bool) → length t.transceiver.messages < KEPT_MESSAGES
     → AreEvents bits all → AreEvents (bits ++ bits_of xs) all → AreEvents ((bits ++ bits_of xs) ++ low_bits 8 x) (all ++ given)
     → IsCounting ((bits ++ bits_of xs) ++ low_bits 8 x) on → IsHushed xs t → AreTaken given (tidied t) m
@@ -164,7 +164,7 @@ last_taken octets n least within =
     let whole : n ≡ n - 1 + 1 = omega (arith, least) in
     ap (λ (k : ℕ). take k octets) whole ∙ take_more octets (n - 1) 0 (omega (arith, least, within))
 
--- so many octets of a slice, at least one: those before the last report nothing
+-- at least one octet of a slice: those before the last cause no event
 before_last : (bits : List Bool) (all given : List LineEvent) (octets : List ℕ) (n : ℕ) → 0 < length octets → (given ≡ [] → n ≡ length octets)
     → AreEvents bits all → AreEvents (bits ++ bits_of (take n octets)) (all ++ given)
     → (given ≢ [] → (0 < n) × AreEvents (bits ++ bits_of (take (n - 1) octets)) all)
@@ -203,7 +203,7 @@ hears_part bits all given t m octets n on within one room quiet after before cou
     (hears_run bits all given t m xs x on room quiet before.1 (subst P bits_are after) (subst O bits_are counts)
     (hushed_by octets n t (is_there t.names.options.counting) refl one) taken)
 
--- what one call of a deframer took, where room was made before, and then was told of octet counting
+-- one call of a deframer, with room made before it and Counting told after it
 pub heard_part : (t u : Term) (m : Processes) (octets : List ℕ) (n : ℕ) (given : List LineEvent) (on : Bool) → 0 < length octets → n ≤ length octets
     → (is_there t.processes.names.options.counting ≡ true → n ≤ 1)
     → (given ≡ [] → n ≡ length octets)
@@ -238,7 +238,7 @@ one_of t m part n is few one there =
     let here : is_there m.names.options.counting ≡ true = ap (λ (x : Names). is_there x.options.counting) names ∙ there in
     omega (arith, few, one here)
 
--- what is taken of a part is taken of the octets
+-- octets taken from a part are taken from the whole
 pub heard_of : (t u : Term) (octets part : List ℕ) (n : ℕ) → part ≡ take (length part) octets → n ≤ length part → Heard t (take n part) u → Heard t (take n octets) u
 heard_of t u octets part n is few heard =
     let P : List ℕ → Type 0 = λ xs. Heard t xs u in

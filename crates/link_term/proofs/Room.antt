@@ -1,4 +1,4 @@
--- Room that is there.
+-- Room in the journal.
 use Rattle.std.proofs.Common.{◌≡◌, ℕ, Bool, true, false, Some, None, Result, Ok, Err, IfErr, IsOk, refl, sym, ap, ◌∙◌}
 use Rattle.std.specs.Prelude.{if◌then◌else◌}
 use Rattle.actor_machine.specs.Ledger.{rebased}
@@ -19,7 +19,7 @@ some_is_none r h = cc
 false_is_true : false ≡ true → ⊥
 false_is_true h = cc
 
--- where no room is to be made, a tick is refused for what was told before
+-- if no room is to be made, a tick is refused only for the reason given beforehand
 pub tick_happens : (n : ℕ) (t : Processes) (result : Result ℕ CallError) → IfErr result (IsTickError n t) → is_low t ≡ false → tick_refusal n t ≡ None
     → IsOk result
 tick_happens n t (Ok due) error room none = refl

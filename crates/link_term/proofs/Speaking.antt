@@ -1,4 +1,4 @@
--- Units out, one after another.
+-- Units sent one after another.
 use Rattle.std.proofs.Common.{◌≡◌, ℕ, ◌+◌, ◌-◌, ◌*◌, ◌<◌, ◌≤◌, zero, suc, true, Option, None, List, [], ◌∷◌, ◌++◌, refl, sym, ap, ◌∙◌, subst, append-nil, append_assoc, arith}
 use Rattle.std.specs.Option.{option_to_list}
 use Rattle.su_octets.specs.Frame.{Frame, SpareBitsAreZero}
@@ -77,7 +77,7 @@ spoke_more t m u a b c n first second =
 none_given : (o : Option units.Unit) → o ≡ None → [] ≡ option_to_list o ++ []
 none_given o h = sym (ap (λ (x : Option units.Unit). option_to_list x ++ []) h)
 
--- nothing was said of the line
+-- before the first Line signal
 pub spoke_none : (t u : Term) (a b : List ℕ) → None ≡ (sent (tidied t.processes)).unit → u.processes ≡ (sent (tidied t.processes)).processes → u.line ≡ t.line
     → u.sending ≡ t.sending → b ≡ a → Spoke t a 1 u b
 spoke_none t u a b unit processes line sending same =

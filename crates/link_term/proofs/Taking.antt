@@ -1,4 +1,4 @@
--- What events of the line lead to.
+-- The effect of events of the line.
 use Rattle.std.proofs.Common.{◌≡◌, ℕ, ◌+◌, ◌<◌, ◌≤◌, zero, suc, false, List, [], ◌∷◌, length, drop, refl, sym, ap, ◌∙◌, subst, arith}
 use Rattle.su_octets.specs.Frame.{Frame}
 use Rattle.su_octets.specs.declared.units.Unit as units

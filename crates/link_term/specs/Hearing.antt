@@ -1,4 +1,4 @@
--- What line octets that come in lead to.
+-- The effect of received line octets.
 use Rattle.std.specs.Prelude.{◌≡◌, ℕ, ◌<◌, Bool, false, List, [], ◌∷◌, ◌++◌, length}
 use Rattle.su_octets.specs.Bits.{low_bits, bits_of}
 use Rattle.su_octets.specs.Frame.{Frame}
@@ -13,15 +13,15 @@ use Rattle.link_processes.specs.Machine.{tidied}
 use Rattle.link_transceiver.specs.Limits.{KEPT_MESSAGES}
 use Rattle.link_term.specs.Term.{Term}
 
--- octets between two flags: those of a unit are taken as that unit, others as an error
+-- octets between two flags are taken as a unit if they are one, otherwise as an error
 pub data Reads : List ℕ → Processes → Processes → Type 0 where
   as_unit : (octets : List ℕ) (u : units.Unit) (t : Processes) → Frame octets u
       → Reads octets t (unit_taken u t)
   as_error : (octets : List ℕ) (t : Processes) → ((u : units.Unit) → Frame octets u → ⊥)
       → Reads octets t (error_taken t)
 
--- What the events of the line lead to, in their order. A unit ends octet counting, and that it does
--- so is told before the unit is taken.
+-- The effect of events of the line, in order. A unit ends octet counting, which the monitors are
+-- told before it is taken.
 pub data AreTaken : List LineEvent → Processes → Processes → Type 0 where
   nothing : (t : Processes) → AreTaken [] t t
   unit : (octets : List ℕ) (left : List LineEvent) (t u v : Processes)
@@ -32,9 +32,9 @@ pub data AreTaken : List LineEvent → Processes → Processes → Type 0 where
   sixteen : (left : List LineEvent) (t v : Processes) → AreTaken left (octets_taken t) v
       → AreTaken (event.SixteenOctets ∷ left) t v
 
--- Octets, each of which finds room for a message: room is made in the journal where it is needed,
--- then come the events that the octet brings behind the bits before it, of which `all` were told,
--- and behind them whether octets are counted from there on. `now` are those after the last octet.
+-- Octets, each with room for a message. For each, room is made in the journal if needed. Then the
+-- events that it adds to `all`, those of the earlier bits, are taken. Then the monitors are told
+-- whether octets are counted. `now` has all events after the last octet.
 pub data Hears :
     List Bool → List LineEvent → Processes → List ℕ → List LineEvent → Processes → Type 0 where
   silent : (bits : List Bool) (all : List LineEvent) (t : Processes) → Hears bits all t [] all t
@@ -47,7 +47,7 @@ pub data Hears :
       → Hears (bits ++ low_bits 8 first) (all ++ given) (counting_told on u) octets now v
       → Hears bits all t (first ∷ octets) now v
 
--- what a terminal makes of octets, whatever line bits came before
+-- a terminal after these octets, whatever line bits were received before
 pub record Heard (old : Term) (octets : List ℕ) (new : Term) : Type 0 where
   pub stands : (bits : List Bool) → Stands bits old.line → Stands (bits ++ bits_of octets) new.line
   pub hears : (bits : List Bool) (all : List LineEvent) → Stands bits old.line → AreEvents bits all

@@ -1,4 +1,4 @@
--- What holds of every terminal: its deframer stands for the line so far.
+-- The invariant of a terminal: its deframer matches the line so far.
 use Rattle.std.specs.Prelude.{Bool, List}
 use Rattle.bit_line.specs.Deframing.{Stands}
 use Rattle.bit_line.specs.declared.deframer.Deframer.{Deframer}

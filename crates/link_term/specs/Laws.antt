@@ -1,4 +1,4 @@
--- What follows for every list of octets.
+-- Laws over every list of octets.
 use Rattle.std.specs.Prelude.{◌≡◌, ℕ, Bool, List, [], ◌++◌}
 use Rattle.resend_store.specs.declared.messages.Msu.{Msu}
 use Rattle.bit_line.specs.declared.events.LineEvent.{LineEvent}
@@ -55,7 +55,7 @@ acknowledged_along (silent bits all t) = []
 acknowledged_along (octet bits all given t u v first octets now on room are taken counts hears) =
     acknowledged_taken taken ++ acknowledged_along hears
 
--- Those leave what is kept to send, and nothing else does.
+-- Exactly those leave the messages held for sending.
 abbrev pub StaysKept : Type 0
 StaysKept =
     (bits : List Bool) (all now : List LineEvent) (t u : Processes) (octets : List ℕ)

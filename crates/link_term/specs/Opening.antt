@@ -18,7 +18,7 @@ use Rattle.link_term.specs.declared.opening.OpenError.TheVariants.{NoName, NoMem
 use Rattle.link_term.specs.Term.{Term}
 
 -- how many signals each port of a terminal holds, how many may wait for the environment, and how
--- many events its journal holds: the most
+-- many events its journal holds: the greatest numbers allowed
 abbrev pub PORT : ℕ
 PORT = MOST_PORT
 
@@ -28,14 +28,14 @@ ENVIRONMENT = MOST_ENVIRONMENT
 abbrev pub JOURNAL : ℕ
 JOURNAL = MOST_JOURNAL
 
--- Nothing is kept, nothing came and nothing went; Odd tells of units at fault where the set has it.
+-- Nothing is held, received or sent yet. Odd reports abnormal units if the set has it.
 abbrev pub first_over : Names → RoundLimits → Mode → TransceiverState
 first_over names limits mode =
     record (first_within limits mode) { odd = is_there names.options.odd }
 
--- The set has all that a terminal wants of it, each by its number. No actor has begun, nothing is
--- kept, nothing came and nothing went, octets are counted, and nothing is measured. These are the
--- limits of forced retransmission.
+-- The set meets all requirements, with these numbers. No actor has begun, nothing is held, received
+-- or sent yet, octets are counted, and all measurements are 0. These are the limits of forced
+-- retransmission.
 pub record IsOverWithin (d : Draft) (limits : RoundLimits) (mode : Mode) (t : Term)
     : Type 0 where
   pub has : All (Has d) wanted
@@ -48,12 +48,11 @@ pub record IsOverWithin (d : Draft) (limits : RoundLimits) (mode : Mode) (t : Te
   pub line : Stands [] t.line
   pub sending : Gave [] [] t.sending
 
--- the same with the usual limits
+-- as `IsOverWithin`, with the usual limits
 abbrev pub IsOver : Draft → Mode → Term → Type 0
 IsOver d mode t = IsOverWithin d usual_limits mode t
 
--- a name is the first of those wanted that the set lacks; or it has them all, and there is no
--- memory
+-- the set doesn't meet this requirement, the first such one; or it meets all, and memory runs out
 abbrev pub IsRefusedOver : Draft → OpenError → Type 0
 IsRefusedOver d (NoName name) = IsFirstLacking d name wanted
 IsRefusedOver d NoMemory = All (Has d) wanted

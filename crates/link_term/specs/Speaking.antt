@@ -1,4 +1,4 @@
--- What goes out on the line.
+-- The octets sent on the line.
 use Rattle.std.specs.Prelude.{◌≡◌, ℕ, ◌<◌, ◌≤◌, zero, suc, true, List, [], ◌∷◌, ◌++◌}
 use Rattle.std.specs.Option.{option_to_list}
 use Rattle.su_octets.specs.Frame.{Frame, SpareBitsAreZero}
@@ -17,7 +17,7 @@ AreFrames (octets ∷ frames) [] = ⊥
 AreFrames (octets ∷ frames) (u ∷ us) =
     (Frame octets u × SpareBitsAreZero octets) × AreFrames frames us
 
--- line octets grew by the stuffing of these units
+-- the stuffed units were appended to the line octets
 pub record Speaks (old : Stuffer) (before : List ℕ) (us : List units.Unit) (new : Stuffer)
     (after : List ℕ) : Type 0 where
   pub frames : List (List ℕ)
@@ -27,7 +27,7 @@ pub record Speaks (old : Stuffer) (before : List ℕ) (us : List units.Unit) (ne
   pub gave : (given : List ℕ) (sent : List (List ℕ)) → Gave given sent old
       → Gave (given ++ more) (sent ++ frames) new
 
--- the units that a terminal gives, asked so often one after another
+-- the units that a terminal sends, if requested so often
 abbrev pub given : ℕ → Processes → List units.Unit
 given zero t = []
 given (suc k) t = option_to_list (sent (tidied t)).unit ++ given k (sent (tidied t)).processes
@@ -36,14 +36,14 @@ abbrev pub left : ℕ → Processes → Processes
 left zero t = t
 left (suc k) t = left k (sent (tidied t)).processes
 
--- so many units went out
+-- so many units were sent
 pub record Spoke (old : Term) (before : List ℕ) (n : ℕ) (new : Term) (after : List ℕ) : Type 0 where
   pub processes : new.processes ≡ left n old.processes
   pub line : new.line ≡ old.line
   pub speaks : Speaks old.sending before (given n old.processes) new.sending after
 
--- So many units were asked for, and went out. They may be fewer where the journal lacks room, but
--- the first isn't missing.
+-- So many units were requested and sent. There may be fewer if the journal lacks room, but at least
+-- one.
 pub record IsSpoken (old : Term) (asked : ℕ) (new : Term) (octets : List ℕ) : Type 0 where
   pub count : ℕ
   pub most : count ≤ asked

@@ -1,4 +1,4 @@
--- A terminal: its actors with what it keeps beside them, and both directions of the line.
+-- A terminal: its actors, its transceiver, and both directions of the line.
 use Rattle.std.specs.Prelude.{◌≡◌, ℕ, true, Some, Result, Ok, Err}
 use Rattle.bit_line.specs.declared.deframer.Deframer.{Deframer}
 use Rattle.bit_line.specs.declared.stuffer.Stuffer.{Stuffer}
@@ -22,20 +22,20 @@ with_processes t h = record t { processes = h }
 abbrev pub term_with_transceiver : Term → TransceiverState → Term
 term_with_transceiver t h = with_processes t (with_transceiver t.processes h)
 
--- a call that is one event of the book answers what the book does, unless there is no memory
+-- a call that is one event of the book returns the book's answer, unless memory runs out
 abbrev pub IsAnswer : {A : Type 0} → (A → Reply) → Result A CallError → Answer → Type 0
 IsAnswer f (Ok x) a = Says (f x) ≡ a
 IsAnswer f (Err (Refused r)) a = Says (reply.Refused r) ≡ a
 IsAnswer f (Err NoMemory) a = Unit {0}
 
--- Why a tick does not happen: the ticks can't pass once room was made in the journal, or there was
--- no memory for that where it was needed.
+-- Why a tick is refused: the ticks can't pass after room was made in the journal, or memory ran out
+-- when room was needed.
 abbrev pub IsTickError : ℕ → Processes → CallError → Type 0
 IsTickError n t (Refused r) = tick_refusal n (tidied t) ≡ Some r
 IsTickError n t NoMemory = is_low t ≡ true
 
--- A call that is refused leaves the state. Room may have been made in the journal, if there was
--- memory for that where it was needed.
+-- A refused call leaves the state. It may have made room in the journal, if memory was needed and
+-- sufficed.
 abbrev pub Leaves : Term → Term → CallError → Type 0
 Leaves old new (Refused r) = new ≡ with_processes old (tidied old.processes)
 Leaves old new NoMemory = (new ≡ old) × (is_low old.processes ≡ true)

@@ -7,9 +7,9 @@ use thiserror::Error;
 /// Why a command or a tick did not happen.
 #[derive(Clone, Copy, PartialEq, Eq, Debug, Error)]
 pub enum CallError {
-    /// The book's refusal. The state is as it was.
+    /// The book refuses the call. The state stays the same.
     Refused(Refusal),
-    /// There is no memory to make room in the journal. Nothing changed.
+    /// There is no memory to make room in the journal. Nothing changes.
     NoMemory,
 }
 

@@ -1,4 +1,4 @@
-//! Commands, ticks, and units out.
+//! Commands, ticks, and units to send.
 ghost use Rattle.std.specs.Prelude.{◌≡◌, true, false, None, IsOk, OnOk, OnErr, IfOk, IfErr, IfSome};
 ghost use Rattle.su_octets.specs.Whole.{IsWhole};
 ghost use Rattle.actor_machine.specs.Ledger.{ask};
@@ -17,12 +17,12 @@ use std::alloc::AllocError;
 use su_octets::Unit;
 
 impl Terminal {
-    /// Gives a command to the actors, which then come to rest. Where fewer than half of the journal's places are free, room is made there
-    /// first.
+    /// Gives a command to the actors, which then run to rest. If fewer than half of the journal's places are free, room
+    /// is made there first.
     ///
     /// # Errors
     ///
-    /// `NoMemory` where that needs memory and there is none: nothing changed. Else the refusals of `Book::offer`: the state is as it was.
+    /// `NoMemory` if making room runs out of memory: nothing changes. Otherwise the refusals of `Book::offer`.
     pub fn command(&mut self, command: Command) -> Result<(), CallError>
         ensures answer { let t = tidied self.old.processes in IsAnswer (λ _. reply.Offered) result (ask t.book (command_event t.names command)).answer }
         ensures ok { let t = tidied self.old.processes in OnOk result (self.new ≡ with_processes self.old (offered (command_event t.names command) t)) }
@@ -35,12 +35,12 @@ impl Terminal {
         self.processes.command(command).map_err(CallError::Refused)
     }
 
-    /// Lets so many ticks pass, one a millisecond, and the actors come to rest. How many timers were due. Room in the journal as before a
-    /// command.
+    /// Lets so many ticks pass, one per millisecond, and the actors run to rest. Returns how many timers were due.
+    /// Makes room in the journal first, as `command` does.
     ///
     /// # Errors
     ///
-    /// `NoMemory` as for a command, which doesn't come right behind `make_room`. Else what `advance_refusal` tells: the state is as it was.
+    /// `NoMemory` as for `command`, but not right after `make_room`. Otherwise what `advance_refusal` says.
     pub fn tick(&mut self, ticks: u64) -> Result<usize, CallError>
         ensures answer { IsAnswer reply.Passed result (ask (tidied self.old.processes).book (Advance ticks)).answer }
         ensures ok { OnOk result (self.new ≡ with_processes self.old (offered (Advance ticks) (tidied self.old.processes))) }
@@ -56,12 +56,12 @@ impl Terminal {
         self.processes.tick(ticks).map_err(CallError::Refused)
     }
 
-    /// The unit that goes out next, none before anything was said of the line (Q.703, sections 5, 6, 9 and 11). The actors learn of each
-    /// message that goes out. Room in the journal as before a command.
+    /// The next unit to send; none before the first Line signal (Q.703, sections 5, 6, 9 and 11). Transmission control
+    /// is told of each message sent. Makes room in the journal first, as `command` does.
     ///
     /// # Errors
     ///
-    /// Where that needs memory and there is none: nothing changed.
+    /// If making room runs out of memory. Then nothing changes.
     pub fn unit_out(&mut self) -> Result<Option<Unit>, AllocError>
         ensures unit { IfOk result (λ unit. unit ≡ (sent (tidied self.old.processes)).unit) }
         ensures ok { OnOk result (self.new ≡ with_processes self.old (sent (tidied self.old.processes)).processes) }
@@ -74,12 +74,12 @@ impl Terminal {
         Ok(self.processes.send_unit())
     }
 
-    /// Makes room in the journal, where fewer than half of its places are free, as a command, a tick or a unit would. There is enough then,
-    /// so that what comes next wants no memory for it.
+    /// Makes room in the journal if fewer than half of its places are free, as a command, a tick or a unit would. The
+    /// next such call then needs no memory for that.
     ///
     /// # Errors
     ///
-    /// Where that needs memory and there is none: nothing changed.
+    /// If memory runs out. Then nothing changes.
     pub fn make_room(&mut self) -> Result<(), AllocError>
         ensures ok { OnOk result (self.new ≡ with_processes self.old (tidied self.old.processes)) }
         ensures room { OnOk result (is_low self.new.processes ≡ false) }
@@ -90,8 +90,8 @@ impl Terminal {
         self.processes.tidy()
     }
 
-    /// Why `tick` would refuse so many ticks now, if it would: `W1 TooFar` for more than 65,535 of them, `W2 ClockFull` where the clock would
-    /// pass 2^62, `B8 JournalFull`, in this order. Where it is none right behind `make_room`, the tick happens.
+    /// Why `tick` would refuse so many ticks now, if it would, in this order: `W1 TooFar` for more than 65,535, `W2
+    /// ClockFull` past clock 2^62, `B8 JournalFull`. If it is none right after `make_room`, `tick` succeeds.
     pub fn advance_refusal(&self, ticks: u64) -> Option<Refusal>
         ensures { result ≡ tick_refusal ticks self.now.processes }
     {

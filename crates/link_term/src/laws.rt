@@ -1,20 +1,20 @@
-//! Laws of a terminal. Each call costs nothing.
+//! Laws of a terminal. Calling one costs nothing.
 ghost use Rattle.link_term.specs.Laws.{CuttingsAgree, Delivers, StaysKept};
 
-/// Octets that are taken in two calls lead to what they lead to in one.
+/// Octets taken in two calls have the same effect as in one.
 pub fn cuttings_agree()
     ensures { CuttingsAgree }
 {}
 
-/// Over octets that are taken, what waits to be handed out grows by the messages that the receiver accepts, in order.
+/// Octets taken add the messages that the receiver accepts, in order, to those that wait to be handed out.
 pub fn accepted_messages_are_delivered()
     ensures { Delivers }
 {
     link_processes::accepted_messages_wait_in_order();
 }
 
-/// Of what is kept to send, octets that are taken take away the messages that the units in them acknowledge, the oldest first of those
-/// that were sent, and nothing else.
+/// Octets taken remove the messages that their units acknowledge, the oldest sent ones first, from those held for
+/// sending, and nothing else.
 pub fn unacknowledged_messages_stay()
     ensures { StaysKept }
 {

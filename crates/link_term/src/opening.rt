@@ -16,10 +16,10 @@ use turn_check::Verified;
 /// Why there is no terminal over a set.
 #[derive(Clone, Copy, PartialEq, Eq, Debug, Error)]
 pub enum OpenError {
-    /// `X2 NoName`: the set lacks a process or a signal that a terminal speaks to or hears. It is the first one, in the order in which a
-    /// terminal asks for them.
+    /// `X2 NoName`: the set doesn't meet a requirement of a terminal. It is the first one, in the order in which they
+    /// are checked.
     NoName(Wanted),
-    /// There is no memory.
+    /// Memory runs out.
     NoMemory,
 }
 
@@ -40,10 +40,10 @@ impl fmt::Display for OpenError {
 /// How many signals a port of a terminal may hold.
 const PORT: usize = 64;
 
-/// How many signals may wait for its environment.
+/// How many signals may wait for a terminal's environment.
 const ENVIRONMENT: usize = 1_024;
 
-/// How many events its journal may hold.
+/// How many events a terminal's journal may hold.
 const JOURNAL: usize = 65_536;
 
 /// The book of a terminal's set.
@@ -56,7 +56,7 @@ fn open_book(alloc: Global, set: &Verified) -> Result<Book, AllocError>
     }
 }
 
-/// A terminal over a set that has all names, with these numbers.
+/// A terminal over a set that meets all requirements, with these numbers.
 fn open_terminal(
     alloc: Global,
     set: &Verified,
@@ -75,18 +75,18 @@ fn open_terminal(
 impl Terminal {
     /// A terminal over a set of processes (Q.703), out of service and before its power is switched on.
     ///
-    /// The set is any one that has what a terminal speaks to and hears, by name, case aside: the processes LSC, AERM, SUERM, TXC, RC and CC;
-    /// a route from ENV to LSC with PowerOn, StartLink, StopLink, Emergency, Calm, LocalOut and LocalBack, to CC with Busy and Free, to AERM
-    /// and to SUERM with Good and Errored, to TXC with AckSeen(Boolean) and MsuSent, to RC with Bad and Unit(Integer); and routes from some
-    /// process to ENV with Fresh, Take(Boolean), Line(Integer), Withhold(Boolean), InServiceNow, Down(Integer), RemoteOut and RemoteBack.
-    /// What else it has is its own, but for names that it may have, in this form alone: from ENV to LSC Flush and Continue, to CC Overload, to
-    /// RC Odd(Integer), to AERM and to SUERM Counting(Boolean), both or neither, and from some process to ENV Deliver(Boolean), Clear and
-    /// Cleared.
+    /// The set needs these names, case ignored. Processes: LSC, AERM, SUERM, TXC, RC and CC. Routes from ENV to LSC
+    /// with PowerOn, StartLink, StopLink, Emergency, Calm, LocalOut and LocalBack; to CC with Busy and Free; to AERM
+    /// and to SUERM with Good and Errored; to TXC with AckSeen(Boolean) and MsuSent; to RC with Bad and Unit(Integer).
+    /// Routes from some process to ENV with Fresh, Take(Boolean), Line(Integer), Withhold(Boolean), InServiceNow,
+    /// Down(Integer), RemoteOut and RemoteBack. All else is free, except these optional names, allowed only in this
+    /// form: from ENV to LSC Flush and Continue, to CC Overload, to RC Odd(Integer), to AERM and SUERM
+    /// Counting(Boolean), both or neither; from some process to ENV Deliver(Boolean), Clear and Cleared.
     ///
     /// # Errors
     ///
-    /// `X2 NoName` with the first of these that the set lacks: one that isn't there, has other parameters, or is on no such route; or with the
-    /// first of those that it may have which is on a route from or to ENV in another form. Want of memory, of a set with which nothing is wrong.
+    /// `X2 NoName` with the first required name that is missing, has other parameters or no such route, or the first
+    /// optional name on a route from or to ENV in another form. `NoMemory`, for a set without such faults.
     pub fn of_set(alloc: Global, mode: Mode, set: &Verified) -> Result<Terminal, OpenError>
         ensures ok { IfOk result (IsOver set.now mode) }
         ensures err { IfErr result (IsRefusedOver set.now) }
@@ -94,7 +94,7 @@ impl Terminal {
         Terminal::of_set_within(alloc, USUAL_LIMITS, mode, set)
     }
 
-    /// The same with these limits of forced retransmission (Q.703, 6.4), which count in cyclic retransmission alone.
+    /// As `of_set`, with these limits of forced retransmission (Q.703, 6.4). They apply only in cyclic retransmission.
     ///
     /// # Errors
     ///

@@ -1,4 +1,4 @@
-//! The line in.
+//! The line in: received octets.
 ghost use Rattle.std.specs.Prelude.{◌≡◌, ◌⊎◌, ◌+◌, ◌<◌, ◌≤◌, ◌∷◌, [], true, false, length, take};
 ghost use Rattle.bit_line.specs.Events.{closings};
 ghost use Rattle.link_processes.specs.Known.{is_there};
@@ -14,7 +14,7 @@ use bit_line::LineEvent;
 use link_processes::Processes;
 use su_octets::decode;
 
-/// What the octets of a unit from the line lead to.
+/// Takes the octets of a unit from the line.
 fn take_octets(processes: &mut Processes, octets: &[u8])
     requires { length processes.old.transceiver.messages < KEPT_MESSAGES }
     ensures reads { Reads octets.now processes.old processes.new }
@@ -26,7 +26,7 @@ fn take_octets(processes: &mut Processes, octets: &[u8])
     }
 }
 
-/// What an event of the line leads to. A unit ends octet counting first.
+/// Takes an event of the line. A unit ends octet counting first.
 fn take_event(processes: &mut Processes, event: &LineEvent)
     requires { length processes.old.transceiver.messages + closings (event.now ∷ []) ≤ KEPT_MESSAGES }
     ensures taken { (v : PlainProcesses) (left : _) → AreTaken left processes.new v → AreTaken (event.now ∷ left) processes.old v }
@@ -42,7 +42,7 @@ fn take_event(processes: &mut Processes, event: &LineEvent)
     }
 }
 
-/// What events of the line lead to, in their order.
+/// Takes events of the line in order.
 fn take_events(processes: &mut Processes, events: &[LineEvent])
     requires { length processes.old.transceiver.messages + closings events.now ≤ KEPT_MESSAGES }
     ensures { AreTaken events.now processes.old processes.new }
@@ -52,8 +52,8 @@ fn take_events(processes: &mut Processes, events: &[LineEvent])
     }
 }
 
-/// Makes room in the journal where it is needed, if a message more can be accepted. Whether an octet can be taken then; else nothing
-/// changed.
+/// Makes room in the journal if needed, provided that a further message can be accepted. Returns whether an octet can
+/// be taken then. If not, nothing changes.
 fn make_room(processes: &mut Processes) -> bool
     ensures room { result ≡ true → length processes.old.transceiver.messages < KEPT_MESSAGES }
     ensures tidied { result ≡ true → processes.new ≡ tidied processes.old }
@@ -69,7 +69,7 @@ fn make_room(processes: &mut Processes) -> bool
     }
 }
 
-/// What is taken of octets at most before it is asked whether octets are counted: one, where the set hears of that, else all.
+/// The octets to take before octet counting is checked again: one if the set has Counting, otherwise all.
 fn next_part<'octets>(processes: &Processes, octets: &'octets [u8]) -> &'octets [u8]
     requires { 0 < length octets.now }
     ensures some { 0 < length result.now }
@@ -84,10 +84,10 @@ fn next_part<'octets>(processes: &Processes, octets: &'octets [u8]) -> &'octets 
 }
 
 impl Terminal {
-    /// Takes octets of the line from the front up to the first one that reports something, unless 256 messages wait, or room has to be made
-    /// in the journal and there is no memory. Answers how many it took; where that is none, nothing changed.
+    /// Takes octets up to the first one that causes an event. Takes none if 256 messages wait, or if making room in the
+    /// journal runs out of memory. Returns how many it took; if none, nothing changes.
     ///
-    /// Room is made once: octets that report nothing leave all of it. Where the set hears of octet counting it takes one octet.
+    /// Room is made once, since octets without events leave it. If the set has Counting, it takes one octet.
     fn take_part(&mut self, octets: &[u8]) -> usize
         requires { 0 < length octets.now }
         ensures most { result ≤ length octets.now }
@@ -106,13 +106,13 @@ impl Terminal {
         taken
     }
 
-    /// Takes line octets, the low bit of each first, and answers how many it took: all, unless 256 messages wait to be
-    /// handed out, or room has to be made in the journal and there is no memory. It can be given the others once more, as if they had
-    /// never been given.
+    /// Takes line octets, the low bit of each first, and returns how many it took. It takes all, unless 256 messages
+    /// wait to be handed out, or making room in the journal runs out of memory. The others can be passed again, as if
+    /// they had never been passed.
     ///
-    /// Units without errors go through the stores while the actors ask for that, and the actors learn of each unit (Q.703, 4 to 6 and 10). Where
-    /// the set has Counting, both error rate monitors are told that octet counting ends, before the unit that ends it, and that it begins, behind
-    /// the octet in which it does.
+    /// Units without errors go through the stores while the actors have requested that, and each unit is reported to
+    /// the actors (Q.703, 4 to 6 and 10). If the set has Counting, both error rate monitors are told that octet
+    /// counting ends before the unit that ends it, and that it begins after the octet at which it does.
     pub fn line_in(&mut self, octets: &[u8]) -> usize
         ensures few { result ≤ length octets.now }
         ensures heard { Heard self.old (take result octets.now) self.new }

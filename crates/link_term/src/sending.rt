@@ -1,4 +1,4 @@
-//! The line out.
+//! The line out: octets to send.
 ghost use Rattle.std.specs.Prelude.{◌≡◌, ◌+◌, ◌≤◌, ◌∷◌, [], true, vec_len, vec_capacity, OnOk, OnErr, IfOk};
 ghost use Rattle.su_octets.specs.Whole.{IsWhole};
 ghost use Rattle.link_processes.specs.Machine.{is_low};
@@ -11,10 +11,10 @@ use link_processes::unacknowledged_messages_stay;
 use std::alloc::AllocError;
 use su_octets::Unit;
 
-/// Room for the line octets of a unit: 336 at most, in a list that can hold 352.
+/// Room for the line octets of a unit: at most 336, in a list that can hold 352.
 const LONGEST: usize = 352;
 
-/// Puts the line octets of a unit behind the others, for which there is room.
+/// Appends the line octets of a unit. There must be room.
 fn put_unit(sending: &mut Stuffer, octets: &mut Vec<u8>, unit: &Unit)
     requires whole { IsWhole unit.now }
     requires room { vec_len octets.old + LONGEST ≤ vec_capacity octets.old }
@@ -30,7 +30,7 @@ fn put_unit(sending: &mut Stuffer, octets: &mut Vec<u8>, unit: &Unit)
 }
 
 impl Terminal {
-    /// Puts the next unit behind the line octets so far, for which there is room.
+    /// Appends the line octets of the next unit. There must be room.
     fn put_next(&mut self, octets: &mut Vec<u8>) -> Result<(), AllocError>
         requires { vec_len octets.old + LONGEST ≤ vec_capacity octets.old }
         ensures ok { OnOk result (Spoke self.old octets.old.items 1 self.new octets.new.items) }
@@ -48,14 +48,14 @@ impl Terminal {
         Ok(())
     }
 
-    /// The line octets of the next units, so many, as `unit_out` gives them: stuffed, with a flag behind each and one before the first of
-    /// all. Up to 7 bits stay for the next call. Before anything was said of the line there are none.
+    /// The line octets of the next units, as many as requested, as `unit_out` returns them: stuffed, a flag after each
+    /// and one before the very first. Up to 7 bits stay for the next call. None before the first Line signal.
     ///
-    /// They are fewer where room has to be made in the journal and there is no memory, which may be met at any unit but the first.
+    /// There are fewer if making room in the journal runs out of memory, which can happen at any unit after the first.
     ///
     /// # Errors
     ///
-    /// Where there is no memory for the octets of so many units, or none to make room in the journal for the first: nothing changed.
+    /// If memory runs out for the octets, or for room in the journal at the first unit. Then nothing changes.
     pub fn line_out(&mut self, units: usize) -> Result<Vec<u8>, AllocError>
         ensures ok { IfOk result (λ octets. IsSpoken self.old units self.new octets.items) }
         ensures sends { Sends units self.old self.new }

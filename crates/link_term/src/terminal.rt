@@ -22,10 +22,10 @@ use std::alloc::{AllocError, Global};
 use std::collections::VecDeque;
 use std::marker::Model;
 
-/// One end of a signalling link: the processes of a set as actors, the store for retransmission, and both directions of the line.
+/// One end of a signalling link: the processes of a set as actors, the transceiver, and both directions of the line.
 ///
-/// After it is made only `command`, `tick`, `unit_out`, `line_in`, `line_out` and `make_room` may want memory, to make room in the journal, and
-/// `line_out` and `retrieve`, for what they give.
+/// Once it is made, only these need memory: `command`, `tick`, `unit_out`, `line_in`, `line_out` and `make_room`, to
+/// make room in the journal; `line_out` and `retrieve`, for what they return.
 #[derive(Drop)]
 pub struct Terminal {
     pub(crate) alloc: Global,
@@ -50,7 +50,7 @@ impl Model for Terminal {
 }
 
 impl Terminal {
-    /// A terminal over the book of a set, in which its signals and processes have these numbers. Nothing has come and nothing goes out.
+    /// A terminal over the book of a set, with these numbers of signals and processes. Nothing was received or sent.
     pub(crate) fn of_book(
         alloc: Global,
         book: Book,
@@ -79,11 +79,11 @@ impl Terminal {
         })
     }
 
-    /// Takes a message to send, with a field of 2 octets or more. It waits behind all others.
+    /// Puts a message with a SIF of 2 octets or more last in the transmission queue.
     ///
     /// # Errors
     ///
-    /// `E1 Full` where `resend_store::MAX_WAITING` or more wait. Nothing changes then, and the message is dropped.
+    /// `E1 Full` if `resend_store::MAX_WAITING` or more wait. Then nothing changes, and the message is dropped.
     pub fn put(&mut self, msu: Msu) -> Result<(), PutError>
         requires { 2 ≤ length msu.sif.items }
         ensures full { (result ≡ Err PutError.Full) ↔ (MOST_WAITING ≤ length (waiting self.old.processes.transceiver.sender)) }
@@ -93,11 +93,11 @@ impl Terminal {
         self.processes.transceiver.put(msu)
     }
 
-    /// Takes a message that another link left behind (Q.704, changeover), with a field of 2 octets or more.
+    /// Takes a message diverted from another link (Q.704, changeover), with a SIF of 2 octets or more.
     ///
     /// # Errors
     ///
-    /// `E1 Full` where `resend_store::MAX_KEPT` are unacknowledged or wait. Nothing changes then.
+    /// `E1 Full` if `resend_store::MAX_KEPT` messages are unacknowledged or waiting. Then nothing changes.
     pub fn put_diverted(&mut self, msu: Msu) -> Result<(), PutError>
         requires { 2 ≤ length msu.sif.items }
         ensures full { (result ≡ Err PutError.Full) ↔ (MOST_KEPT ≤ length self.old.processes.transceiver.sender.kept) }
@@ -107,13 +107,12 @@ impl Terminal {
         self.processes.transceiver.put_diverted(msu)
     }
 
-    /// Hands out, in order, what the far side may lack (Q.704, retrieval): what comes after the number, 0 to 127, that it
-    /// accepted last, or, where that number isn't known, what wasn't sent since both directions last began anew. Nothing is kept to send
-    /// then. The actors aren't told.
+    /// Empties the buffers and hands out, in order, what the far side may lack (Q.704, retrieval): the messages after
+    /// the number, 0 to 127, or without it those not sent since both directions last restarted. The actors aren't told.
     ///
     /// # Errors
     ///
-    /// `E2 BadAck` where the number acknowledges more than is sent, and then `NoMemory`. Nothing changes in either case.
+    /// `E2 BadAck` if the number acknowledges too much, else `NoMemory` if memory runs out. Then nothing changes.
     pub fn retrieve(&mut self, accepted: Option<u8>) -> Result<VecDeque<Msu>, RetrieveError>
         requires { IfSome accepted (λ fsn. fsn < 128) }
         ensures bad { (result ≡ Err RetrieveError.BadAck) ↔ (self.old.processes.transceiver.sender.sent < count_known self.old.processes.transceiver.sender accepted) }
@@ -125,8 +124,8 @@ impl Terminal {
         self.processes.transceiver.retrieve(accepted)
     }
 
-    /// The same; and where messages were out the actors are told that none is out any more, so that nobody waits for an acknowledgement of what
-    /// is gone.
+    /// As `retrieve`. If messages were unacknowledged, the actors are then told that none is, so that they await no
+    /// acknowledgement.
     ///
     /// # Errors
     ///
@@ -142,7 +141,7 @@ impl Terminal {
         self.processes.retrieve(accepted)
     }
 
-    /// How many messages `obey_clear` would take now: all that are kept, where the text asked for that since it was last called, else none.
+    /// How many messages `obey_clear` would clear: all held ones if the text requested clearing, otherwise none.
     pub fn to_clear(&self) -> usize
         ensures value { result ≡ to_clear self.now.processes }
         ensures within { result ≤ length (window_of self.now).kept }
@@ -150,12 +149,12 @@ impl Terminal {
         self.processes.to_clear()
     }
 
-    /// Empties the buffers, where the text asked for that by Clear since this was last called (Q.703, figure 13): what waits and what is
-    /// unacknowledged goes, the next new message has the number behind the last that was acknowledged, and the actors are told that no message is
-    /// out. How many messages went.
+    /// Clears the buffers if the text requested that by Clear since the last call (Q.703, figure 13). All held messages
+    /// go. The next new message has the number after the last acknowledged one, and the actors are told that none is
+    /// unacknowledged. Returns how many messages went.
     ///
-    /// It is called behind each other call by whoever lets a text clear; no other call takes messages away but by an acknowledgement, and
-    /// `retrieve`.
+    /// Callers whose text may use Clear call it after each other call. Only `obey_clear`, acknowledgements and
+    /// `retrieve` remove messages.
     pub fn obey_clear(&mut self) -> usize
         ensures count { result ≡ to_clear self.old.processes }
         ensures terminal { self.new ≡ with_processes self.old (clear_obeyed self.old.processes) }
@@ -164,30 +163,30 @@ impl Terminal {
         self.processes.obey_clear()
     }
 
-    /// How many messages were cleared since the terminal was made: 2^64 - 1 where there were that many or more.
+    /// How many messages were cleared since the terminal was made. The count stops at 2^64 - 1.
     pub fn cleared(&self) -> u64
         ensures { result ≡ self.now.processes.transceiver.cleared }
     {
         self.processes.transceiver.cleared()
     }
 
-    /// What was measured (Q.752) since the terminal was made, or that was last reset. Each call adds to it what the definitions of link_transceiver say
-    /// (`signal_counted`, `passed`, `came_counted`, `went_counted`, ..).
+    /// The measurements (Q.752) since the terminal was made or they were last reset. Each call adds what the
+    /// definitions of link_transceiver say (`signal_counted`, `passed`, `came_counted`, `went_counted`, ..).
     pub fn measures(&self) -> Measures
         ensures { result ≡ self.now.processes.measures }
     {
         self.processes.measures
     }
 
-    /// How many proving periods were aborted (Q.703, 10.3) since the terminal was made, or that was last reset: turns in which Cp of initial
-    /// alignment control grew, the variable `cp` of IAC; 0 where the text has none. It stays at 2^64 - 1.
+    /// How many proving periods were aborted (Q.703, 10.3) since the terminal was made or last reset: turns in which Cp
+    /// of initial alignment control (`cp` of IAC) grew; 0 if the text has none. Stops at 2^64 - 1.
     pub fn aborted(&self) -> u64
         ensures { result ≡ self.now.processes.aborted }
     {
         self.processes.aborted
     }
 
-    /// All counts begin anew.
+    /// Sets all counts to 0.
     pub fn reset_measures(&mut self)
         ensures { self.new ≡ with_processes self.old (all_reset self.old.processes) }
     {
@@ -195,7 +194,7 @@ impl Terminal {
         self.processes.aborted = 0;
     }
 
-    /// What is to be handed out next: messages first, then what was told of the link, each in order.
+    /// Takes the next report for level 3: messages first, then link statuses, each in order.
     pub fn report(&mut self) -> Option<Report>
         ensures report { result ≡ (reported self.old.processes.transceiver).report }
         ensures same { window_of self.new ≡ window_of self.old }
@@ -204,7 +203,7 @@ impl Terminal {
         self.processes.transceiver.report()
     }
 
-    /// Whether the link came into service since this was last asked.
+    /// Whether the link came into service since the last call.
     pub fn came_into_service(&mut self) -> bool
         ensures value { result ≡ self.old.processes.transceiver.came }
         ensures asked { self.new ≡ term_with_transceiver self.old (record self.old.processes.transceiver { came = false }) }
@@ -212,7 +211,7 @@ impl Terminal {
         self.processes.transceiver.came_into_service()
     }
 
-    /// Whether both directions began anew since this was last asked.
+    /// Whether both directions restarted since the last call.
     pub fn began_anew(&mut self) -> bool
         ensures value { result ≡ self.old.processes.transceiver.began }
         ensures asked { self.new ≡ term_with_transceiver self.old (record self.old.processes.transceiver { began = false }) }
@@ -220,7 +219,7 @@ impl Terminal {
         self.processes.transceiver.began_anew()
     }
 
-    /// Takes out, and drops, the message that waits to be sent at a place.
+    /// Removes and drops the waiting message at a place.
     pub fn drop_waiting(&mut self, place: usize)
         requires waits { self.old.processes.transceiver.sender.sent ≤ place }
         requires there { place < length self.old.processes.transceiver.sender.kept }
@@ -229,16 +228,16 @@ impl Terminal {
         self.processes.transceiver.drop_waiting(place);
     }
 
-    /// Whether the link is in service, by what was told last.
+    /// Whether the link is in service, as last reported.
     pub fn in_service(&self) -> bool
         ensures { result ≡ self.now.processes.transceiver.in_service }
     {
         self.processes.transceiver.in_service()
     }
 
-    /// Holds the link, or holds it no more, as level 3 says (Q.704, changeover). While it is held it gives no message for the line (fill-in
-    /// units go in their place, and what is to be sent or sent once more waits), and accepts none; units are judged as ever, acknowledgements
-    /// obeyed, and status units sent.
+    /// Holds or releases the link, as level 3 says (Q.704, changeover). A held link sends no message (fill-in units
+    /// replace them, and messages to send or retransmit wait) and accepts none. It still judges units, obeys
+    /// acknowledgements, and sends status units.
     pub fn hold(&mut self, hold: Hold)
         ensures { self.new ≡ term_with_transceiver self.old (record self.old.processes.transceiver { hold = hold }) }
     {
@@ -252,21 +251,21 @@ impl Terminal {
         self.processes.transceiver.holding()
     }
 
-    /// What goes out, by what was last said of the line; none before that.
+    /// The kind of unit now sent, as last set by the Line signal; none before that.
     pub fn goes_out(&self) -> Option<LineKind>
         ensures { result ≡ self.now.processes.transceiver.line }
     {
         self.processes.transceiver.line()
     }
 
-    /// Whether the far side's processor is out, by what was told last; not while the link is down.
+    /// Whether the far side has a processor outage, as last reported; false while the link is down.
     pub fn far_out(&self) -> bool
         ensures { result ≡ self.now.processes.transceiver.far_out }
     {
         self.processes.transceiver.far_out()
     }
 
-    /// How many messages are kept to send: unacknowledged and waiting ones.
+    /// How many messages are held for sending: the unacknowledged and the waiting ones.
     pub fn held(&self) -> usize
         ensures value { result ≡ length self.now.processes.transceiver.sender.kept }
         ensures window { IsWindow self.now.processes.transceiver.sender }
@@ -274,7 +273,7 @@ impl Terminal {
         self.processes.transceiver.held()
     }
 
-    /// The kept message at a place, the oldest at 0.
+    /// The held message at a place; the oldest is at 0.
     pub fn held_at(&self, place: usize) -> Option<&Msu>
         ensures { option_copied result ≡ slice_get self.now.processes.transceiver.sender.kept place }
     {
@@ -288,7 +287,7 @@ impl Terminal {
         self.processes.transceiver.sent()
     }
 
-    /// The forward sequence number, 0 to 127, of the message that was accepted last; 127 where there is none.
+    /// The forward sequence number, 0 to 127, of the last accepted message; 127 if there is none.
     pub fn accepted(&self) -> u8
         ensures value { result ≡ self.now.processes.transceiver.receiver.last }
         ensures within { result < 128 }
@@ -296,7 +295,7 @@ impl Terminal {
         self.processes.transceiver.accepted()
     }
 
-    /// The forward sequence number, 0 to 127, of the message that was acknowledged last; 127 where the numbers began anew since.
+    /// The forward sequence number, 0 to 127, of the last acknowledged message; 127 if the numbers restarted since.
     pub fn acknowledged(&self) -> u8
         ensures value { result ≡ last_acknowledged self.now.processes.transceiver.sender }
         ensures within { result < 128 }
@@ -304,7 +303,7 @@ impl Terminal {
         self.processes.transceiver.acknowledged()
     }
 
-    /// Whether a further message can be accepted. `line_in` takes no octet where none can: reports make room.
+    /// Whether a further message can be accepted. If not, `line_in` takes no octet until a report makes room.
     pub fn has_room(&self) -> bool
         ensures { IsTrue result ↔ (length self.now.processes.transceiver.messages < KEPT_MESSAGES) }
     {
