@@ -12,12 +12,12 @@ at_place f xs k x there =
     at_drop_more (first_unsaved f) xs k x (slice_get_within xs k x there)
     ∙ ap (λ y. first_unsaved f (y ∷ drop (k + 1) xs)) (get_or_from_slice_get xs k x x there)
 
--- one that is saved
+-- the item at this place is saved
 pub saved_on : (f : Item → Bool) (xs : List Item) (k : ℕ) (x : Item) → slice_get xs k ≡ Some x → f x ≡ true
     → first_unsaved f (drop k xs) ≡ first_unsaved f (drop (k + 1) xs)
 saved_on f xs k x there saved = at_place f xs k x there ∙ rw saved refl
 
--- one that isn't
+-- the item at this place isn't saved
 pub unsaved_here : (f : Item → Bool) (xs : List Item) (k : ℕ) (x : Item) → slice_get xs k ≡ Some x → f x ≡ false
     → first_unsaved f (drop k xs) ≡ Some x
 unsaved_here f xs k x there unsaved = at_place f xs k x there ∙ rw unsaved refl

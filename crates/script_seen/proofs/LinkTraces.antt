@@ -1,4 +1,4 @@
--- What is traced of the links of a set, link by link.
+-- The traces of the links of a set, link by link.
 use Rattle.std.proofs.Common.{◌≡◌, ◌∙◌, ℕ, zero, suc, ◌+◌, ◌<◌, ◌≤◌, Bool, List, [], ◌∷◌, ◌++◌, append-nil, append_assoc, length, map, slice_set, Option, None, Some, arith, refl, sym, ap, subst}
 use Rattle.std.specs.Prelude.{slice_get, All}
 use Rattle.std.specs.Io.KnownBytes.{Appends}
@@ -18,7 +18,7 @@ use Rattle.script_seen.specs.declared.tracing.Tracer.{Tracer}
 
 -- ---- the first links of a set
 
--- how far each link is told where the first n of them are traced
+-- how far each link is traced once the first n links are
 abbrev pub some_reach : Draft → ℕ → List Reached → List Ledger → List Reached
 some_reach d zero rs bs = rs
 some_reach d (suc n) [] bs = []
@@ -37,7 +37,7 @@ AreSomeReached d (suc n) [] bs = ⊥
 AreSomeReached d (suc n) (r ∷ rs) [] = ⊥
 AreSomeReached d (suc n) (r ∷ rs) (b ∷ bs) = IsReached d r b × AreSomeReached d n rs bs
 
--- those from there on stand where they stood
+-- the links from n on are as far as they were
 some_at : (d : Draft) (n : ℕ) (rs : List Reached) (bs : List Ledger) (r : Reached) → slice_get (some_reach d n rs bs) n ≡ Some r → slice_get rs n ≡ Some r
 some_at d zero rs bs r h = h
 some_at d (suc n) [] bs r h = h
@@ -78,7 +78,7 @@ text_one every d l (suc n) (x ∷ rs) (y ∷ bs) r b at_r at_b =
     ∙ (ap (λ (k : ℕ). this ++ (some_text every d (l + 1) n rs bs ++ under_name k (told_text every d r.core (since r.place b)))) (let e : l + 1 + n ≡ l + suc n = omega arith in e)
     ∙ sym (append_assoc this (some_text every d (l + 1) n rs bs) (under_name (l + suc n) (told_text every d r.core (since r.place b)))))
 
--- all links
+-- the first n links are all links
 all_text : (every : Bool) (d : Draft) (l n : ℕ) (rs : List Reached) (bs : List Ledger) → length rs ≤ n → some_text every d l n rs bs ≡ links_text every d l rs bs
 all_text every d l zero [] bs within = refl
 all_text every d l zero (r ∷ rs) bs within = absurd (omega (arith, within))
@@ -103,7 +103,7 @@ all_are d (suc n) (r ∷ rs) (b ∷ bs) within many so_far = one_reached r b rs 
 
 -- ---- tracers at links
 
--- the tracer at a place
+-- the tracer of link n
 pub record IsThere (every : Bool) (d : Draft) (rs : List Reached) (n : ℕ) (x : Tracer) : Type 0 where
   pub r : Reached
   pub there : slice_get rs n ≡ Some r
@@ -120,7 +120,7 @@ there_at every d _ _ (suc n) x (one_at r t rs ts same at rest) is =
     let w = there_at every d rs ts n x rest is in
     record { r = w.r; there = w.there; every_is = w.every_is; at = w.at }
 
--- it came further
+-- a tracer got further
 came_on : (every : Bool) (d : Draft) (rs : List Reached) (ts : List Tracer) (n : ℕ) (r : Reached) (x : Tracer) → x.every ≡ every → IsAtLink d r x
     → AreAtLinks every d rs ts → AreAtLinks every d (slice_set rs n r) (slice_set ts n x)
 came_on every d _ _ zero r x same at none_at = none_at
@@ -144,7 +144,7 @@ pub no_link : (every : Bool) (d : Draft) (rs : List Reached) (bs : List Ledger) 
     → LinksTraced every d rs bs 0 ts old old
 no_link every d rs bs ts old at = record { reached = tt {0}; are_at = at; written = Appends-nil old }
 
--- what was traced of a link by a tracer that was there
+-- the trace of a link by the tracer at its place
 abbrev pub TracedOne : Draft → Reached → List Ledger → ℕ → Bool → Tracer → Option (List ℕ) → Option (List ℕ) → Type 0
 TracedOne d r bs n every u old new =
     (b : Ledger) × (slice_get bs n ≡ Some b) × IsReached d r b × IsAtLink d (reach d r b) u
@@ -175,7 +175,7 @@ one_link every d rs bs n ts x u old mid new is same traced so_far =
           (subst K zero_on (subst E w.every_is one.4)));
     })
 
--- all links are
+-- all links are traced
 pub record AllTraced (every : Bool) (d : Draft) (rs : List Reached) (bs : List Ledger) (ts : List Tracer) (old new : Option (List ℕ)) : Type 0 where
   pub reached : AreReached d rs bs
   pub are_at : AreAtLinks every d (all_reach d rs bs) ts
@@ -194,7 +194,7 @@ all_links every d rs bs n first ts old new at many is so_far =
       written = subst T (all_text every d 0 n rs bs within) so_far.written;
     }
 
--- ---- where they begin
+-- ---- the start of a trace
 
 -- a tracer of a new book
 pub record IsFresh (every : Bool) (d : Draft) (t : Tracer) : Type 0 where
@@ -220,7 +220,7 @@ all_fresh every d (b ∷ bs) (t ∷ ts) many new fresh =
 fresh_more : (every : Bool) (d : Draft) (ts : List Tracer) (t : Tracer) → All (IsFresh every d) ts → IsFresh every d t → All (IsFresh every d) (ts ++ t ∷ [])
 fresh_more every d ts t all this = All-append (IsFresh every d) ts (t ∷ []) all (All-cons (IsFresh every d) t [] this (All-nil (IsFresh every d)))
 
--- so many fresh tracers
+-- n fresh tracers
 pub record AreFresh (every : Bool) (d : Draft) (n : ℕ) (ts : List Tracer) : Type 0 where
   pub fresh : All (IsFresh every d) ts
   pub many : length ts ≡ n

@@ -1,4 +1,4 @@
--- What a watcher is told of single events, and of events one after another.
+-- The notices to a watcher about single events, and about events one after another.
 use Rattle.std.proofs.Common.{◌≡◌, ◌∙◌, ℕ, ◌+◌, ◌-◌, ◌<◌, ◌≤◌, List, [], ◌∷◌, ◌++◌, length, take, drop, get_or, append-nil, append_assoc, Option, None, Some, arith, refl, sym, ap, subst}
 use Rattle.std.specs.Prelude.{slice_get, option_map}
 use Rattle.std.proofs.lemmas.List.{take_all, take_more, length-append}
@@ -49,7 +49,7 @@ noticed_skip : (d : Draft) (w : Core) (n : ℕ) → skip_noticed d (slice_get w.
 unfolding noticed
 noticed_skip d w n = refl
 
--- what an actor throws away, by where it stands and what waits for it
+-- the item that an actor discards, by the actor's state and port
 skip_is : (d : Draft) (a : Actor) (s : Standing) (x : Option Item) → a.standing ≡ s → item_at d a.name.process.0 s a.port.items ≡ x
     → skip_noticed d (Some a) ≡ throw_noticed a.name s x
 skip_is d a s x stands is =
@@ -90,7 +90,7 @@ unfolding noticed
 noticed_finish b n name turn o called out ran =
     ended_is b n (slice_get (names_in (state_of b).actors) n) (turn_at b.set n (slice_get (state_of b).actors n)) name turn o called out ran
 
--- ---- the transition that a turn runs
+-- ---- the transition of a turn
 
 turn_given_fits : (d : Draft) (n : ℕ) (p : ProcessNumber) (s : Standing) (g : Option Given) (t : Turn) → GivenFits d p.0 s g → turn_given d n p s g ≡ Some t
     → IsTurnOf d p.0 t
@@ -116,7 +116,7 @@ is_turn_of b n me t fits named h =
     turn_fits b.set (state_of b) n me t (slice_get (state_of b).actors n) refl fits
     (sym (slice_get-map (λ (x : Actor). x.name) (state_of b).actors n) ∙ named) h
 
--- ---- what a watcher knows behind them: K before, L behind
+-- ---- the watcher's knowledge: K before the events, L after them
 
 pub knows_throw : (K L : Draft → List Notice → Type 0) (d : Draft) (a : Actor) (q : StateNumber) (x : Item) → a.standing ≡ At (AtState q)
     → Some x ≡ first_unsaved (is_saved d a.name.process.0 q.0) a.port.items
@@ -144,7 +144,7 @@ knows_finish K L b n x e same fits ended told ns k =
     let N : List Notice → Type 0 = λ ms. L b.set (ns ++ ms) in
     subst N (sym (noticed_finish b n e.me e.done ended.outcome ended.named ended.turn ended.ran)) (subst D same told ns t is_end is_turn k)
 
--- of an event of which it isn't told
+-- an event without a notice
 pub knows_none : (K : Draft → List Notice → Type 0) (d : Draft) (none ns : List Notice) → none ≡ [] → K d ns → K d (ns ++ none)
 knows_none K d none ns is k =
     let N : List Notice → Type 0 = λ ms. K d ms in
@@ -206,7 +206,7 @@ watches_more K L M t u v es e w s told =
           (more (ns ++ noticed_in d x es) (w.knows ns k));
     }
 
--- one event more of a list
+-- one more event of a list
 pub watches_on : (K L M : Draft → List Notice → Type 0) (t u v : Tracer) (items : List Event) (i : ℕ) (x : Event) → i < length items → x ≡ get_or items i x
     → Watches K L t (take i items) u → IsStep u x v
     → ((ns : List Notice) → L u.again.set ns → M u.again.set (ns ++ noticed u.again.set (state_of u.again) x)) → Watches K M t (take (i + 1) items) v
@@ -219,7 +219,7 @@ pub watches_all : (K L : Draft → List Notice → Type 0) (t u : Tracer) (items
     → Watches K L t items u
 watches_all K L t u items i over w = let P : List Event → Type 0 = λ es. Watches K L t es u in subst P (take_all i items over) w
 
--- from where the journal began anew
+-- the events since the journal was restarted
 watches_from : (K L : Draft → List Notice → Type 0) (b : Ledger) (t m u : Tracer) (es : List Event) → IsCaughtUp b t m → Watches K L m es u → Watches K L t es u
 watches_from K L b t m u es k w =
     let agrees : Agree t → Agree m = λ agree. ap (λ x. timers_of x) k.wheel ∙ (agree ∙ ap (λ (x : Core). x.timers) (sym k.state)) in

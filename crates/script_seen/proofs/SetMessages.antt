@@ -1,4 +1,4 @@
--- What is told of messages of changeover by the line that was printed, as what is said and answered.
+-- The trace of changeover messages: from the printed line it follows which were sent and answered.
 use Rattle.std.proofs.Common.{◌≡◌, ◌∙◌, ℕ, zero, suc, ◌%◌, ◌<◌, ◌==◌, List, [], ◌∷◌, ◌++◌, drop, get_or, Option, None, Some, Result, arith, refl, sym, ap, subst}
 use Rattle.std.specs.Prelude.{◌↔◌, codes, unwrap_or}
 use Rattle.std.proofs.lemmas.Bool.{false≢true}
@@ -24,7 +24,7 @@ use Rattle.group_changeover.specs.declared.errors.FailError.{FailError}
 use Rattle.script_seen.specs.TracedGroups.{message_text, heard_text, said_text, order_unless, IsChangeoverTold}
 use Rattle.script_seen.specs.TracingGroups.{IsMessageTold, AreSaid, says_none, says_some, IsSaidTold, IsLastTold, AreBothTold, IsWordTold, IsToldBy}
 
--- ---- what octets read as
+-- ---- decoded messages
 
 one_reading : (octets : List ℕ) (r m : Option Changeover) → ((x : Changeover) → (r ≡ Some x) ↔ Reads octets x) → IsRead octets m → r ≡ m
 one_reading octets r (Some x) exact is = (exact x).1 is
@@ -35,7 +35,7 @@ pub message_told : (clock : ℕ) (way octets text : List ℕ) (r : Option Change
     → text ≡ message_text clock way r → IsMessageTold clock way octets text
 message_told clock way octets text r exact is m read = is ∙ ap (message_text clock way) (one_reading octets r m exact read)
 
--- what is said reads as it was said
+-- a number below 128 is unchanged modulo 128
 small : (a : ℕ) → a < 128 → a % 128 ≡ a
 small a within = omega (arith, within)
 
@@ -76,7 +76,7 @@ too_short digits is = false≢true (ap (λ (xs : List ℕ). get_or xs 2 0 == 32)
 another : (why digits : List ℕ) → codes "refused " ++ why ≡ codes "ok " ++ digits → ⊥
 another why digits is = false≢true (ap (λ (xs : List ℕ). get_or xs 0 0 == 111) is)
 
--- the line of an answer
+-- the line of an answer to a message
 reply_read : (r : Option Changeover) (line octets : List ℕ) → IsReplied r line → AreSaid line octets → IsRead octets r
 reply_read None line _ replied (says_none none) = no_message
 reply_read None line _ replied (says_some digits is) = absurd (too_short digits (sym replied ∙ is))
@@ -90,7 +90,7 @@ refused_read : (why octets : List ℕ) → AreSaid (codes "refused " ++ why) oct
 refused_read why _ (says_none none) = no_message
 refused_read why _ (says_some digits is) = absurd (another why digits is)
 
--- the line by which a link fails
+-- the line of `fail`
 order_read : (l : ℕ) (c d : LinkSet) (line octets : List ℕ) → Fails l c line d → AreSaid line octets
     → IsRead octets (order_unless (fail_fault c l) (order_at c l))
 order_read l c _ _ octets (fails_refused e fault) said =
@@ -129,7 +129,7 @@ word_so clock words.Held p q lines last text obeys told = told
 word_so clock words.Unsure p q lines last text obeys told = told
 word_so clock words.Link p q lines last text obeys told = told
 
--- what is told by the line that a command printed is what was said and answered
+-- the trace made from the printed line is that of the messages sent and answered
 pub told_so : (clock : ℕ) (c : PlainGroupCommand) (p q : Playing) (lines : List (List ℕ)) (last : Option (List ℕ)) (text : List ℕ) → Obeys c p lines q
     → IsToldBy clock c (latest last lines) text → IsChangeoverTold clock c p text
 told_so clock (group.order o) p q lines last text obeys told = told
@@ -149,7 +149,7 @@ told_so clock (group.message octets) p q lines last text obeys told =
 told_so clock (group.admitting way) p q lines last text obeys told = told
 told_so clock (group.own w) p q lines last text obeys told = word_so clock w p q lines last text obeys told
 
--- ---- what is told, as the code comes by it
+-- ---- the trace as the code makes it
 
 pub last_as : (clock : ℕ) (last : Option (List ℕ)) (line given text : List ℕ) → last ≡ Some line → given ≡ line → IsSaidTold clock given text
     → IsLastTold clock last text

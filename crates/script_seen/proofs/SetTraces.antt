@@ -1,4 +1,4 @@
--- What is traced of a link set's run, one command more.
+-- The trace of a link set's run: one more command.
 use Rattle.std.proofs.Common.{◌≡◌, ◌∙◌, ℕ, suc, ◌+◌, ◌<◌, ◌≤◌, ◌==◌, Bool, true, false, List, [], ◌∷◌, ◌++◌, length, map, take, drop, get_or, Option, None, Some, codes, eqb-true, arith, refl, sym, ap, subst}
 use Rattle.std.specs.Prelude.{All, slice_get, option_map}
 use Rattle.std.specs.Fmt.{decimal}
@@ -57,7 +57,7 @@ no_clock (b ∷ bs) none = absurd (none-some b (sym none))
 pub book_there : (p : Playing) (n : ℕ) (b : Ledger) → Some b ≡ read_at book_of (slice_get p.set.links n) → slice_get (books_of p) n ≡ Some b
 book_there p n b is = slice_get-map book_of p.set.links n ∙ (read_in (slice_get p.set.links n) ∙ sym is)
 
--- the ticks gone by are those of the first link
+-- the ticks of the link set are those of its first link
 pub clock_first : (p : Playing) (b : Ledger) (time : ℕ) → Some b ≡ read_at book_of (slice_get p.set.links 0) → time ≡ (state_of b).timers.clock
     → time ≡ clock_in (books_of p)
 clock_first p b time is ran = ran ∙ first_clock (books_of p) b (book_there p 0 b is)
@@ -65,7 +65,7 @@ clock_first p b time is ran = ran ∙ first_clock (books_of p) b (book_there p 0
 pub clock_nowhere : (p : Playing) → None ≡ read_at book_of (slice_get p.set.links 0) → 0 ≡ clock_in (books_of p)
 clock_nowhere p is = no_clock (books_of p) (slice_get-map book_of p.set.links 0 ∙ (read_in (slice_get p.set.links 0) ∙ sym is))
 
--- the line that names a link is written where anything is behind it
+-- the line that names a link is written only if text follows it
 pub under_none : (link : ℕ) (text : List ℕ) (old : Option (List ℕ)) → (length text == 0) ≡ true → Appends old old (under_name link text)
 under_none link [] old is = Appends-nil old
 under_none link (x ∷ text) old is = absurd (let e : suc (length text) ≡ 0 = eqb-true (length (x ∷ text)) 0 is in omega (arith, e))
@@ -77,7 +77,7 @@ under_some link (x ∷ text) name old mid new is same named behind =
     let N : List ℕ → Type 0 = λ bs. Appends old mid bs in
     Appends-trans old mid new (line_of (codes "on " ++ decimal link)) (x ∷ text) (subst N same named) behind
 
--- what a tracer of a link told
+-- the text from the tracer of a link
 pub followed_one : (d : Draft) (r : Reached) (bs : List Ledger) (n : ℕ) (b : Ledger) (t u : Tracer) (before text shown : List ℕ) (old new : Option (List ℕ)) → before ≡ []
     → slice_get bs n ≡ Some b → IsAtLink d r t → b.first ≤ next t.again → IsFollowed t (since (next t.again) b) u (Some before) (Some text)
     → are_in_step (state_of u.again) (state_of b) ≡ true → shown ≡ text → Appends old new (under_name n shown) → TracedOne d r bs n t.every u old new
@@ -142,7 +142,7 @@ expects_nothing (group.message octets) p printed q is obeys = absurd (false≢tr
 expects_nothing (group.admitting way) p printed q is obeys = absurd (false≢true is)
 expects_nothing (group.own word) p printed q is obeys = absurd (false≢true is)
 
--- a command that is no expectation was obeyed, and told
+-- a command other than `expect` was obeyed and traced
 pub set_traced : (every : Bool) (lines : List PlainLine) (d : Draft) (first : Playing) (before : List PlainGroupSaid) (said : PlainGroupSaid)
     (begun old new from to last printed : Option (List ℕ)) (p q : Playing) (ts us : List Tracer)
     → is_expectation said.command ≡ false → HasObeyed said.command from to last printed p q
@@ -188,7 +188,7 @@ set_met every lines d first before said begun old from to last printed p q ts ex
 
 -- ---- a list of commands
 
--- how far the run of a list of commands came
+-- the state of a run after some commands of a list
 pub record SetGoing (lines : List PlainLine) (p : Playing) (commands : List PlainGroupSaid) (last first now begun told : Option (List ℕ)) (q : Playing)
     (printed : Option (List ℕ)) (ts us : List Tracer) : Type 0 where
   pub run : last ≡ None → IsGroupRun p commands first now q printed
@@ -212,7 +212,7 @@ set_begins lines p last old begun ts = record {
   traced = λ none every d at. tracing_begins every lines d p begun last ts none at;
 }
 
--- one command more of a list
+-- one more command of a list
 pub set_goes_on : (lines : List PlainLine) (p : Playing) (items : List GroupSaid) (i : ℕ) (x : GroupSaid) (last first now begun traced : Option (List ℕ)) (q : Playing)
     (printed : Option (List ℕ)) (ts us : List Tracer) → i < length items → x ≡ get_or items i x
     → SetGoing lines p (map plain_group_said (take i items) ++ plain_group_said x ∷ []) last first now begun traced q printed ts us
@@ -239,7 +239,7 @@ pub set_traced_all : (every : Bool) (lines : List PlainLine) (d : Draft) (p : Pl
 set_traced_all every lines d p commands begun now q printed us s =
     record { now = q; last = printed; reached = s.reached; text = s.text; traces = s.traces; written = s.written }
 
--- an expectation of a list that fails
+-- an expectation in a list that fails
 pub set_missed_at : (p : Playing) (items : List GroupSaid) (i : ℕ) (x : GroupSaid) (first middle now : Option (List ℕ)) (q : Playing) (last : Option (List ℕ)) → i < length items
     → x ≡ get_or items i x → IsGroupRun p (map plain_group_said (take i items)) first middle q last → IsGroupMissedBy (plain_group_said x) last middle now
     → IsGroupMissed (map plain_group_said items) first now p
@@ -277,7 +277,7 @@ set_traced_part every lines d p items i x begun now new q last middle later us w
       other = missed.other;
     }
 
--- ---- where a set begins
+-- ---- a new link set
 
 new_books : (d : Draft) (limits : RoundLimits) (mode : Mode) (f : Term → Link) (ts : List Term) → ((t : Term) → book_of (f t) ≡ t.processes.book)
     → All (λ t. IsNewWithin d mode t limits) ts → All (IsNewBook d) (map book_of (map f ts))

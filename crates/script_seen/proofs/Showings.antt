@@ -1,4 +1,4 @@
--- What is shown of commands, one command more.
+-- The echo of commands: one more command.
 use Rattle.std.proofs.Common.{◌≡◌, ◌∙◌, ℕ, zero, suc, ◌+◌, ◌<◌, ◌≤◌, List, [], ◌∷◌, ◌++◌, length, map, take, drop, get_or, slice_get, option_map, Option, Some, arith, refl, sym, ap, subst}
 use Rattle.std.specs.Io.KnownBytes.{Appends}
 use Rattle.std.proofs.KnownBytes.{Appends-nil, Appends-trans}
@@ -9,7 +9,7 @@ use Rattle.script_group.specs.Lines.{line_of}
 use Rattle.script_group.specs.Played.{missed_text}
 use Rattle.script_seen.specs.Shown.{IsLine, Shows, begins, more, IsShowing, IsMissing}
 
--- the line of a command is in front
+-- the line of a command is written first
 pub record HasFront (lines : List PlainLine) (number : ℕ) (old new : Option (List ℕ)) : Type 0 where
   pub front : List ℕ
   pub is_front : IsLine lines number front
@@ -34,7 +34,7 @@ showing_more lines line P commands said first old mid new printed next s f behin
       (Appends-trans old mid new f.front (drop (length printed) next) f.grew behind);
 }
 
--- what stands behind a list that is in front
+-- the rest after a list that stands first
 drop_behind : (xs ys : List ℕ) → drop (length xs) (xs ++ ys) ≡ ys
 drop_behind [] ys = refl
 drop_behind (x ∷ xs) ys = drop_behind xs ys
@@ -59,7 +59,7 @@ missing_is lines line P M commands said first old mid new printed next s f is be
           (Appends-trans old mid new f.front text f.grew (subst B (ap (drop (length printed)) is ∙ drop_behind printed text) behind));
     }
 
--- what stands behind, by other names
+-- the rest, with its parts replaced by equal ones
 pub behind_is : (n : ℕ) (part printed next : List ℕ) (mid new : Option (List ℕ)) → n ≡ length printed → part ≡ next → Appends mid new (drop n part)
     → Appends mid new (drop (length printed) next)
 behind_is n part printed next mid new e f h =
@@ -67,7 +67,7 @@ behind_is n part printed next mid new e f h =
     let B : List ℕ → Type 0 = λ bs. Appends mid new (drop (length printed) bs) in
     subst B f (subst N e h)
 
--- the element at a place
+-- the element at an index
 found_at : {A : Type 0} (xs : List A) (k : ℕ) (x : A) → k < length xs → x ≡ get_or xs k x → slice_get xs k ≡ Some x
 found_at [] k x lt is = absurd (omega (arith, lt))
 found_at (y ∷ xs) zero x lt is = ap Some (sym is)
@@ -89,6 +89,6 @@ parts_at f items i x within is =
     let rest : drop i items ≡ x ∷ drop (i + 1) items = drop_more items i x within ∙ ap (λ y. y ∷ drop (i + 1) items) (sym is) in
     ap (map f) (sym (take-append-drop i items) ∙ ap (λ ys. take i items ++ ys) rest) ∙ map-append f (take i items) (x ∷ drop (i + 1) items)
 
--- all of them
+-- all commands of the list
 pub all_taken : {A S : Type 0} (f : A → S) (items : List A) (i : ℕ) → length items ≤ i → map f (take i items) ≡ map f items
 all_taken f items i over = ap (map f) (take_all i items over)

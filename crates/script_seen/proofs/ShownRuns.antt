@@ -1,4 +1,4 @@
--- What is shown of a run of each kind of script, one command more.
+-- The echo of a run of each kind of script: one more command.
 use Rattle.std.proofs.Common.{◌≡◌, ℕ, Bool, ◌+◌, ◌<◌, ◌≤◌, List, [], ◌∷◌, ◌++◌, length, map, take, drop, get_or, Option, None, Some, refl, sym, ap, subst}
 use Rattle.std.specs.Io.KnownBytes.{Appends}
 use Rattle.std.proofs.KnownBytes.{Appends-nil}
@@ -22,7 +22,7 @@ use Rattle.script_seen.proofs.Showings.{HasFront, showing_begins, showing_more, 
 
 -- ---- books
 
--- nothing was obeyed yet
+-- no command was obeyed yet
 pub book_starts : (lines : List PlainLine) (b : Ledger) (old last : Option (List ℕ)) (printed : List ℕ) → printed ≡ [] → last ≡ None
     → BookShowing lines b [] old old printed b last
 book_starts lines b old last printed empty none =
@@ -49,7 +49,7 @@ book_misses lines b before said first old mid new printed next now last s f n pa
     missing_is lines book_line (Prints b) (PrintsMissed b) before said first old mid new printed next s.0 f m.printed (behind_is n part printed next mid new e g behind)
     (record { before = before; said = said; after = []; stands = refl; middle = Some printed; now = now; last = last; run = s.1; missed = m })
 
--- one command more of a list
+-- one more command of a list
 pub book_one_more : (lines : List PlainLine) (b : Ledger) (items : List Said) (i : ℕ) (x : Said) (first now : Option (List ℕ)) (printed : List ℕ)
     (state : Ledger) (last : Option (List ℕ)) → i < length items → x ≡ get_or items i x
     → BookShowing lines b (map plain_said (take i items) ++ plain_said x ∷ []) first now printed state last
@@ -65,7 +65,7 @@ book_shown lines b items i first now printed state last over s =
     let P : List PlainSaid → Type 0 = λ commands. BookShowing lines b commands first now printed state last in
     record { printed = printed; showing = (subst P (all_taken plain_said items i over) s).0 }
 
--- an expectation of a list that fails
+-- an expectation in a list that fails
 pub book_missed : (lines : List PlainLine) (b : Ledger) (items : List Said) (i : ℕ) (x : Said) (first now : Option (List ℕ)) → i < length items
     → x ≡ get_or items i x → BookMissing lines b (map plain_said (take i items)) (plain_said x) first now → IsBookShownMissed lines b (map plain_said items) first now
 book_missed lines b items i x first now within is m = record {
@@ -78,7 +78,7 @@ book_missed lines b items i x first now within is m = record {
 
 -- ---- terminals
 
--- nothing was obeyed yet
+-- no command was obeyed yet
 pub term_starts : (keeps : Bool) (lines : List PlainLine) (b : Term) (old last : Option (List ℕ)) (printed : List ℕ) → printed ≡ [] → last ≡ None
     → TermShowing keeps lines b [] old old printed b last
 term_starts keeps lines b old last printed empty none =
@@ -105,7 +105,7 @@ term_misses keeps lines b before said first old mid new printed next now last s 
     missing_is lines term_line (TermPrints keeps b) (TermPrintsMissed keeps b) before said first old mid new printed next s.0 f m.printed (behind_is n part printed next mid new e g behind)
     (record { before = before; said = said; after = []; stands = refl; middle = Some printed; now = now; last = last; run = s.1; missed = m })
 
--- one command more of a list
+-- one more command of a list
 pub term_one_more : (keeps : Bool) (lines : List PlainLine) (b : Term) (items : List TermSaid) (i : ℕ) (x : TermSaid) (first now : Option (List ℕ)) (printed : List ℕ)
     (state : Term) (last : Option (List ℕ)) → i < length items → x ≡ get_or items i x
     → TermShowing keeps lines b (map plain_term_said (take i items) ++ plain_term_said x ∷ []) first now printed state last
@@ -121,7 +121,7 @@ term_shown keeps lines b items i first now printed state last over s =
     let P : List PlainTermSaid → Type 0 = λ commands. TermShowing keeps lines b commands first now printed state last in
     record { printed = printed; showing = (subst P (all_taken plain_term_said items i over) s).0 }
 
--- an expectation of a list that fails
+-- an expectation in a list that fails
 pub term_missed : (keeps : Bool) (lines : List PlainLine) (b : Term) (items : List TermSaid) (i : ℕ) (x : TermSaid) (first now : Option (List ℕ)) → i < length items
     → x ≡ get_or items i x → TermMissing keeps lines b (map plain_term_said (take i items)) (plain_term_said x) first now → IsTermShownMissedBy keeps lines (map plain_term_said items) first now b
 term_missed keeps lines b items i x first now within is m = record {
@@ -134,7 +134,7 @@ term_missed keeps lines b items i x first now within is m = record {
 
 -- ---- link sets
 
--- nothing was obeyed yet
+-- no command was obeyed yet
 pub group_starts : (lines : List PlainLine) (b : Playing) (old last : Option (List ℕ)) (printed : List ℕ) → printed ≡ [] → last ≡ None
     → GroupShowing lines b [] old old printed b last
 group_starts lines b old last printed empty none =
@@ -161,7 +161,7 @@ group_misses lines b before said first old mid new printed next now last s f n p
     missing_is lines group_line (GroupPrints b) (GroupPrintsMissed b) before said first old mid new printed next s.0 f m.printed (behind_is n part printed next mid new e g behind)
     (record { before = before; said = said; after = []; stands = refl; middle = Some printed; now = now; last = last; run = s.1; missed = m })
 
--- one command more of a list
+-- one more command of a list
 pub group_one_more : (lines : List PlainLine) (b : Playing) (items : List GroupSaid) (i : ℕ) (x : GroupSaid) (first now : Option (List ℕ)) (printed : List ℕ)
     (state : Playing) (last : Option (List ℕ)) → i < length items → x ≡ get_or items i x
     → GroupShowing lines b (map plain_group_said (take i items) ++ plain_group_said x ∷ []) first now printed state last
@@ -177,7 +177,7 @@ group_shown lines b items i first now printed state last over s =
     let P : List PlainGroupSaid → Type 0 = λ commands. GroupShowing lines b commands first now printed state last in
     record { printed = printed; showing = (subst P (all_taken plain_group_said items i over) s).0 }
 
--- an expectation of a list that fails
+-- an expectation in a list that fails
 pub group_missed : (lines : List PlainLine) (b : Playing) (items : List GroupSaid) (i : ℕ) (x : GroupSaid) (first now : Option (List ℕ)) → i < length items
     → x ≡ get_or items i x → GroupMissing lines b (map plain_group_said (take i items)) (plain_group_said x) first now → IsGroupShownMissed lines (map plain_group_said items) first now b
 group_missed lines b items i x first now within is m = record {

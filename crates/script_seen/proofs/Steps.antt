@@ -1,4 +1,4 @@
--- An event that happens to a tracer's book, and what it makes of timers.
+-- An event happens to a tracer's book; its effect on timers.
 use Rattle.std.proofs.Common.{◌≡◌, ◌∙◌, ℕ, ◌+◌, ◌-◌, ◌<◌, ◌≤◌, Bool, List, [], ◌∷◌, ◌++◌, length, take, drop, get_or, append-nil, append_assoc, Option, Some, None, map, arith, refl, sym, ap, subst}
 use Rattle.std.specs.Io.KnownBytes.{Appends}
 use Rattle.std.proofs.KnownBytes.{Appends-nil, Appends-trans}
@@ -122,7 +122,7 @@ finished_timers : (n : ℕ) (me : ActorName) (o : Outcome) (w : Core)
 unfolding finished
 finished_timers n me o w = ap (λ ts. timers_after o.end ts n) (laid_timers n me (started n o w) o.progress.effects)
 
--- a turn that is out ends
+-- the turn that an actor has under way ends
 pub record Finishes (b : Ledger) (n : ℕ) (me : ActorName) (t : Turn) (r : Report) (c : Ledger) : Type 0 where
   pub accepted : Accepted b (event.Finish n) c
   pub report : (o : Outcome) → outcome_of t ≡ Some o → r ≡ report_of n me o (state_of b)
@@ -150,7 +150,7 @@ finishes b n me t r c called out is more said =
           ap (λ (w : Core). w.timers) (a.state ∙ ap (λ (s : Stepped). s.to) stepped_is) ∙ finished_timers n me o (state_of b);
     }
 
--- the outcome of which this is a part
+-- the outcome that has this part
 pub record HasPart {A : Type 0} (f : Outcome → A) (x : Option Outcome) (a : A) : Type 0 where
   pub outcome : Outcome
   pub is : x ≡ Some outcome
@@ -160,7 +160,7 @@ pub has_part : {A : Type 0} (f : Outcome → A) (x : Option Outcome) (a : A) →
 has_part f None a h = absurd (cc)
 has_part f (Some o) a h = record { outcome = o; is = refl; part = same_Some (f o) a h }
 
--- so it ends for a tracer
+-- the end of the turn in a tracer
 pub end_step : (old new : Tracer) (n : ℕ) (me : ActorName) (t : Turn) (r : Report) (es : List Effect) → Finishes old.again n me t r new.again
     → next new.again ≡ next old.again + 1 → new.every ≡ old.every → option_map (λ (o : Outcome). o.progress.effects) (outcome_of t) ≡ Some es
     → timers_of new.wheel ≡ timers_after r.end (timers_laid n (timers_of old.wheel) es) n → IsStep old (event.Finish n) new
@@ -182,7 +182,7 @@ end_step old new n me t r es f more every part timers =
 
 -- ---- ticks
 
--- timers as so many ticks pass
+-- the timers after this many ticks
 abbrev ticked : ℕ → Timers → Timers
 ticked k ts = record { clock = ts.clock + k; deadlines = not_due ts.deadlines (ts.clock + k) }
 
@@ -220,7 +220,7 @@ advance_text t k clock xs p q agree =
     ap (λ n. flat_map line_of (map (due_line t.again.set w n) xs)) c
     ∙ ap (λ ys. flat_map line_of (map (due_line t.again.set w (w.timers.clock + k)) ys)) d
 
--- ---- a new book, and a journal that begins anew
+-- ---- a new book, and a restarted journal
 
 pub opened_agree : (d : Draft) (port env journal : ℕ) (b : Ledger) (w : Turning) → b ≡ opened_book d port env journal → w.clock ≡ 0
     → w.deadlines ≡ finite.empty → timers_of w ≡ (state_of b).timers
@@ -252,7 +252,7 @@ is_ended b n e t c es clock named out f same part =
       report = f.report h.outcome (ap outcome_of same ∙ h.is);
     }
 
--- ---- what is told of the end of a turn
+-- ---- the trace of the end of a turn
 
 pub finish_text : (t : Tracer) (n : ℕ) (e : Ended) (v : List ℕ) (every : Bool) (d : Draft) → IsEnded t.again n e → every ≡ t.every → d ≡ t.again.set
     → ((o : Outcome) → outcome_of e.done ≡ Some o → v ≡ flat_map line_of (turn_lines every d e.clock e.me e.done e.report o))
@@ -313,7 +313,7 @@ followed_more t u v es e from mid to text f s is grew =
           (Appends-trans from mid to (told_text t.every d (state_of t.again) es) (flat_map line_of (told t.every d w e)) (f.told agree) (subst B same grew));
     }
 
--- one event more of a list
+-- one more event of a list
 pub followed_on : (t u v : Tracer) (items : List Event) (i : ℕ) (x : Event) (from mid to : Option (List ℕ)) (text : List ℕ) → i < length items → x ≡ get_or items i x
     → IsFollowed t (take i items) u from mid → IsStep u x v
     → (Agree u → text ≡ flat_map line_of (told u.every u.again.set (state_of u.again) x)) → Appends mid to text
@@ -327,7 +327,7 @@ pub followed_all : (t u : Tracer) (items : List Event) (i : ℕ) (from to : Opti
     → IsFollowed t items u from to
 followed_all t u items i from to over f = let P : List Event → Type 0 = λ es. IsFollowed t es u from to in subst P (take_all i items over) f
 
--- from where the journal began anew
+-- the events since the journal was restarted
 followed_from : (b : Ledger) (t m u : Tracer) (es : List Event) (from to : Option (List ℕ)) → IsCaughtUp b t m → IsFollowed m es u from to → IsFollowed t es u from to
 followed_from b t m u es from to k f =
     let agrees : Agree t → Agree m = λ agree. ap (λ w. timers_of w) k.wheel ∙ (agree ∙ ap (λ (w : Core). w.timers) (sym k.state)) in
@@ -345,7 +345,7 @@ followed_from b t m u es from to k f =
       told = λ agree. subst E k.every (subst D k.set (subst V k.state (f.told (agrees agree))));
     }
 
--- what stands behind the first ones of a list, to its end
+-- the elements after the first k, to the end of the list
 pub all_behind : (xs : List Event) (k : ℕ) → take (length xs - k) (drop k xs) ≡ drop k xs
 all_behind xs k = take_all (length xs - k) (drop k xs) (omega (arith, length-drop k xs))
 

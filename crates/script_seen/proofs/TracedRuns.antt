@@ -1,4 +1,4 @@
--- What is traced of a run of each kind of script, one command more.
+-- The trace of a run of each kind of script: one more command.
 use Rattle.std.proofs.Common.{◌≡◌, ◌∙◌, ℕ, Bool, true, ◌+◌, ◌<◌, ◌≤◌, List, [], ◌∷◌, ◌++◌, length, map, take, drop, get_or, Option, None, Some, refl, sym, ap, subst}
 use Rattle.std.proofs.KnownBytes.{Appends-nil}
 use Rattle.turn_code.specs.declared.draft.Draft.{Draft}
@@ -34,7 +34,7 @@ opened_at d port env journal t is agree = record {
 
 -- ---- books
 
--- how far the run of a list of commands came
+-- the state of a run after some commands of a list
 pub record BookGoing (lines : List PlainLine) (b : Ledger) (commands : List PlainSaid) (last : Option (List ℕ)) (first now : Option (List ℕ))
     (begun told : Option (List ℕ)) (book : Ledger) (latest : Option (List ℕ)) (t u : Tracer) : Type 0 where
   pub run : last ≡ None → IsRun b commands first now book latest
@@ -56,7 +56,7 @@ book_going_begins lines b last old begun t = record {
 pub book_behind : (b : Ledger) (commands : List PlainSaid) (first now : Option (List ℕ)) (book : Ledger) (last : Option (List ℕ)) → IsRun b commands first now book last → BookBehind b commands book
 book_behind b commands first now book last run = record { lines = run.lines; last = last; goes = run.goes }
 
--- one command more
+-- one more command
 pub book_traced : (lines : List PlainLine) (b : Ledger) (before : List PlainSaid) (said : PlainSaid) (begun old mid new : Option (List ℕ)) (book : Ledger)
     (t u : Tracer) → BookTracing lines b before begun old t → HasFrontOf (book_asks said) lines said.line old mid → BookBehind b (before ++ said ∷ []) book
     → book.first ≤ next t.again → IsFollowed t (since (next t.again) book) u mid new → are_in_step (state_of u.again) (state_of book) ≡ true
@@ -121,7 +121,7 @@ book_traced_part every lines b items i x begun now new u within is same stays mi
 
 -- ---- terminals
 
--- how far the run of a list of commands came
+-- the state of a run after some commands of a list
 pub record TermGoing (keeps : Bool) (lines : List PlainLine) (t : Term) (commands : List PlainTermSaid) (last : Option (List ℕ)) (first now : Option (List ℕ))
     (begun told : Option (List ℕ)) (term : Term) (latest : Option (List ℕ)) (old new : Tracer) : Type 0 where
   pub run : last ≡ None → IsTermRun keeps t commands first now term latest
@@ -145,7 +145,7 @@ pub term_behind : (keeps : Bool) (t : Term) (commands : List PlainTermSaid) (fir
     → book ≡ book_in term → IsTermRun keeps t commands first now term last → TermBehind keeps t commands book
 term_behind keeps t commands first now term last book is run = record { lines = run.lines; last = last; term = term; goes = run.goes; is = sym is }
 
--- one command more
+-- one more command
 pub term_traced : (keeps : Bool) (lines : List PlainLine) (t : Term) (before : List PlainTermSaid) (said : PlainTermSaid) (begun old mid new : Option (List ℕ))
     (book : Ledger) (from to : Tracer) → TermTracing keeps lines t before begun old from → HasFrontOf (term_asks said) lines said.line old mid
     → TermBehind keeps t (before ++ said ∷ []) book → book.first ≤ next from.again → IsFollowed from (since (next from.again) book) to mid new
@@ -210,7 +210,7 @@ term_traced_part every keeps lines t items i x begun now new tracer within is sa
       traced = subst P (sym stays) (term_traced_all every keeps lines t (map plain_term_said (take i items)) begun now tracer same s);
     }
 
--- what is told is kept where one of the commands asks for it
+-- the terminal's reports are kept if one of the commands needs them
 pub term_written : (keeps : Bool) (t : Term) (commands : List PlainTermSaid) (old new : Option (List ℕ)) → keeps ≡ asks_told commands
     → ((now : Term) × (last : Option (List ℕ)) × IsTermRun keeps t commands old new now last) → IsTermWritten commands old new t
 term_written keeps t commands old new same r =

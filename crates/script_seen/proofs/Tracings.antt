@@ -1,4 +1,4 @@
--- What is traced of commands, one command more.
+-- The trace of commands: one more command.
 use Rattle.std.proofs.Common.{◌≡◌, ◌∙◌, ℕ, ◌+◌, ◌≤◌, Bool, true, List, [], ◌∷◌, ◌++◌, length, Option, Result, OnOk, false, refl, sym, ap, subst}
 use Rattle.std.specs.Io.KnownBytes.{Appends}
 use Rattle.std.proofs.KnownBytes.{Appends-nil, Appends-trans}
@@ -17,7 +17,7 @@ pub tracing_begins : {S : Type 0} (lines : List PlainLine) (line : S → ℕ) (a
 tracing_begins lines line asks d first B old t at =
     record { place = 0; now = first; text = []; traces = begins; is_at = at; written = Appends-nil old }
 
--- what a tracer that stood there came to
+-- where a tracer got to from this place
 pub record CameTo (every : Bool) (d : Draft) (place : ℕ) (w : Core) (b : Ledger) (u : Tracer) (from to : Option (List ℕ)) : Type 0 where
   pub place_is : next u.again ≡ place + length (since place b)
   pub state : state_of u.again ≡ replay d (runs d) w (since place b)
@@ -32,7 +32,7 @@ came_to d place w b t u from to at f =
     let W : Core → Type 0 = λ x. CameTo t.every d place x b u from to in
     subst W at.state (subst N at.place_is (subst D at.set (record { place_is = f.place; state = f.state; told = f.told agree })))
 
--- one command more, whose line is in front
+-- one more command, whose line is written first
 pub record HasFrontOf (asks : Bool) (lines : List PlainLine) (number : ℕ) (old new : Option (List ℕ)) : Type 0 where
   pub front : List ℕ
   pub is_front : IsFront asks lines number front
@@ -42,7 +42,7 @@ pub has_front_of : (asks : Bool) (lines : List PlainLine) (number : ℕ) (old ne
     → ((front : List ℕ) × IsFront asks lines number front × Appends old new front) → HasFrontOf asks lines number old new
 has_front_of asks lines number old new f = record { front = f.0; is_front = f.1; grew = f.2 }
 
--- there is none where a command only asks, and its line else
+-- no line is written for a question; for any other command its line is
 pub no_front : (asks : Bool) (lines : List PlainLine) (number : ℕ) (old : Option (List ℕ)) → asks ≡ true
     → ((front : List ℕ) × IsFront asks lines number front × Appends old old front)
 no_front asks lines number old is =

@@ -1,4 +1,4 @@
--- What a watcher is told of a run of each kind of script, one command more.
+-- The notices to a watcher about a run of each kind of script: one more command.
 use Rattle.std.proofs.Common.{◌≡◌, ℕ, Bool, true, ◌+◌, ◌<◌, ◌≤◌, List, [], ◌∷◌, ◌++◌, length, map, take, drop, get_or, Option, None, refl, sym, subst}
 use Rattle.turn_code.specs.declared.draft.Draft.{Draft}
 use Rattle.actor_machine.specs.Kept.{opened_book}
@@ -19,14 +19,14 @@ use Rattle.script_seen.proofs.Showings.{one_more, parts_at, all_taken}
 use Rattle.script_seen.proofs.TracedRuns.{book_run_begins, term_run_begins}
 use Rattle.script_seen.proofs.Watchings.{watching_begins, watching_more, is_watched, watched_as, in_part_as}
 
--- the set of a book that has just been opened
+-- the process set of a newly opened book
 pub opened_set : (d : Draft) (port env journal : ℕ) → (opened_book d port env journal).set ≡ d
 unfolding opened_book
 opened_set d port env journal = refl
 
 -- ---- books
 
--- how far the run of a list of commands came: K is what the watcher was, L what it is
+-- the state of a run after some commands of a list: K holds of the watcher before, L after
 pub record BookGoing (b : Ledger) (commands : List PlainSaid) (last first now : Option (List ℕ)) (book : Ledger) (latest : Option (List ℕ))
     (K L : List Notice → Type 0) (t u : Tracer) : Type 0 where
   pub run : last ≡ None → IsRun b commands first now book latest
@@ -38,7 +38,7 @@ book_going_begins b last old K t = record {
   watched = λ none at k. watching_begins b.set (state_of b) (BookBehind b) K t at k;
 }
 
--- one command more
+-- one more command
 pub book_watched : (b : Ledger) (before : List PlainSaid) (said : PlainSaid) (K L : Draft → List Notice → Type 0) (book : Ledger) (t u : Tracer)
     → BookWatching b before (K b.set) t → BookBehind b (before ++ said ∷ []) book → book.first ≤ next t.again → IsMoved t (since (next t.again) book) u
     → are_in_step (state_of u.again) (state_of book) ≡ true
@@ -63,7 +63,7 @@ book_gone b items i last first now book latest K L t u over s =
     let P : List PlainSaid → Type 0 = λ commands. BookGoing b commands last first now book latest K L t u in
     subst P (all_taken plain_said items i over) s
 
--- a watcher that stayed as it was
+-- a watcher that is unchanged
 pub book_kept : {N : Type 0} (knows : List Notice → N → Type 0) (b : Ledger) (commands : List PlainSaid) (old new : N) (u : Tracer) → new ≡ old
     → BookWatching b commands (λ ns. knows ns old) u → BookWatching b commands (λ ns. knows ns new) u
 book_kept {N = N} knows b commands old new u same s =
@@ -84,7 +84,7 @@ book_watched_part b items i x P u within is missed s = record {
   watched = book_watched_all b (map plain_said (take i items)) P u s;
 }
 
--- what a watcher is, as something else that it is then
+-- a property of the watcher, replaced by one that follows from it
 pub book_watched_as : (b : Ledger) (commands : List PlainSaid) (P Q : List Notice → Type 0) → ((ns : List Notice) → P ns → Q ns)
     → IsBookWatched b commands P → IsBookWatched b commands Q
 book_watched_as b commands P Q f w = watched_as b.set (state_of b) (BookBehind b) commands P Q f w

@@ -1,4 +1,4 @@
--- What a watcher is told of commands, one command more.
+-- The notices to a watcher about commands: one more command.
 use Rattle.std.proofs.Common.{◌≡◌, ◌∙◌, ℕ, ◌+◌, ◌≤◌, true, List, [], ◌∷◌, ◌++◌, length, sym, ap, subst}
 use Rattle.turn_code.specs.declared.draft.Draft.{Draft}
 use Rattle.actor_machine.specs.Core.{Core}
@@ -13,7 +13,7 @@ pub watching_begins : {S : Type 0} (d : Draft) (first : Core) (B : List S → Le
     → IsWatching d first B [] P t
 watching_begins d first B P t at p = record { place = 0; now = first; notices = []; are = begins; is_at = at; holds = p }
 
--- where a tracer that stood there came to
+-- where a tracer got to from this place
 record CameTo (d : Draft) (place : ℕ) (w : Core) (b : Ledger) (u : Tracer) : Type 0 where
   place_is : next u.again ≡ place + length (since place b)
   state : state_of u.again ≡ replay d (runs d) w (since place b)
@@ -64,7 +64,7 @@ pub is_watched : {S : Type 0} (d : Draft) (first : Core) (B : List S → Ledger 
     → IsWatching d first B commands P t → IsWatched d first B commands P
 is_watched d first B commands P t s = record { place = s.place; now = s.now; notices = s.notices; are = s.are; holds = s.holds }
 
--- what a watcher is, as something else that it is then
+-- a property of the watcher, replaced by one that follows from it
 pub watched_as : {S : Type 0} (d : Draft) (first : Core) (B : List S → Ledger → Type 0) (commands : List S) (P Q : List Notice → Type 0)
     → ((ns : List Notice) → P ns → Q ns) → IsWatched d first B commands P → IsWatched d first B commands Q
 watched_as d first B commands P Q f w = record { place = w.place; now = w.now; notices = w.notices; are = w.are; holds = f w.notices w.holds }

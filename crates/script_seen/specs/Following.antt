@@ -1,4 +1,4 @@
--- A book to which the same happens as to another one.
+-- A tracer: a second book that replays the events of a book.
 use Rattle.std.specs.Prelude.{◌≡◌, ◌+◌, ℕ, Bool, List, [], ◌∷◌, length, Option, Some, slice_get}
 use Rattle.std.specs.Io.KnownBytes.{Appends}
 use Rattle.turn_code.specs.Outcome.{Outcome}
@@ -21,7 +21,7 @@ use Rattle.script_seen.specs.declared.turns.Ended.{Ended}
 abbrev pub Agree : Tracer → Type 0
 Agree t = timers_of t.wheel ≡ (state_of t.again).timers
 
--- an event happened to a tracer
+-- an event was replayed in a tracer
 pub record IsStep (old : Tracer) (e : Event) (new : Tracer) : Type 0 where
   pub set : new.again.set ≡ old.again.set
   pub every : new.every ≡ old.every
@@ -29,7 +29,7 @@ pub record IsStep (old : Tracer) (e : Event) (new : Tracer) : Type 0 where
   pub state : state_of new.again ≡ (stepped old.again.set (state_of old.again) e).to
   pub agree : Agree old → Agree new
 
--- these events happened to a tracer, and what is written grew by what is told of them
+-- these events were replayed in a tracer, and their trace was written
 pub record IsFollowed (old : Tracer) (es : List Event) (new : Tracer)
     (from to : Option (List ℕ)) : Type 0 where
   pub set : new.again.set ≡ old.again.set
@@ -41,7 +41,7 @@ pub record IsFollowed (old : Tracer) (es : List Event) (new : Tracer)
   pub agree : Agree old → Agree new
   pub told : Agree old → Appends from to (told_text old.every old.again.set (state_of old.again) es)
 
--- a tracer's journal begins where that of a book does; nothing else changed
+-- a tracer's journal begins at the same event as that of a book; nothing else changed
 pub record IsCaughtUp (b : Ledger) (old new : Tracer) : Type 0 where
   pub set : new.again.set ≡ old.again.set
   pub every : new.every ≡ old.every
@@ -50,7 +50,7 @@ pub record IsCaughtUp (b : Ledger) (old new : Tracer) : Type 0 where
   pub place : next new.again ≡ next old.again
   pub state : state_of new.again ≡ state_of old.again
 
--- the turn that actor n of a book has out, and what came of it
+-- the turn that actor n of a book has under way, and its result
 pub record IsEnded (b : Ledger) (n : ℕ) (e : Ended) : Type 0 where
   pub clock : e.clock ≡ (state_of b).timers.clock
   pub named : slice_get (names_in (state_of b).actors) n ≡ Some e.me
@@ -61,13 +61,13 @@ pub record IsEnded (b : Ledger) (n : ℕ) (e : Ended) : Type 0 where
 
 -- ---- timers
 
--- what an effect of a turn of actor n makes of timers
+-- the timers after an effect of a turn of actor n
 abbrev pub timers_by : ℕ → Timers → Effect → Timers
 timers_by n ts (Output s) = ts
 timers_by n ts (Set t z) = until ts n t.0 (delay z)
 timers_by n ts (Reset t) = without ts n t.0
 
--- effects, one after another
+-- the timers after several effects, one after another
 abbrev pub timers_laid : ℕ → Timers → List Effect → Timers
 timers_laid n ts [] = ts
 timers_laid n ts (e ∷ es) = timers_laid n (timers_by n ts e) es

@@ -1,4 +1,4 @@
--- What is shown of a run of each kind of script.
+-- The echo of a run of each kind of script.
 use Rattle.std.specs.Prelude.{ℕ, Bool, List, [], Option, Some}
 use Rattle.actor_machine.specs.Ledger.{Ledger}
 use Rattle.script_lines.specs.Lines.{PlainLine}
@@ -17,11 +17,11 @@ use Rattle.script_seen.specs.Shown.{IsShowing, IsMissing, IsShown, IsShownMissed
 abbrev pub book_line : PlainSaid → ℕ
 book_line s = s.line
 
--- commands print this on a link, from this book on
+-- the text that commands print on a link that starts with this book
 abbrev pub Prints : Ledger → List PlainSaid → List ℕ → Type 0
 Prints b commands printed = IsWritten b commands (Some []) (Some printed)
 
--- and this, where an expectation fails
+-- the text that they print if an expectation fails
 abbrev pub PrintsMissed : Ledger → List PlainSaid → List ℕ → Type 0
 PrintsMissed b commands printed = IsMissed b commands (Some []) (Some printed)
 
@@ -34,7 +34,7 @@ abbrev pub IsBookShownMissed :
 IsBookShownMissed lines b commands old new =
     IsShownMissed lines book_line (Prints b) (PrintsMissed b) commands old new
 
--- so far these commands were obeyed, and shown
+-- these commands were obeyed and echoed so far
 abbrev pub BookShowing :
     List PlainLine → Ledger → List PlainSaid → Option (List ℕ) → Option (List ℕ) → List ℕ
     → Ledger → Option (List ℕ) → Type 0
@@ -42,7 +42,7 @@ BookShowing lines b commands first now printed book last =
     IsShowing lines book_line (Prints b) commands first now printed
     × IsRun b commands (Some []) (Some printed) book last
 
--- an expectation behind them fails
+-- the expectation after them fails
 abbrev pub BookMissing :
     List PlainLine → Ledger → List PlainSaid → PlainSaid → Option (List ℕ) → Option (List ℕ)
     → Type 0
@@ -54,7 +54,7 @@ BookMissing lines b before said first now =
 abbrev pub term_line : PlainTermSaid → ℕ
 term_line s = s.line
 
--- commands print this on a terminal, from this one on; whether what it tells is kept
+-- the text that commands print on a terminal; `keeps`: whether the terminal's reports are kept
 pub record TermPrints (keeps : Bool) (t : Term) (commands : List PlainTermSaid)
     (printed : List ℕ) : Type 0 where
   pub now : Term
@@ -76,7 +76,7 @@ abbrev pub IsTermShownMissedBy :
 IsTermShownMissedBy keeps lines commands old new t =
     IsShownMissed lines term_line (TermPrints keeps t) (TermPrintsMissed keeps t) commands old new
 
--- it is kept where one of the commands asks for it
+-- the reports are kept if one of the commands needs them
 abbrev pub IsTermShown :
     List PlainLine → List PlainTermSaid → Option (List ℕ) → Option (List ℕ) → Term → Type 0
 IsTermShown lines commands old new t =

@@ -1,4 +1,4 @@
--- The lines of a trace: what is told of each event that happens to a link.
+-- The lines of a trace: the text about each event of a link.
 use Rattle.std.specs.Prelude.{ℕ, ◌+◌, ◌==◌, Bool, true, false, not, ◌&&◌, ◌||◌, List, [], ◌∷◌, ◌++◌}
 use Rattle.std.specs.Prelude.{Option, None, Some, is_some, position, length, slice_get, unwrap_or}
 use Rattle.std.specs.Prelude.{bytes_eq, codes, map, if◌then◌else◌}
@@ -45,7 +45,7 @@ use Rattle.script_lines.specs.Replies.{state_text, trigger_text, end_text, value
 
 -- ---- values, timers, variables, actors
 
--- values, a space before each
+-- values, with a space before each
 abbrev pub values_text : List Value → List ℕ
 values_text vs = flat_map (λ v. 32 ∷ value_text v) vs
 
@@ -63,13 +63,13 @@ shown_text (Some v) = value_text v
 abbrev pub instance_of : ProcessNumber → InstanceNumber → ActorName
 instance_of p k = record { process = p; instance = k }
 
--- who sent a signal
+-- the sender of a signal
 abbrev pub party_text : Draft → Party → Option InstanceNumber → List ℕ
 party_text d Environment k = codes "ENV"
 party_text d (Process p) None = process_text d p.0
 party_text d (Process p) (Some k) = sender_text d (instance_of p k)
 
--- nobody sent what START and a timer give
+-- the sender, after ` from `; nothing for START and timers, which have no sender
 abbrev pub from_text : Draft → Option Address → List ℕ
 from_text d None = []
 from_text d (Some a) = codes " from " ++ party_text d a.party a.instance
@@ -78,8 +78,8 @@ from_text d (Some a) = codes " from " ++ party_text d a.party a.instance
 abbrev pub has_actor : Draft → ActorName → Bool
 has_actor d x = is_some (place_of x (actors_of d.processes))
 
--- who gets a signal that goes to a process and names no instance: the one with the sender's number,
--- or the first one
+-- the receiver of a signal sent to a process without naming an instance: the instance with the
+-- sender's number, or the first one
 abbrev pub meant : Draft → ActorName → ProcessNumber → ActorName
 meant d me p =
     if has_actor d (instance_of p me.instance) then instance_of p me.instance
@@ -109,7 +109,7 @@ found_loss lost (Some n) = slice_get lost n
 abbrev pub lost_at : List Lost → ℕ → Option Lost
 lost_at lost k = found_loss lost (position (λ (l : Lost). l.place == k) lost)
 
--- the effect at place k of a turn of an actor, at this time of the clock
+-- the effect at place k of a turn of an actor, at this clock time
 abbrev pub effect_text : Draft → ℕ → ActorName → List Lost → ℕ → Effect → List ℕ
 effect_text d clock me lost k (Output s) =
     signal_text d s.signal.0 ++ values_text s.parameters.items
@@ -119,7 +119,7 @@ effect_text d clock me lost k (Set t z) =
     codes "set " ++ timer_text d me.process.0 t.0 ++ codes " at " ++ decimal (clock + delay z)
 effect_text d clock me lost k (Reset t) = codes "reset " ++ timer_text d me.process.0 t.0
 
--- the effects in the order of the text, each behind a comma, the first of them at place k
+-- the effects in the order of the text, with a comma before each, the first of them at place k
 abbrev pub effects_text : Draft → ℕ → ActorName → List Lost → ℕ → List Effect → List ℕ
 effects_text d clock me lost k [] = []
 effects_text d clock me lost k (e ∷ es) =
@@ -131,7 +131,7 @@ effects_text d clock me lost k (e ∷ es) =
 abbrev pub value_at : List (Option Value) → ℕ → Option Value
 value_at vs k = unwrap_or (slice_get vs k) None
 
--- variable k of process p, behind a comma, where it isn't what it was
+-- variable k of process p, with a comma before it, if its value changed
 abbrev pub change_text : Draft → ℕ → List (Option Value) → ℕ → Option Value → List ℕ
 change_text d p before k v =
     if bytes_eq (shown_text (value_at before k)) (shown_text v) then []
@@ -146,22 +146,22 @@ changes_text d p before k (v ∷ vs) =
 
 -- ---- turns
 
--- how a turn began: who, its number, from which state by what with which values from whom
+-- how a turn began: its actor, number and state, and the stimulus with its values and sender
 abbrev pub began_text : Draft → ActorName → Turn → List ℕ
 began_text d me t =
     codes " turn " ++ decimal t.turn ++ codes " " ++ sender_text d me ++ codes " "
     ++ place_text d me.process.0 t.place t.input_number
     ++ values_text t.input.parameters.items ++ from_text d t.input.sender
 
--- how it ended: the next state, or STOP, and how many instructions it took, of as many as its
--- certificate allows
+-- how a turn ended: the next state, or STOP, and the number of instructions executed, with the
+-- number that its certificate allows
 abbrev pub ended_text : Draft → ActorName → Turn → Report → List ℕ
 ended_text d me t r =
     codes ", " ++ end_text d me.process.0 r.end ++ codes " count " ++ decimal r.count
     ++ codes " of " ++ decimal t.certificate.budget
 
--- a turn that ended at this time of the clock: how it began and ended, what its effects are, and
--- which variables it changed
+-- a turn that ended at this clock time: how it began and ended, its effects, and the variables that
+-- it changed
 abbrev pub turn_line : Draft → ℕ → ActorName → Turn → Report → Outcome → List ℕ
 turn_line d clock me t r o =
     decimal clock ++ began_text d me t ++ ended_text d me t r
@@ -173,7 +173,7 @@ stays_in Start e = false
 stays_in (AtState q) (State r) = q.0 == r.0
 stays_in (AtState q) Stop = false
 
--- a turn that keeps its state and has no effect is dull
+-- a dull turn: it keeps its state and has no effect
 abbrev pub is_dull : Place → End → List Effect → Bool
 is_dull s e es = stays_in s e && (length es == 0)
 
@@ -187,7 +187,7 @@ abbrev pub outcome_by : Option Turn → Option Outcome
 outcome_by None = None
 outcome_by (Some t) = outcome_of t
 
--- what is told of the end of the turn of actor n, if it has one out
+-- the lines about the end of the turn of actor n, if it has a turn under way
 abbrev pub end_lines :
     Bool → Draft → Core → ℕ → Option ActorName → Option Turn → Option Outcome → List (List ℕ)
 end_lines every d w n (Some me) (Some t) (Some o) =
@@ -214,7 +214,7 @@ abbrev pub stands_text : Draft → ℕ → Place → List ℕ
 stands_text d p Start = codes "START"
 stands_text d p (AtState q) = state_text d p q.0
 
--- an item that an actor throws away
+-- an item that an actor discards
 abbrev pub skip_line : Draft → ℕ → ActorName → Place → Item → List ℕ
 skip_line d clock me s x =
     decimal clock ++ codes " skip " ++ sender_text d me ++ codes " "
@@ -237,14 +237,14 @@ abbrev pub timer_of_text : Draft → Option ActorName → ℕ → List ℕ
 timer_of_text d None t = []
 timer_of_text d (Some x) t = timer_text d x.process.0 t
 
--- a timer that runs out at this time of the clock
+-- a timer that expires at this clock time
 abbrev pub due_line : Draft → Core → ℕ → Due → List ℕ
 due_line d w clock x =
     decimal clock ++ codes " due "
     ++ actor_text d (slice_get (names_in w.actors) x.timer.actor) ++ codes " "
     ++ timer_of_text d (slice_get (names_in w.actors) x.timer.actor) x.timer.number
 
--- what the set makes of a state of a link by an event
+-- the step from a link's state to the next by an event
 abbrev pub stepped : Draft → Core → Event → Stepped
 stepped d w e = step d (runs d) w e
 
@@ -258,8 +258,7 @@ skip_lines d clock None = []
 skip_lines d clock (Some a) =
     skip_of d clock a.name a.standing (item_at d a.name.process.0 a.standing a.port.items)
 
--- What is told of an event that happens in a state of a link. With `every` skips and dull turns are
--- told too.
+-- The lines about an event in a state of a link. With `every` they include skips and dull turns.
 unfoldable pub told : Bool → Draft → Core → Event → List (List ℕ)
 told every d w (event.Offer o) = offer_line d w o ∷ []
 told every d w (event.Begin n) = []
@@ -270,7 +269,7 @@ told every d w (event.Finish n) =
 told every d w (event.Advance k) = map (due_line d w (w.timers.clock + k)) (due_in w k)
 told every d w event.TakeEnv = []
 
--- of events that happen one after another
+-- the lines about events that happen one after another
 unfoldable pub told_of : Bool → Draft → Core → List Event → List (List ℕ)
 told_of every d w [] = []
 told_of every d w (e ∷ es) = told every d w e ++ told_of every d (stepped d w e).to es

@@ -1,5 +1,5 @@
--- What a trace says of a script's run: each command's line, and behind it what is told of each
--- event that happened by that command.
+-- The trace of a script's run: each command's line, followed by the lines about the events that the
+-- command caused.
 use Rattle.std.specs.Prelude.{◌≡◌, ◌≤◌, ◌+◌, ◌-◌, ℕ, Bool, true, false, List, []}
 use Rattle.std.specs.Prelude.{◌∷◌, ◌++◌, ◌==◌, ◌&&◌, length, drop, Option}
 use Rattle.std.specs.List.{flat_map}
@@ -16,30 +16,29 @@ use Rattle.script_seen.specs.Shown.{IsLine}
 use Rattle.script_seen.specs.Told.{told_of}
 use Rattle.script_seen.specs.declared.tracing.Tracer.{Tracer}
 
--- the events of a journal from a place on
+-- the events of a journal from this event number on
 abbrev pub since : ℕ → Ledger → List Event
 since place b = drop (place - b.first) b.journal
 
--- what is told of events, with the ends of the lines
+-- the trace of events, with line ends
 abbrev pub told_text : Bool → Draft → Core → List Event → List ℕ
 told_text every d w es = flat_map line_of (told_of every d w es)
 
--- the line of a command stands in front, but for one that only asks
+-- the line of a command, written first; nothing for a command that is a question
 abbrev pub IsFront : Bool → List PlainLine → ℕ → List ℕ → Type 0
 IsFront true lines number front = front ≡ []
 IsFront false lines number front = IsLine lines number front
 
--- as many ticks went by, and as many turns began and ended, with as many instructions
+-- two states agree in their ticks, turns begun, turns ended and instructions executed
 abbrev pub are_in_step : Core → Core → Bool
 are_in_step w v =
     (w.timers.clock == v.timers.clock)
     && ((w.turns == v.turns)
     && ((w.finishes == v.finishes) && (w.instructions == v.instructions)))
 
--- What is traced of commands in their order, from a state of the link of a set on. B says which
--- book there is behind commands; how many events had happened, and the state, stand behind these.
--- Each command's line is in front of what is told of the events that its journal has since, none
--- of which is lost; behind them the state is in step with that of the book.
+-- The trace of commands in order, from a first state of a link. B relates commands to the book
+-- after them; the results are the number of events and the state. Each command's line comes before
+-- its events, none of which the journal has lost; then the state is in step with the book's.
 pub data Traces {S : Type 0} (every : Bool) (lines : List PlainLine) (line : S → ℕ)
     (asks : S → Bool) (d : Draft) (first : Core) (B : List S → Ledger → Type 0) :
     List S → ℕ → Core → List ℕ → Type 0 where
@@ -54,14 +53,14 @@ pub data Traces {S : Type 0} (every : Bool) (lines : List PlainLine) (line : S �
       (place + length (since place b)) (replay d (runs d) w (since place b))
       (text ++ (front ++ told_text every d w (since place b)))
 
--- a tracer came to this place of the events of a set's link, and to this state
+-- a tracer has reached this number of events of a link, and this state
 pub record IsAt (d : Draft) (place : ℕ) (w : Core) (t : Tracer) : Type 0 where
   pub set : t.again.set ≡ d
   pub place_is : next t.again ≡ place
   pub state : state_of t.again ≡ w
   pub timers : timers_of t.wheel ≡ w.timers
 
--- so far these commands are traced, and what is written grew by that
+-- these commands are traced so far, and their trace was written
 pub record IsTracing {S : Type 0} (lines : List PlainLine) (line : S → ℕ) (asks : S → Bool)
     (d : Draft) (first : Core) (B : List S → Ledger → Type 0) (commands : List S)
     (old new : Option (List ℕ)) (t : Tracer) : Type 0 where
@@ -82,8 +81,8 @@ pub record IsTraced {S : Type 0} (every : Bool) (lines : List PlainLine) (line :
   pub traces : Traces every lines line asks d first B commands place now text
   pub written : Appends old new text
 
--- so are those in front of one of these commands, an expectation that fails: M says so of it behind
--- those
+-- the commands before one of these are traced, and that one is an expectation that fails after
+-- them, as M states
 pub record IsTracedInPart {S : Type 0} (every : Bool) (lines : List PlainLine) (line : S → ℕ)
     (asks : S → Bool) (d : Draft) (first : Core) (B : List S → Ledger → Type 0)
     (M : List S → S → Type 0) (commands : List S) (old new : Option (List ℕ)) : Type 0 where

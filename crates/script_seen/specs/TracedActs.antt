@@ -1,4 +1,4 @@
--- What is traced as something happens to a link, step by step.
+-- The trace of a link, step by step.
 use Rattle.std.specs.Prelude.{◌≡◌, ◌≤◌, Bool, true, List, ◌++◌, ℕ, Option, codes}
 use Rattle.plain_laws.specs.Limits.{MOST_PORT, MOST_ENVIRONMENT, MOST_JOURNAL}
 use Rattle.turn_code.specs.declared.draft.Draft.{Draft}
@@ -11,18 +11,18 @@ use Rattle.script_seen.specs.Traced.{since, are_in_step}
 use Rattle.script_seen.specs.TracedKinds.{IsAtStart}
 use Rattle.script_seen.specs.declared.tracing.Tracer.{Tracer}
 
--- a tracer of a terminal over a set, before anything happened
+-- a tracer of a terminal that runs a process set, before any event
 pub record IsNewTracer (d : Draft) (every : Bool) (t : Tracer) : Type 0 where
   pub every_is : t.every ≡ every
   pub start : IsAtStart (opened_book d MOST_PORT MOST_ENVIRONMENT MOST_JOURNAL) t
 
--- what has happened to a book since is told, none of it lost, and what is written grew by that;
--- behind it a tracer is in step with the book
+-- the events of a book since the last call are traced and written, none of them lost; then the
+-- tracer is in step with the book
 pub record Follows (b : Ledger) (old new : Tracer) (from to : Option (List ℕ)) : Type 0 where
   pub first : b.first ≤ next old.again
   pub followed : IsFollowed old (since (next old.again) b) new from to
   pub in_step : are_in_step (state_of new.again) (state_of b) ≡ true
 
--- words as a trace has them in front of what happened by them
+-- words as a line of a trace, before the events that they cause
 abbrev pub front_line : List (List ℕ) → List ℕ
 front_line words = line_of (codes "> " ++ parted words)

@@ -1,5 +1,5 @@
--- What is traced of a run of a link set's script: of each command what messages of changeover said
--- by it, and what happened on each link.
+-- The trace of a run of a link set's script: for each command, the changeover messages that it
+-- caused, and the events on each link.
 use Rattle.std.specs.Prelude.{◌≡◌, ◌≤◌, ◌+◌, ℕ, Bool, true, false, List, [], ◌∷◌, ◌++◌, length}
 use Rattle.std.specs.Prelude.{Option, None, Some, codes, map, All}
 use Rattle.std.specs.Io.KnownBytes.{Appends}
@@ -40,7 +40,7 @@ word_only_asks words.Held = true
 word_only_asks words.Unsure = true
 word_only_asks words.Link = true
 
--- whether a command asks, and nothing happens by it
+-- whether a command is a question, which causes no event
 abbrev pub group_only_asks : PlainGroupCommand → Bool
 group_only_asks (group.order o) = false
 group_only_asks (group.unit octets) = false
@@ -59,7 +59,7 @@ group_only_asks (group.own word) = word_only_asks word
 
 -- ---- messages of changeover (Q.704, 5 and 15)
 
--- the heading of a message, and the number that it tells
+-- the heading of a message, its link, and its sequence number if it has one
 abbrev pub kind_text : Kind → ℕ → List ℕ
 kind_text (kind.Order fsn) link =
     codes "COO link " ++ decimal link ++ codes " fsn " ++ decimal fsn
@@ -68,7 +68,7 @@ kind_text (kind.Acknowledgement fsn) link =
 kind_text kind.EmergencyOrder link = codes "ECO link " ++ decimal link
 kind_text kind.EmergencyAcknowledgement link = codes "ECA link " ++ decimal link
 
--- the line of a message that was heard or said at this tick
+-- the line of a message received or sent at this tick
 abbrev pub message_line : ℕ → List ℕ → Changeover → List ℕ
 message_line clock way m = line_of (decimal clock ++ way ++ kind_text m.kind m.label.sls)
 
@@ -82,13 +82,13 @@ heard_text clock m = message_text clock (codes " heard ") m
 abbrev pub said_text : ℕ → Option Changeover → List ℕ
 said_text clock m = message_text clock (codes " said ") m
 
--- the order for a link that fails, if it isn't refused
+-- the changeover order for a link that fails, unless that is refused
 abbrev pub order_unless : Option FailError → Changeover → Option Changeover
 order_unless None m = Some m
 order_unless (Some e) m = None
 
--- What is told of messages of changeover by a command to this set: of one that came in and of the
--- answer to it, and of the order for a link that fails.
+-- The trace of changeover messages caused by a command to this link set: the message received and
+-- the answer to it, and the order for a link that fails.
 abbrev pub IsChangeoverTold : ℕ → PlainGroupCommand → Playing → List ℕ → Type 0
 IsChangeoverTold clock (group.message octets) p text =
     (m : Option Changeover) → IsRead octets m
@@ -99,7 +99,7 @@ IsChangeoverTold clock c p text = text ≡ []
 
 -- ---- links
 
--- how many events of a link are told, and the state behind them
+-- how many events of a link are traced, and the state after them
 pub record Reached : Type 0 where
   pub place : ℕ
   pub core : Core
@@ -115,12 +115,12 @@ abbrev pub IsReached : Draft → Reached → Ledger → Type 0
 IsReached d r b =
     (b.first ≤ r.place) × (are_in_step (reach d r b).core (state_of b) ≡ true)
 
--- what happened on a link stands behind its name
+-- the events on a link, after a line that names the link
 abbrev pub under_name : ℕ → List ℕ → List ℕ
 under_name link [] = []
 under_name link (o ∷ os) = line_of (codes "on " ++ decimal link) ++ (o ∷ os)
 
--- the links in order, the first of them link l
+-- the traces of the links in order, the first of them link l
 abbrev pub links_text : Bool → Draft → ℕ → List Reached → List Ledger → List ℕ
 links_text every d l [] bs = []
 links_text every d l (r ∷ rs) [] = []
@@ -142,29 +142,29 @@ pub data AreReached (d : Draft) : List Reached → List Ledger → Type 0 where
 abbrev pub books_of : Playing → List Ledger
 books_of p = map (λ k. k.terminal.processes.book) p.set.links
 
--- the ticks gone by on a set, whose links have one clock
+-- the ticks of a link set, whose links share one clock
 abbrev pub clock_in : List Ledger → ℕ
 clock_in [] = 0
 clock_in (b ∷ bs) = (state_of b).timers.clock
 
--- where a link begins of which nothing is told
+-- the start of a link without traced events
 abbrev pub reached_at : Ledger → Reached
 reached_at b = record { place = 0; core = state_of b }
 
--- the book of a link's terminal that has just been opened over a set
+-- the book of a newly opened terminal that runs this process set
 abbrev pub IsNewBook : Draft → Ledger → Type 0
 IsNewBook d b = b ≡ opened_book d MOST_PORT MOST_ENVIRONMENT MOST_JOURNAL
 
--- as many links as a script's first line says, all of them new
+-- as many new links as the script's first line states
 pub record AreNewLinks (d : Draft) (head : GroupHead) (p : Playing) : Type 0 where
   pub number : length (books_of p) ≡ head.links
   pub new : All (IsNewBook d) (books_of p)
 
 -- ---- the trace
 
--- What is traced of commands in their order, from a set on: the set now, the line printed last, how
--- far each link is told, and the text. Each command's line is in front, behind it what messages
--- said, and then what happened on each link.
+-- The trace of commands in order, from a first link set on, with the link set now, the last printed
+-- line, how far each link is traced, and the text. Each command's line comes first, then the
+-- changeover messages, then the events on each link.
 pub data Traces (every : Bool) (lines : List PlainLine) (d : Draft) (first : Playing) :
     List PlainGroupSaid → Playing → Option (List ℕ) → List Reached → List ℕ → Type 0 where
   begins :
@@ -196,8 +196,8 @@ pub record IsGroupTraced (every : Bool) (lines : List PlainLine) (d : Draft)
   pub traces : Traces every lines d first commands now last reached text
   pub written : Appends old new text
 
--- so are those in front of one of these commands, an expectation that names another line than the
--- one that was printed last
+-- the commands before one of these are traced, and that one is an expectation that differs from the
+-- last printed line
 pub record IsGroupTracedInPart (every : Bool) (lines : List PlainLine) (d : Draft)
     (commands : List PlainGroupSaid) (old new : Option (List ℕ)) (first : Playing) : Type 0 where
   pub before : List PlainGroupSaid

@@ -1,4 +1,4 @@
--- What is traced of a run of each kind of script.
+-- The trace of a run of each kind of script.
 use Rattle.std.specs.Prelude.{◌≡◌, ℕ, Bool, true, false, List, Option, Some}
 use Rattle.actor_machine.specs.Ledger.{Ledger, state_of}
 use Rattle.script_lines.specs.Commands.{PlainCommand, offer, flood, call, tick, env, rest, value}
@@ -17,7 +17,7 @@ use Rattle.script_seen.specs.Kinds.{book_line, term_line}
 use Rattle.script_seen.specs.Traced.{IsAt, IsTracing, IsTraced, IsTracedInPart}
 use Rattle.script_seen.specs.declared.tracing.Tracer.{Tracer}
 
--- a tracer stands where a book does that has just been opened
+-- a tracer is at the start of a newly opened book
 abbrev pub IsAtStart : Ledger → Tracer → Type 0
 IsAtStart b t = IsAt b.set 0 (state_of b) t
 
@@ -29,7 +29,7 @@ is_state Finish = false
 is_state Skip = false
 is_state State = true
 
--- whether a command asks, and nothing happens by it
+-- whether a command is a question, which causes no event
 abbrev pub only_asks : PlainCommand → Bool
 only_asks (offer o) = false
 only_asks (flood n o) = false
@@ -43,13 +43,13 @@ only_asks (expect text) = true
 abbrev pub book_asks : PlainSaid → Bool
 book_asks s = only_asks s.command
 
--- commands that were obeyed from a book on made this of it
+-- the book after commands were obeyed
 pub record BookBehind (b : Ledger) (commands : List PlainSaid) (now : Ledger) : Type 0 where
   pub lines : List (List ℕ)
   pub last : Option (List ℕ)
   pub goes : BookGoes b commands lines now last
 
--- and an expectation behind them names another line than the one that was printed last
+-- the expectation after these commands differs from the last printed line
 pub record BookMisses (b : Ledger) (commands : List PlainSaid) (said : PlainSaid) : Type 0 where
   pub lines : List (List ℕ)
   pub now : Ledger
@@ -106,7 +106,7 @@ term_asks s = term_only_asks s.command
 abbrev pub book_in : Term → Ledger
 book_in t = t.processes.book
 
--- commands that were obeyed from a terminal on made this of its book
+-- the book of a terminal after commands were obeyed
 pub record TermBehind (keeps : Bool) (t : Term) (commands : List PlainTermSaid) (now : Ledger) :
     Type 0 where
   pub lines : List (List ℕ)
@@ -115,7 +115,7 @@ pub record TermBehind (keeps : Bool) (t : Term) (commands : List PlainTermSaid) 
   pub goes : TermGoes keeps t commands lines term last
   pub is : book_in term ≡ now
 
--- and an expectation behind them names another line than the one that was printed last
+-- the expectation after these commands differs from the last printed line
 pub record TermMisses (keeps : Bool) (t : Term) (commands : List PlainTermSaid)
     (said : PlainTermSaid) : Type 0 where
   pub lines : List (List ℕ)

@@ -1,4 +1,4 @@
--- How far the trace of a link set's script came: what its own functions say of one another.
+-- The progress of the trace of a link set's script, as the functions of this crate state it.
 use Rattle.std.specs.Prelude.{◌≡◌, ℕ, Bool, true, false, List, [], ◌∷◌, ◌++◌, Option, None, Some}
 use Rattle.std.specs.Prelude.{codes, unwrap_or}
 use Rattle.std.specs.Io.KnownBytes.{Appends}
@@ -35,14 +35,14 @@ is_expectation (group.message octets) = false
 is_expectation (group.admitting way) = false
 is_expectation (group.own word) = false
 
--- ---- messages of changeover, by the line that was printed last
+-- ---- messages of changeover, from the last printed line
 
--- octets that went this way: a line where they are a message of changeover, else none
+-- a line about octets received or sent; none if they are no changeover message
 abbrev pub IsMessageTold : ℕ → List ℕ → List ℕ → List ℕ → Type 0
 IsMessageTold clock way octets text =
     (m : Option Changeover) → IsRead octets m → text ≡ message_text clock way m
 
--- the octets that a line `ok HEX` says; none where it is another line
+-- the octets of a line `ok HEX`; none for any other line
 pub data AreSaid (line : List ℕ) : List ℕ → Type 0 where
   says_none : ((digits : List ℕ) → line ≡ codes "ok " ++ digits → ⊥) → AreSaid line []
   says_some : (digits : List ℕ) → line ≡ codes "ok " ++ digits
@@ -76,7 +76,7 @@ IsWordTold clock words.Held last text = text ≡ []
 IsWordTold clock words.Unsure last text = text ≡ []
 IsWordTold clock words.Link last text = text ≡ []
 
--- what is told of messages by a command behind which this line was printed last
+-- the trace of messages caused by a command, if this line was printed last
 abbrev pub IsToldBy : ℕ → PlainGroupCommand → Option (List ℕ) → List ℕ → Type 0
 IsToldBy clock (group.order o) last text = text ≡ []
 IsToldBy clock (group.unit octets) last text = text ≡ []
@@ -95,7 +95,7 @@ IsToldBy clock (group.own word) last text = IsWordTold clock word last text
 
 -- ---- tracers
 
--- a tracer came there
+-- a tracer has reached this state of a link
 abbrev pub IsAtLink : Draft → Reached → Tracer → Type 0
 IsAtLink d r t = IsAt d r.place r.core t
 
@@ -105,8 +105,8 @@ pub data AreAtLinks (every : Bool) (d : Draft) : List Reached → List Tracer �
       → t.every ≡ every → IsAtLink d r t → AreAtLinks every d rs ts
       → AreAtLinks every d (r ∷ rs) (t ∷ ts)
 
--- What is told of a command that was obeyed: its line, what messages said, and what happened on
--- each link, where they had come so far.
+-- The trace of a command that was obeyed: its line, the changeover messages, and the events on each
+-- link since `rs`.
 pub record IsToldBehind (every : Bool) (lines : List PlainLine) (d : Draft)
     (said : PlainGroupSaid) (q : Playing) (last : Option (List ℕ)) (rs : List Reached)
     (old new : Option (List ℕ)) (tracers : List Tracer) : Type 0 where
@@ -118,7 +118,7 @@ pub record IsToldBehind (every : Bool) (lines : List PlainLine) (d : Draft)
   pub are_at : AreAtLinks every d (all_reach d rs (books_of q)) tracers
   pub written : Appends old new (front ++ (told ++ links_text every d 0 rs (books_of q)))
 
--- so far these commands are traced, and what is written grew by that
+-- these commands are traced so far, and their trace was written
 pub record IsGroupTracing (every : Bool) (lines : List PlainLine) (d : Draft) (first : Playing)
     (commands : List PlainGroupSaid) (old new : Option (List ℕ)) (now : Playing)
     (last : Option (List ℕ)) (tracers : List Tracer) : Type 0 where

@@ -1,4 +1,4 @@
--- What a watcher of a link is told of a run: the turns that end, and what is thrown away.
+-- The notices to a watcher of a link during a run: turns that end, and items that are discarded.
 use Rattle.std.specs.Prelude.{◌≡◌, ◌≤◌, ◌+◌, ℕ, List, [], ◌∷◌, ◌++◌, length, Option, None, Some}
 use Rattle.std.specs.Prelude.{slice_get, true}
 use Rattle.turn_code.specs.Fits.{Fits}
@@ -25,7 +25,7 @@ use Rattle.script_seen.specs.Traced.{since, are_in_step, IsAt}
 use Rattle.script_seen.specs.declared.turns.Ended.{Ended}
 use Rattle.script_seen.specs.declared.tracing.Tracer.{Tracer}
 
--- a turn that ended: at which tick, whose it was, what it was, how it ran, and what came of it
+-- a turn that ended: its tick, its actor, its transition and input, its outcome and its report
 pub record TurnEnd : Type 0 where
   pub clock : ℕ
   pub me : ActorName
@@ -33,7 +33,7 @@ pub record TurnEnd : Type 0 where
   pub outcome : Outcome
   pub report : Report
 
--- what is handed to a watcher is this turn
+-- the value handed to a watcher is this turn
 pub record IsEnd (e : Ended) (t : TurnEnd) : Type 0 where
   pub clock : e.clock ≡ t.clock
   pub me : e.me ≡ t.me
@@ -41,12 +41,12 @@ pub record IsEnd (e : Ended) (t : TurnEnd) : Type 0 where
   pub outcome : outcome_of e.done ≡ Some t.outcome
   pub report : e.report ≡ t.report
 
--- the turn is one of the transitions of a process of a set, on an input that fits it
+-- the turn is a transition of a process of this set, on an input that fits it
 pub record IsTurnOf (d : Draft) (process : ℕ) (t : Turn) : Type 0 where
   pub fits : Fits d process t.place t.input_number t.input
   pub code : t.code ≡ fits.transition.piece.code
 
--- what an actor threw away in a state
+-- an item that an actor discarded in a state
 pub record Throw : Type 0 where
   pub me : ActorName
   pub state : StateNumber
@@ -56,7 +56,7 @@ pub data Notice : Type 0 where
   ends : TurnEnd → Notice
   throws : Throw → Notice
 
--- the turns, and what was thrown away, each in their order
+-- the turns, and the discarded items, each in their order
 abbrev pub turns_in : List Notice → List TurnEnd
 turns_in [] = []
 turns_in (ends t ∷ ns) = t ∷ turns_in ns
@@ -83,7 +83,7 @@ end_noticed w n None t o = []
 abbrev pub finish_noticed : Core → ℕ → Option ActorName → Option Turn → List Notice
 finish_noticed w n me t = end_noticed w n me t (outcome_by t)
 
--- an actor throws an item away in a state
+-- an actor discards an item in a state
 abbrev pub thrown_by : ActorName → StateNumber → Item → Notice
 thrown_by me q x = throws (record { me = me; state = q; item = x })
 
@@ -99,7 +99,7 @@ skip_noticed d (Some a) =
     throw_noticed a.name a.standing
     (item_at d a.name.process.0 a.standing a.port.items)
 
--- of an event that happens in a state of a link
+-- the notices about an event in a state of a link
 unfoldable pub noticed : Draft → Core → Event → List Notice
 noticed d w (event.Offer o) = []
 noticed d w (event.Begin n) = []
@@ -109,13 +109,13 @@ noticed d w (event.Finish n) =
 noticed d w (event.Advance k) = []
 noticed d w event.TakeEnv = []
 
--- of events that happen one after another
+-- the notices about events that happen one after another
 unfoldable pub noticed_in : Draft → Core → List Event → List Notice
 noticed_in d w [] = []
 noticed_in d w (e ∷ es) = noticed d w e ++ noticed_in d (stepped d w e).to es
 
--- What is noticed of commands in their order, from a state of the link of a set on. B says which
--- book there is behind commands; how many events had happened, and the state, stand behind these.
+-- The notices of commands in order, from a first state of a link. B relates commands to the book
+-- after them; the results are the number of events and the state.
 pub data Notices {S : Type 0} (d : Draft) (first : Core) (B : List S → Ledger → Type 0) :
     List S → ℕ → Core → List Notice → Type 0 where
   begins : Notices d first B [] 0 first []
@@ -126,7 +126,7 @@ pub data Notices {S : Type 0} (d : Draft) (first : Core) (B : List S → Ledger 
       → Notices d first B (commands ++ said ∷ []) (place + length (since place b))
       (replay d (runs d) w (since place b)) (ns ++ noticed_in d w (since place b))
 
--- all commands were obeyed, and a watcher was told what happened: P is what it is then
+-- all commands were obeyed, and the watcher got all notices: P holds of it then
 pub record IsWatched {S : Type 0} (d : Draft) (first : Core) (B : List S → Ledger → Type 0)
     (commands : List S) (P : List Notice → Type 0) : Type 0 where
   pub place : ℕ
@@ -135,8 +135,8 @@ pub record IsWatched {S : Type 0} (d : Draft) (first : Core) (B : List S → Led
   pub are : Notices d first B commands place now notices
   pub holds : P notices
 
--- so far these commands were obeyed, and P is what a watcher is that was told what happened; a
--- tracer stands where their book does
+-- these commands were obeyed so far, and P holds of the watcher that got their notices; the tracer
+-- is where their book is
 pub record IsWatching {S : Type 0} (d : Draft) (first : Core) (B : List S → Ledger → Type 0)
     (commands : List S) (P : List Notice → Type 0) (t : Tracer) : Type 0 where
   pub place : ℕ
@@ -146,8 +146,8 @@ pub record IsWatching {S : Type 0} (d : Draft) (first : Core) (B : List S → Le
   pub is_at : IsAt d place now t
   pub holds : P notices
 
--- so were those in front of one of these commands, an expectation that fails: M says so of it
--- behind those
+-- the commands before one of these were obeyed and watched, and that one is an expectation that
+-- fails after them, as M states
 pub record IsWatchedInPart {S : Type 0} (d : Draft) (first : Core)
     (B : List S → Ledger → Type 0) (M : List S → S → Type 0) (commands : List S)
     (P : List Notice → Type 0) : Type 0 where

@@ -1,4 +1,4 @@
--- What a watcher is told of a run of each kind of script.
+-- The notices to a watcher of a run of each kind of script.
 use Rattle.std.specs.Prelude.{◌≡◌, ◌+◌, ℕ, Bool, List, [], length}
 use Rattle.turn_code.specs.declared.draft.Draft.{Draft}
 use Rattle.actor_machine.specs.Ledger.{Ledger, runs, replay, next, state_of}
@@ -11,7 +11,7 @@ use Rattle.script_seen.specs.TracedKinds.{BookBehind, BookMisses, TermBehind, Te
 use Rattle.script_seen.specs.Watched.{Notice, IsWatching, IsWatched, IsWatchedInPart}
 use Rattle.script_seen.specs.declared.tracing.Tracer.{Tracer}
 
--- these events happened to a tracer, of which nothing is written
+-- these events were replayed in a tracer, and nothing was written
 pub record IsMoved (old : Tracer) (es : List Event) (new : Tracer) : Type 0 where
   pub set : new.again.set ≡ old.again.set
   pub every : new.every ≡ old.every
@@ -21,7 +21,7 @@ pub record IsMoved (old : Tracer) (es : List Event) (new : Tracer) : Type 0 wher
       ≡ replay old.again.set (runs old.again.set) (state_of old.again) es
   pub agree : Agree old → Agree new
 
--- P is what a watcher is, behind what it was told of a run
+-- P holds of a watcher after the notices of a run so far
 abbrev pub BookWatching :
     Ledger → List PlainSaid → (List Notice → Type 0) → Tracer → Type 0
 BookWatching b commands P t = IsWatching b.set (state_of b) (BookBehind b) commands P t

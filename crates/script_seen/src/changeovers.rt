@@ -1,4 +1,4 @@
-//! Messages of changeover, in words.
+//! Changeover messages in words.
 ghost use Rattle.std.specs.Prelude.{◌≡◌, ◌++◌, List, ℕ, codes, IsNone, OnOk, IfOk, IfSome, option_map, unwrap_or, []};
 ghost use Rattle.std.specs.Fmt.{decimal};
 ghost use Rattle.script_links.specs.GroupCommands.{plain_group_command};
@@ -14,7 +14,7 @@ use script_links::{GroupCommand, GroupWord, octets_in};
 use std::alloc::{AllocError, Global};
 use std::{io, str};
 
-/// A heading, and the link of which a message speaks.
+/// Appends a heading, and the link that a message concerns.
 fn push_heading(
     alloc: Global,
     line: &mut Vec<u8>,
@@ -27,7 +27,7 @@ fn push_heading(
     push_number(alloc, line, u64::from(link))
 }
 
-/// A heading, the link of which a message speaks, and the number of the message that was accepted last there.
+/// Appends a heading, the link that a message concerns, and the number of the last message accepted on it.
 fn push_numbered(
     alloc: Global,
     line: &mut Vec<u8>,
@@ -42,7 +42,7 @@ fn push_numbered(
     push_number(alloc, line, u64::from(number))
 }
 
-/// What a message says of a link: its heading, the link, and the number of the message that was accepted last there.
+/// Appends a message's heading, its link, and for COO and COA the number of the last message accepted on the link.
 fn push_kind(alloc: Global, line: &mut Vec<u8>, kind: Kind, link: u8) -> Result<(), AllocError>
     ensures { OnOk result (line.new.items ≡ line.old.items ++ kind_text kind link) }
 {
@@ -54,7 +54,7 @@ fn push_kind(alloc: Global, line: &mut Vec<u8>, kind: Kind, link: u8) -> Result<
     }
 }
 
-/// The line of a message of changeover that went this way at a tick.
+/// The line of a changeover message that was received or sent at a tick.
 fn message_line(
     alloc: Global,
     clock: u64,
@@ -72,8 +72,8 @@ fn message_line(
     Ok(line)
 }
 
-/// The line of a message of changeover that came in or went out at a tick: its heading, the link of which it speaks, and the number of the message
-/// that was accepted last there. None where the octets are no such message.
+/// The line of a changeover message received or sent at a tick: its heading, its link, and the number of the last
+/// message accepted on that link. It is empty if the octets are no changeover message.
 fn message_text(alloc: Global, clock: u64, way: &str, octets: &[u8]) -> Result<Vec<u8>, AllocError>
     ensures { IfOk result (λ v. IsMessageTold clock way.now octets.now v.items) }
 {
@@ -83,7 +83,7 @@ fn message_text(alloc: Global, clock: u64, way: &str, octets: &[u8]) -> Result<V
     }
 }
 
-/// What stands behind `ok ` in a line, where it begins so.
+/// The rest of a line after `ok `, if it begins with that.
 fn digits_in(line: &[u8]) -> Option<&[u8]>
     ensures some { IfSome result (λ digits. line.now ≡ codes "ok " ++ digits.now) }
     ensures none { IsNone result → (digits : List ℕ) → line.now ≡ codes "ok " ++ digits → ⊥ }
@@ -91,7 +91,7 @@ fn digits_in(line: &[u8]) -> Option<&[u8]>
     line.strip_prefix(b"ok ")
 }
 
-/// The octets that the hexadecimal digits of a text are, none where it has no such digits.
+/// The octets written in hexadecimal digits; none if the text has no such digits.
 fn octets_of_text(alloc: Global, text: &str) -> Result<Vec<u8>, AllocError>
     ensures { IfOk result (λ v. v.items ≡ unwrap_or (octets_of text.now) []) }
 {
@@ -102,7 +102,7 @@ fn octets_of_text(alloc: Global, text: &str) -> Result<Vec<u8>, AllocError>
     }
 }
 
-/// The same of digits that aren't known to be text.
+/// The octets written in hexadecimal digits, which may not be valid text.
 fn octets_of(alloc: Global, digits: &[u8]) -> io::Result<Vec<u8>>
     ensures { IfOk result (λ v. v.items ≡ unwrap_or (octets_of digits.now) []) }
 {
@@ -112,7 +112,7 @@ fn octets_of(alloc: Global, digits: &[u8]) -> io::Result<Vec<u8>>
     }
 }
 
-/// The octets of a line `ok HEX`; none where the line is another.
+/// The octets of a line `ok HEX`; none for any other line.
 fn said_octets(alloc: Global, line: &[u8]) -> io::Result<Vec<u8>>
     ensures { IfOk result (λ v. AreSaid line.now v.items) }
 {
@@ -122,7 +122,7 @@ fn said_octets(alloc: Global, line: &[u8]) -> io::Result<Vec<u8>>
     }
 }
 
-/// What the octets of a printed line say.
+/// The line about the message sent, from a printed line.
 fn said_text(alloc: Global, clock: u64, line: &[u8]) -> io::Result<Vec<u8>>
     ensures { IfOk result (λ v. IsSaidTold clock line.now v.items) }
 {
@@ -131,7 +131,7 @@ fn said_text(alloc: Global, clock: u64, line: &[u8]) -> io::Result<Vec<u8>>
     Ok(text)
 }
 
-/// What the line that was printed last says, where there is one.
+/// The line about the message sent, from the last printed line, if there is one.
 fn last_text(alloc: Global, clock: u64, last: &Option<Vec<u8>>) -> io::Result<Vec<u8>>
     ensures { IfOk result (λ v. IsLastTold clock (option_map (λ l. l.items) last.now) v.items) }
 {
@@ -141,7 +141,7 @@ fn last_text(alloc: Global, clock: u64, last: &Option<Vec<u8>>) -> io::Result<Ve
     }
 }
 
-/// What was heard by a message, and what the line that was printed last says.
+/// The line about the message received, and that about the message sent, from the last printed line.
 fn both_text(
     alloc: Global,
     clock: u64,
@@ -156,7 +156,7 @@ fn both_text(
     Ok(text)
 }
 
-/// What was said by messages of changeover at a command of one word.
+/// The lines about the messages caused by a command of one word.
 fn word_text(
     alloc: Global,
     clock: u64,
@@ -178,8 +178,8 @@ fn word_text(
     }
 }
 
-/// What was said by messages of changeover at a command behind which this line was printed last: by one that came in, and by the order or the
-/// answer that goes out.
+/// The lines about the changeover messages that a command caused, if `last` was printed last: the message received, and
+/// the order or the answer sent.
 pub(crate) fn changeover_text(
     alloc: Global,
     clock: u64,

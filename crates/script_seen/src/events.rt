@@ -1,4 +1,4 @@
-//! What is told of events that are no turns.
+//! The trace of events other than turns.
 ghost use Rattle.std.specs.Prelude.{◌≡◌, ◌++◌, ◌∷◌, [], Some, map, slice_get, if◌then◌else◌, OnOk, IfOk};
 ghost use Rattle.std.specs.List.{flat_map, list_any};
 ghost use Rattle.std.specs.Option.{option_copied};
@@ -22,7 +22,7 @@ use tick_wheel::Due;
 use turn_check::Verified;
 use turn_code::{Place, ProcessNumber, StateNumber, TimerNumber, Trigger};
 
-/// An actor, if there is one.
+/// Appends the name of an actor, if there is one.
 fn push_named(
     alloc: Global,
     line: &mut Vec<u8>,
@@ -37,7 +37,7 @@ fn push_named(
     }
 }
 
-/// What is told of a signal of the environment.
+/// The trace of a signal from the environment.
 pub(crate) fn offer_text(alloc: Global, book: &Book, offer: &Offer) -> Result<Vec<u8>, AllocError>
     ensures { IfOk result (λ v. v.items ≡ line_of (offer_line book.now.set (state_of book.now) offer.now)) }
 {
@@ -52,7 +52,7 @@ pub(crate) fn offer_text(alloc: Global, book: &Book, offer: &Offer) -> Result<Ve
     Ok(line)
 }
 
-/// A timer of an actor, if there is one.
+/// Appends the name of an actor's timer, if there is such an actor.
 fn push_timer_of(
     line: &mut Vec<u8>,
     set: &Verified,
@@ -67,7 +67,7 @@ fn push_timer_of(
     }
 }
 
-/// What is told of a timer that runs out as the clock of a book comes there.
+/// Appends the trace of a timer that expires when the book's clock reaches this time.
 fn push_due(
     alloc: Global,
     text: &mut Vec<u8>,
@@ -87,7 +87,7 @@ fn push_due(
     Ok(text.push(b'\n')?)
 }
 
-/// What is told of timers that run out as the clock of a book comes there.
+/// The trace of the timers that expire when the book's clock reaches this time.
 pub(crate) fn due_text(
     alloc: Global,
     book: &Book,
@@ -103,7 +103,7 @@ pub(crate) fn due_text(
     Ok(text)
 }
 
-/// What an input or a SAVE would name an item by.
+/// The trigger by which an input or a SAVE names an item.
 pub fn trigger_of(item: &Item) -> Trigger
     ensures { result ≡ trigger_of item.now }
 {
@@ -113,7 +113,7 @@ pub fn trigger_of(item: &Item) -> Trigger
     }
 }
 
-/// Whether they are the same signal or the same timer.
+/// Whether two triggers are the same signal or the same timer.
 pub fn same_trigger(left: Trigger, right: Trigger) -> bool
     ensures { result ≡ same_trigger left right }
 {
@@ -161,7 +161,7 @@ pub(crate) fn first_item<'a>(
     None
 }
 
-/// The values of an item and who sent it.
+/// Appends the values of an item, and its sender.
 fn push_item(
     alloc: Global,
     line: &mut Vec<u8>,
@@ -179,7 +179,7 @@ fn push_item(
     }
 }
 
-/// What is told of an item that an actor throws away in a state.
+/// The trace of an item that an actor discards in a state.
 fn skipped_text(
     alloc: Global,
     set: &Verified,
@@ -203,7 +203,7 @@ fn skipped_text(
     Ok(line)
 }
 
-/// What is told of the item that an actor throws away, if there is one.
+/// The trace of the item that an actor discards, if there is one.
 fn skip_of(alloc: Global, set: &Verified, clock: u64, actor: &Actor) -> Result<Vec<u8>, AllocError>
     ensures { IfOk result (λ v. v.items ≡ flat_map line_of (skip_lines set.now clock (Some actor.now))) }
 {
@@ -219,7 +219,7 @@ fn skip_of(alloc: Global, set: &Verified, clock: u64, actor: &Actor) -> Result<V
     }
 }
 
-/// What is told of an item that an actor of a book throws away: nothing, where it isn't asked for.
+/// The trace of an item that an actor of a book discards: empty unless `every` is true.
 pub(crate) fn skip_text(
     alloc: Global,
     book: &Book,

@@ -1,4 +1,4 @@
-//! The lines of a script as they are shown.
+//! The echo of a script's lines.
 ghost use Rattle.std.specs.Prelude.{◌≡◌, ◌++◌, ◌∷◌, [], ℕ, List, length, map, drop, codes, OnOk, IfOk};
 ghost use Rattle.std.specs.List.{flat_map};
 ghost use Rattle.std.specs.Io.KnownBytes.{Appends};
@@ -10,7 +10,7 @@ use script_lines::Line;
 use std::alloc::{AllocError, Global};
 use std::io::{self, ErrorKind, Write};
 
-/// Puts words at the end, parted by one space.
+/// Appends words, separated by one space.
 fn push_parted(text: &mut Vec<u8>, words: &[&str]) -> Result<(), AllocError>
     ensures { OnOk result (text.new.items ≡ text.old.items ++ parted (texts words.now)) }
 {
@@ -21,7 +21,7 @@ fn push_parted(text: &mut Vec<u8>, words: &[&str]) -> Result<(), AllocError>
     push_spaced(text, more)
 }
 
-/// Puts words at the end, a space before each.
+/// Appends words, with a space before each.
 fn push_spaced(text: &mut Vec<u8>, words: &[&str]) -> Result<(), AllocError>
     ensures { OnOk result (text.new.items ≡ text.old.items ++ flat_map (λ w. 32 ∷ w) (texts words.now)) }
 {
@@ -32,7 +32,7 @@ fn push_spaced(text: &mut Vec<u8>, words: &[&str]) -> Result<(), AllocError>
     Ok(())
 }
 
-/// `> ` and words, parted by one space, with the end of the line.
+/// Returns `> ` and words separated by one space, with the end of the line.
 pub fn front_of(alloc: Global, words: &[&str]) -> Result<Vec<u8>, AllocError>
     ensures { IfOk result (λ v. v.items ≡ line_of (codes "> " ++ parted (texts words.now))) }
 {
@@ -42,16 +42,16 @@ pub fn front_of(alloc: Global, words: &[&str]) -> Result<Vec<u8>, AllocError>
     Ok(front)
 }
 
-/// The place of the first of so many commands among the lines of their script, of which they are the last.
+/// The index of the first command's line; the commands are the last `commands` lines of the script.
 pub(crate) fn first_of(lines: &[Line<'_>], commands: usize) -> usize {
     lines.len().saturating_sub(commands)
 }
 
-/// Writes the line of this number, which stands at a place of the lines of a script, as it is shown.
+/// Echoes the line with this number, which is at index `place` of the script's lines.
 ///
 /// # Errors
 ///
-/// Where no such line stands there, there is no memory, or the write fails.
+/// There is no such line at this index, memory runs out, or the write fails.
 pub(crate) fn show_line<W: Write>(
     alloc: Global,
     lines: &[Line<'_>],
@@ -72,7 +72,7 @@ pub(crate) fn show_line<W: Write>(
     Ok(())
 }
 
-/// Writes what stands behind the first octets, of which there are so many.
+/// Writes the octets that follow the first `before` ones.
 #[tactic(auto, using(std::proofs::lemmas::List::drop_min))]
 pub(crate) fn write_behind<W: Write>(
     before: usize,
@@ -86,14 +86,14 @@ pub(crate) fn write_behind<W: Write>(
     Ok(())
 }
 
-/// How many octets there are.
+/// The number of octets.
 pub(crate) fn length_of(octets: &[u8]) -> usize
     ensures { result ≡ length octets.now }
 {
     octets.len()
 }
 
-/// Nothing that was printed.
+/// Empty output.
 pub(crate) fn no_octets(alloc: Global) -> Vec<u8>
     ensures { result.items ≡ [] }
 {

@@ -1,4 +1,4 @@
-//! What of a script's run is seen beside its replies: its lines, each in front of what it prints, and what happens by them.
+//! Views of a script's run beside its output: an echo of its lines, and a trace of its events.
 #![tactic(auto)]
 
 mod books;

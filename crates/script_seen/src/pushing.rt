@@ -1,4 +1,4 @@
-//! What the lines of a trace are made of.
+//! Functions that append the pieces of trace lines.
 ghost use Rattle.std.specs.Prelude.{◌≡◌, ◌++◌, ◌∷◌, [], IfOk, OnOk, unwrap_or, option_copied};
 ghost use Rattle.std.specs.Fmt.{decimal};
 ghost use Rattle.script_lines.specs.Replies.{sender_text, instance_text, process_text, signal_text, state_text, trigger_text, input_text, place_text, end_text, value_text};
@@ -14,7 +14,7 @@ use turn_code::{
     TimerNumber, Trigger, Value, VariableNumber,
 };
 
-/// The bytes of a name, none where there is no name.
+/// The bytes of a name; empty if there is no name.
 fn bytes_of<'a>(name: Option<&'a Name>) -> &'a [u8]
     ensures { result.now ≡ unwrap_or (option_copied name.entry) [] }
 {
@@ -24,7 +24,7 @@ fn bytes_of<'a>(name: Option<&'a Name>) -> &'a [u8]
     }
 }
 
-/// A number in decimal.
+/// Appends a number in decimal.
 pub fn push_number(alloc: Global, line: &mut Vec<u8>, number: u64) -> Result<(), AllocError>
     ensures { OnOk result (line.new.items ≡ line.old.items ++ decimal number) }
 {
@@ -32,7 +32,7 @@ pub fn push_number(alloc: Global, line: &mut Vec<u8>, number: u64) -> Result<(),
     Ok(line.extend_from_slice(text.as_bytes())?)
 }
 
-/// The name of a signal.
+/// Appends the name of a signal.
 pub fn push_signal(
     line: &mut Vec<u8>,
     set: &Verified,
@@ -43,7 +43,7 @@ pub fn push_signal(
     Ok(line.extend_from_slice(bytes_of(set.signal_name(signal)))?)
 }
 
-/// The name of a timer.
+/// Appends the name of a timer.
 pub fn push_timer(
     line: &mut Vec<u8>,
     set: &Verified,
@@ -55,7 +55,7 @@ pub fn push_timer(
     Ok(line.extend_from_slice(bytes_of(set.timer_name(process, timer)))?)
 }
 
-/// The name of a signal, or of a timer of a process.
+/// Appends the name of a signal, or of a timer of a process.
 pub fn push_trigger(
     line: &mut Vec<u8>,
     set: &Verified,
@@ -70,7 +70,7 @@ pub fn push_trigger(
     }
 }
 
-/// The name of a variable.
+/// Appends the name of a variable.
 pub(crate) fn push_variable(
     line: &mut Vec<u8>,
     set: &Verified,
@@ -82,7 +82,7 @@ pub(crate) fn push_variable(
     Ok(line.extend_from_slice(bytes_of(set.variable_name(process, variable)))?)
 }
 
-/// A value with a space before it.
+/// Appends a value with a space before it.
 fn push_value(alloc: Global, line: &mut Vec<u8>, value: Value) -> Result<(), AllocError>
     ensures { OnOk result (line.new.items ≡ line.old.items ++ 32 ∷ value_text value) }
 {
@@ -91,7 +91,7 @@ fn push_value(alloc: Global, line: &mut Vec<u8>, value: Value) -> Result<(), All
     Ok(line.extend_from_slice(&text)?)
 }
 
-/// Values, a space before each.
+/// Appends values, with a space before each.
 pub(crate) fn push_values(
     alloc: Global,
     line: &mut Vec<u8>,
@@ -105,7 +105,7 @@ pub(crate) fn push_values(
     Ok(())
 }
 
-/// The value of a variable, or `unset`.
+/// Returns the value of a variable, or `unset`.
 pub fn shown(alloc: Global, value: Option<Value>) -> Result<Vec<u8>, AllocError>
     ensures { IfOk result (λ v. v.items ≡ shown_text value) }
 {
@@ -115,7 +115,7 @@ pub fn shown(alloc: Global, value: Option<Value>) -> Result<Vec<u8>, AllocError>
     }
 }
 
-/// The name of a process.
+/// Appends the name of a process.
 pub fn push_process(
     line: &mut Vec<u8>,
     set: &Verified,
@@ -126,7 +126,7 @@ pub fn push_process(
     Ok(line.extend_from_slice(bytes_of(set.process_name(process)))?)
 }
 
-/// An actor: its process, and its number where there is more than one instance.
+/// Appends the name of an actor: its process, and its number if there is more than one instance.
 pub fn push_actor(
     alloc: Global,
     line: &mut Vec<u8>,
@@ -143,7 +143,7 @@ pub fn push_actor(
     Ok(())
 }
 
-/// Who sent a signal, behind ` from `; nothing where nobody did.
+/// Appends the sender of a signal after ` from `; nothing if there is no sender.
 pub(crate) fn push_from(
     alloc: Global,
     line: &mut Vec<u8>,
@@ -159,7 +159,7 @@ pub(crate) fn push_from(
     push_party(alloc, line, set, party, instance)
 }
 
-/// ENV, a process, or an instance of it.
+/// Appends ENV, a process, or an instance of it.
 pub fn push_party(
     alloc: Global,
     line: &mut Vec<u8>,
@@ -178,7 +178,7 @@ pub fn push_party(
     }
 }
 
-/// The instance of a process that gets a signal of an actor that names none.
+/// Returns the instance of a process that receives a signal of an actor that names no instance.
 pub fn meant(set: &Verified, me: ActorName, process: ProcessNumber) -> ActorName
     ensures { result ≡ meant set.now me process }
 {
@@ -195,7 +195,7 @@ pub fn meant(set: &Verified, me: ActorName, process: ProcessNumber) -> ActorName
     }
 }
 
-/// Who gets a signal of an actor.
+/// Appends the receiver of an actor's signal.
 pub(crate) fn push_receiver(
     alloc: Global,
     line: &mut Vec<u8>,
@@ -214,7 +214,7 @@ pub(crate) fn push_receiver(
     }
 }
 
-/// `START`, or a state with what was taken there.
+/// Appends `START`, or a state with the signal or timer consumed there.
 pub(crate) fn push_place(
     line: &mut Vec<u8>,
     set: &Verified,
@@ -237,7 +237,7 @@ pub(crate) fn push_place(
     }
 }
 
-/// The name of a state.
+/// Appends the name of a state.
 pub fn push_state(
     line: &mut Vec<u8>,
     set: &Verified,
@@ -249,7 +249,7 @@ pub fn push_state(
     Ok(line.extend_from_slice(bytes_of(set.state_name(process, state)))?)
 }
 
-/// The state that a turn ended in, or `STOP`.
+/// Appends the state in which a turn ended, or `STOP`.
 pub fn push_end(
     line: &mut Vec<u8>,
     set: &Verified,

@@ -1,4 +1,4 @@
-//! Terminals' scripts as they run, with their lines shown.
+//! Runs terminals' scripts and echoes their lines.
 ghost use Rattle.std.specs.Prelude.{◌≡◌, ◌⊎◌, ◌++◌, ◌∷◌, [], List, ℕ, Option, None, Some, map, IfOk, true, false};
 ghost use Rattle.script_lines.specs.Lines.{plain_line, lines_of};
 ghost use Rattle.script_links.specs.TermScripts.{PlainTermSaid, plain_term_said};
@@ -14,7 +14,7 @@ use std::alloc::Global;
 use std::io::{self, Write};
 use turn_check::Verified;
 
-/// Does what a command says, and shows its line, which stands at a place of the script's, in front of what it prints. Whether the run goes on.
+/// Echoes the line of a command, at index `place` of `lines`, and obeys it. Returns whether the run goes on.
 fn show_next<W: Write>(
     alloc: Global,
     player: &mut TermPlayer,
@@ -39,7 +39,7 @@ fn show_next<W: Write>(
     Ok(on)
 }
 
-/// Does what the commands say, in order, up to an expectation that fails, and shows their lines. Gives the exit status, 0 or 1 where one failed.
+/// Obeys and echoes commands up to an expectation that fails. Returns the exit status: 0, or 1 if one failed.
 fn show_each<W: Write>(
     alloc: Global,
     player: &mut TermPlayer,
@@ -74,7 +74,7 @@ fn show_each<W: Write>(
     Ok(HELD)
 }
 
-/// The same. Gives the exit status, 4 where memory or a write fails.
+/// Obeys and echoes the commands. Returns the exit status: 4 if memory runs out or a write fails.
 fn show_lines<W: Write>(
     alloc: Global,
     player: &mut TermPlayer,
@@ -95,7 +95,7 @@ fn show_lines<W: Write>(
     }
 }
 
-/// The same with the lines of a text.
+/// Obeys the commands and echoes the lines of a text. Returns the exit status.
 fn show_all<W: Write>(
     alloc: Global,
     player: &mut TermPlayer,
@@ -115,7 +115,7 @@ fn show_all<W: Write>(
     }
 }
 
-/// The same, on a new terminal.
+/// Obeys and echoes the commands of a script on a new terminal. Returns the exit status.
 fn show_on<W: Write>(
     alloc: Global,
     terminal: Terminal,
@@ -133,11 +133,10 @@ fn show_on<W: Write>(
     show_all(alloc, &mut player, &script.commands, text, writer)
 }
 
-/// Runs a terminal's script on a terminal over a set, as `play_terminal` does, and writes each command's line of the script's text in front of what
-/// it prints.
-///
-/// Gives the exit status: 0 where each command ran and all was written, 1 after `failed line N` where an expectation failed, 2 after
-/// `refused X2 NoName NAME` alone where the set lacks a name that a terminal speaks to or hears, 4 where memory or a write fails.
+/// Runs a terminal's script on a terminal that runs a process set, as `play_terminal` does, and writes each command's
+/// line of the script's text before its output.  Returns the exit status. 0: each command ran and all was written. 1:
+/// an expectation failed, and `failed line N` was written. 2: the process set lacks a name that a terminal needs; only
+/// `refused X2 NoName NAME` was written. 4: out of memory, or a write failed.
 pub fn show_terminal<W: Write>(
     alloc: Global,
     set: &Verified,

@@ -1,4 +1,4 @@
-//! What turns make of timers.
+//! The effects of turns on timers.
 ghost use Rattle.std.specs.Prelude.{◌≡◌, IfOk, OnOk};
 ghost use Rattle.tick_wheel.specs.Turning.{timers_of};
 ghost use Rattle.actor_machine.specs.Effects.{delay, without, without_timers, timers_after, timer_of};
@@ -8,13 +8,13 @@ use std::io::{self, ErrorKind};
 use tick_wheel::{Timer, Wheel};
 use turn_code::{Effect, End, TimerNumber};
 
-/// How many actors a link has at most.
+/// The largest number of actors of a link.
 const ACTORS: u16 = 128;
 
-/// How many timers a process has at most.
+/// The largest number of timers of a process.
 const TIMERS: u8 = 8;
 
-/// The timer of an actor; an error where there is no such timer.
+/// The timer of an actor; an error if there is no such timer.
 fn timer_of(actor: u16, number: u8) -> io::Result<Timer>
     ensures { IfOk result (λ t. t ≡ timer_of actor number) }
 {
@@ -25,14 +25,14 @@ fn timer_of(actor: u16, number: u8) -> io::Result<Timer>
     }
 }
 
-/// How long a SET of this length waits.
+/// Returns the number of ticks that a SET with this value waits.
 pub fn delay_of(ticks: i32) -> u64
     ensures { result ≡ delay ticks }
 {
     if ticks < 1 { 1 } else { ticks as u64 }
 }
 
-/// A timer is set.
+/// Sets a timer.
 fn set_timer(wheel: &mut Wheel, actor: u16, timer: TimerNumber, ticks: i32) -> io::Result<()>
     ensures { OnOk result (timers_of wheel.new ≡ timers_by actor (timers_of wheel.old) (Effect.Set timer ticks)) }
 {
@@ -42,7 +42,7 @@ fn set_timer(wheel: &mut Wheel, actor: u16, timer: TimerNumber, ticks: i32) -> i
     Ok(())
 }
 
-/// A timer is no longer active.
+/// Resets a timer.
 fn reset_timer(wheel: &mut Wheel, actor: u16, number: u8) -> io::Result<()>
     ensures { OnOk result (timers_of wheel.new ≡ without (timers_of wheel.old) actor number) }
 {
@@ -51,7 +51,7 @@ fn reset_timer(wheel: &mut Wheel, actor: u16, number: u8) -> io::Result<()>
     Ok(())
 }
 
-/// What an effect of an actor's turn makes of timers.
+/// Applies an effect of an actor's turn to timers.
 fn lay(wheel: &mut Wheel, actor: u16, effect: &Effect) -> io::Result<()>
     ensures { OnOk result (timers_of wheel.new ≡ timers_by actor (timers_of wheel.old) effect.now) }
 {
@@ -62,7 +62,7 @@ fn lay(wheel: &mut Wheel, actor: u16, effect: &Effect) -> io::Result<()>
     }
 }
 
-/// What the effects of an actor's turn make of timers.
+/// Applies the effects of an actor's turn to timers.
 fn lay_all(wheel: &mut Wheel, actor: u16, effects: &[Effect]) -> io::Result<()>
     ensures { OnOk result (timers_of wheel.new ≡ timers_laid actor (timers_of wheel.old) effects.now) }
 {
@@ -72,7 +72,7 @@ fn lay_all(wheel: &mut Wheel, actor: u16, effects: &[Effect]) -> io::Result<()>
     Ok(())
 }
 
-/// No timer of an actor is active.
+/// Resets all timers of an actor.
 #[tactic(auto, unfolding(actor_machine::specs::Effects::without_timers))]
 fn stop_timers(wheel: &mut Wheel, actor: u16) -> io::Result<()>
     ensures { OnOk result (timers_of wheel.new ≡ without_timers (timers_of wheel.old) actor) }
@@ -83,7 +83,7 @@ fn stop_timers(wheel: &mut Wheel, actor: u16) -> io::Result<()>
     Ok(())
 }
 
-/// What a turn of an actor makes of timers, by its effects and by how it ends.
+/// Updates timers for a turn of an actor, by its effects and by how it ends.
 pub(crate) fn keep_time(
     wheel: &mut Wheel,
     actor: u16,

@@ -1,4 +1,4 @@
-//! Book scripts as they run, with a trace.
+//! Runs book scripts with a trace.
 ghost use Rattle.std.specs.Prelude.{◌≡◌, ◌⊎◌, ◌++◌, ◌∷◌, [], List, ℕ, Option, None, map, OnOk, IfOk, true, false};
 ghost use Rattle.script_lines.specs.Lines.{plain_line, lines_of};
 ghost use Rattle.script_lines.specs.Commands.{plain_command};
@@ -18,7 +18,7 @@ use std::alloc::{AllocError, Global};
 use std::io::{self, Write};
 use turn_check::Verified;
 
-/// Whether a call only asks.
+/// Whether a call is a question.
 fn is_state(call: Call) -> bool
     ensures { result ≡ is_state call }
 {
@@ -28,7 +28,7 @@ fn is_state(call: Call) -> bool
     }
 }
 
-/// Whether a command asks, and nothing happens by it.
+/// Whether a command is a question, which causes no event.
 fn only_asks(command: &Command<'_>) -> bool
     ensures { result ≡ only_asks (plain_command command.now) }
 {
@@ -43,7 +43,7 @@ fn only_asks(command: &Command<'_>) -> bool
     }
 }
 
-/// Writes the line of a command, which stands at a place of the lines of a script, but of one that only asks.
+/// Writes the line of a command, at index `place` of the script's lines; nothing for a question.
 fn show_front<T: Write>(
     alloc: Global,
     said: &Said<'_>,
@@ -60,7 +60,7 @@ fn show_front<T: Write>(
     show_line(alloc, lines, place, said.line, trace)
 }
 
-/// Does what a command says, and traces what happens. Whether the run goes on.
+/// Obeys a command, and traces its events. Returns whether the run goes on.
 fn trace_next<W: Write, T: Write>(
     alloc: Global,
     player: &mut Player,
@@ -90,7 +90,7 @@ fn trace_next<W: Write, T: Write>(
     Ok(true)
 }
 
-/// Does what the commands say, in order, up to an expectation that fails, and traces what happens. Gives the exit status, 0 or 1 where one failed.
+/// Obeys and traces commands up to an expectation that fails. Returns the exit status: 0, or 1 if one failed.
 fn trace_each<W: Write, T: Write, E: Write>(
     alloc: Global,
     player: &mut Player,
@@ -122,7 +122,7 @@ fn trace_each<W: Write, T: Write, E: Write>(
     Ok(HELD)
 }
 
-/// How much a link may hold, as a script sets it.
+/// The sizes of a link's stores, as a script sets them.
 fn limits_of(settings: Settings) -> Limits
     requires { AreInRange settings }
     ensures { result ≡ record { port = settings.ports; env = settings.env; journal = settings.journal } }
@@ -138,7 +138,7 @@ fn limits_of(settings: Settings) -> Limits
     }
 }
 
-/// The tracer of a script that sets these numbers.
+/// The tracer for a script with these settings.
 pub(crate) fn open_tracer(
     alloc: Global,
     set: &Verified,
@@ -153,7 +153,7 @@ pub(crate) fn open_tracer(
     Ok(tracer)
 }
 
-/// The same, from a link's beginning. Gives the exit status, 0 or 1 where an expectation failed.
+/// Obeys and traces a script on a new link. Returns the exit status: 0, or 1 if an expectation failed.
 fn trace_link<W: Write, T: Write, E: Write>(
     alloc: Global,
     set: &Verified,
@@ -191,11 +191,10 @@ fn trace_link<W: Write, T: Write, E: Write>(
     Ok(status)
 }
 
-/// Runs a book script on the processes of a set, as `play_book` does, and traces it: each command's line of the script's text, but of `state`,
-/// `value` and `expect`, and behind it a line for each event that happened by it.
-///
-/// Gives the exit status: 0 where each command ran and all was written, 1 after `failed line N` where an expectation failed, 4 where memory or a
-/// write fails.
+/// Runs a book script on a process set, as `play_book` does, and traces it: each command's line of the script's text,
+/// except for `state`, `value` and `expect`, followed by a line for each event that it caused.  Returns the exit
+/// status. 0: each command ran and all was written. 1: an expectation failed, and `failed line N` was written. 4: out
+/// of memory, or a write failed.
 pub fn trace_book<W: Write, T: Write, E: Write>(
     alloc: Global,
     set: &Verified,

@@ -1,4 +1,4 @@
-//! Link sets' scripts as they run, with a trace.
+//! Runs link sets' scripts with a trace.
 ghost use Rattle.std.specs.Prelude.{◌≡◌, ◌⊎◌, ◌++◌, ◌∷◌, [], List, ℕ, Option, None, Some, map, slice_get, length, codes, OnOk, IfOk, true, false, Bool, All};
 ghost use Rattle.std.specs.Fmt.{decimal};
 ghost use Rattle.std.specs.Io.KnownBytes.{Appends};
@@ -26,7 +26,7 @@ use std::alloc::{AllocError, Global};
 use std::io::{self, Write};
 use turn_check::Verified;
 
-/// Whether a command of one word asks, and nothing happens by it.
+/// Whether a command of one word is a question, which causes no event.
 fn word_only_asks(word: GroupWord) -> bool
     ensures { result ≡ word_only_asks word }
 {
@@ -40,7 +40,7 @@ fn word_only_asks(word: GroupWord) -> bool
     }
 }
 
-/// Whether a command asks, and nothing happens by it.
+/// Whether a command is a question, which causes no event.
 fn only_asks(command: &GroupCommand<'_>) -> bool
     ensures { result ≡ group_only_asks (plain_group_command command.now) }
 {
@@ -84,7 +84,7 @@ fn is_expectation(command: &GroupCommand<'_>) -> bool
     }
 }
 
-/// Writes the line of a command, which stands at a place of the lines of a script, but of one that only asks.
+/// Writes the line of a command, at index `place` of the script's lines; nothing for a question.
 fn show_front<T: Write>(
     alloc: Global,
     said: &GroupSaid<'_>,
@@ -101,7 +101,7 @@ fn show_front<T: Write>(
     show_line(alloc, lines, place, said.line, trace)
 }
 
-/// A tracer for each of so many links over a set.
+/// Returns a tracer for each of `links` links that run a process set.
 fn open_tracers(
     alloc: Global,
     set: &Verified,
@@ -118,7 +118,7 @@ fn open_tracers(
     Ok(tracers)
 }
 
-/// The ticks gone by on a link set, whose links have one clock.
+/// Returns the ticks of a link set, whose links share one clock.
 pub fn clock_of(player: &GroupPlayer) -> u64
     ensures { result ≡ clock_in (books_of (playing_of player.now)) }
 {
@@ -137,7 +137,7 @@ fn name_line(alloc: Global, link: usize) -> Result<Vec<u8>, AllocError>
     Ok(line)
 }
 
-/// Writes what happened on a link behind a line that names it, where anything did.
+/// Writes the trace of a link after a line that names the link; nothing if the trace is empty.
 fn write_under<T: Write>(alloc: Global, link: usize, text: &[u8], trace: &mut T) -> io::Result<()>
     ensures { OnOk result (Appends (T.contents trace.old) (T.contents trace.new) (under_name link text.now)) }
 {
@@ -150,7 +150,7 @@ fn write_under<T: Write>(alloc: Global, link: usize, text: &[u8], trace: &mut T)
     Ok(())
 }
 
-/// What has happened to a link since is traced, behind a line that names it.
+/// Traces the events of a link since the last call, after a line that names the link.
 fn trace_one<T: Write>(
     alloc: Global,
     player: &GroupPlayer,
@@ -172,7 +172,7 @@ fn trace_one<T: Write>(
     Ok(())
 }
 
-/// The same of all links.
+/// Traces the events of all links since the last call, each link's after a line that names it.
 fn trace_links<T: Write>(
     alloc: Global,
     player: &GroupPlayer,
@@ -192,7 +192,7 @@ fn trace_links<T: Write>(
     Ok(())
 }
 
-/// The line of a command that was obeyed, and what happened by it.
+/// Traces a command that was obeyed: its line and its events.
 fn trace_behind<T: Write>(
     alloc: Global,
     player: &GroupPlayer,
@@ -214,7 +214,7 @@ fn trace_behind<T: Write>(
     Ok(())
 }
 
-/// Does what a command says, and traces what happens. Whether the run goes on.
+/// Obeys a command, and traces its events. Returns whether the run goes on.
 fn trace_next<W: Write, T: Write>(
     alloc: Global,
     player: &mut GroupPlayer,
@@ -245,7 +245,7 @@ fn trace_next<W: Write, T: Write>(
     Ok(true)
 }
 
-/// Does what the commands say, in order, up to an expectation that fails, and traces what happens. Gives the exit status, 0 or 1 where one failed.
+/// Obeys and traces commands up to an expectation that fails. Returns the exit status: 0, or 1 if one failed.
 fn trace_each<W: Write, T: Write>(
     alloc: Global,
     player: &mut GroupPlayer,
@@ -277,7 +277,7 @@ fn trace_each<W: Write, T: Write>(
     Ok(HELD)
 }
 
-/// The same, from a link set's beginning.
+/// Obeys and traces a script on a new link set. Returns the exit status: 0, or 1 if an expectation failed.
 fn trace_set<W: Write, T: Write>(
     alloc: Global,
     set: &Verified,
@@ -312,7 +312,7 @@ fn trace_set<W: Write, T: Write>(
     Ok(status)
 }
 
-/// The same. Gives the exit status, 4 where memory or a write fails.
+/// Obeys and traces a script on a new link set. Returns the exit status: 4 if memory runs out or a write fails.
 fn trace_all<W: Write, T: Write>(
     alloc: Global,
     set: &Verified,
@@ -339,13 +339,12 @@ fn trace_all<W: Write, T: Write>(
     }
 }
 
-/// Runs a link set's script on links with terminals over a set of processes, as `play_group` does, and traces it as `trace_terminal` does: behind
-/// each command's line what messages of changeover said by it, in words, and for each link, in the order of their numbers, a line `on L` and what
-/// happened on it, where anything did.
-///
-/// Gives the exit status: 0 where each command ran and all was written, 1 after `failed line N` where an expectation failed, 2 after
-/// `refused X2 NoName NAME` alone where the set lacks a name that a terminal speaks to or hears, 4 where memory or a write fails, or where more
-/// happens on a link by one command than its journal holds.
+/// Runs a link set's script on links whose terminals run a process set, as `play_group` does, and traces it as
+/// `trace_terminal` does. Each command's line is followed by its changeover messages, in words. Then comes, for each
+/// link in the order of numbers, a line `on L` and the events on that link, if there were any.  Returns the exit
+/// status. 0: each command ran and all was written. 1: an expectation failed, and `failed line N` was written. 2: the
+/// process set lacks a name that a terminal needs; only `refused X2 NoName NAME` was written. 4: out of memory, a write
+/// failed, or one command caused more events on a link than its journal holds.
 pub fn trace_group<W: Write, T: Write>(
     alloc: Global,
     set: &Verified,

@@ -1,4 +1,4 @@
-//! Terminals' scripts as they run, with a trace.
+//! Runs terminals' scripts with a trace.
 ghost use Rattle.std.specs.Prelude.{◌≡◌, ◌⊎◌, ◌++◌, ◌∷◌, [], List, ℕ, Option, None, map, OnOk, IfOk, true, false};
 ghost use Rattle.std.specs.Io.KnownBytes.{Appends};
 ghost use Rattle.actor_machine.specs.Kept.{opened_book};
@@ -21,16 +21,16 @@ use std::alloc::{AllocError, Global};
 use std::io::{self, Write};
 use turn_check::Verified;
 
-/// How many signals a port of a terminal may hold.
+/// The largest number of signals in a port of a terminal.
 const PORT: usize = 64;
 
-/// How many signals may wait for its environment.
+/// The largest number of signals that wait for its environment.
 const ENVIRONMENT: usize = 1_024;
 
-/// How many events its journal may hold.
+/// The largest number of events in its journal.
 const JOURNAL: usize = 65_536;
 
-/// Whether a command asks, and nothing happens by it.
+/// Whether a command is a question, which causes no event.
 fn only_asks(command: &TermCommand<'_>) -> bool
     ensures { result ≡ term_only_asks (plain_term_command command.now) }
 {
@@ -55,7 +55,7 @@ fn only_asks(command: &TermCommand<'_>) -> bool
     }
 }
 
-/// Writes the line of a command, which stands at a place of the lines of a script, but of one that only asks.
+/// Writes the line of a command, at index `place` of the script's lines; nothing for a question.
 fn show_front<T: Write>(
     alloc: Global,
     said: &TermSaid<'_>,
@@ -72,7 +72,7 @@ fn show_front<T: Write>(
     show_line(alloc, lines, place, said.line, trace)
 }
 
-/// Does what a command says, and traces what happens. Whether the run goes on.
+/// Obeys a command, and traces its events. Returns whether the run goes on.
 fn trace_next<W: Write, T: Write>(
     alloc: Global,
     player: &mut TermPlayer,
@@ -103,7 +103,7 @@ fn trace_next<W: Write, T: Write>(
     Ok(true)
 }
 
-/// Does what the commands say, in order, up to an expectation that fails, and traces what happens. Gives the exit status, 0 or 1 where one failed.
+/// Obeys and traces commands up to an expectation that fails. Returns the exit status: 0, or 1 if one failed.
 fn trace_each<W: Write, T: Write>(
     alloc: Global,
     player: &mut TermPlayer,
@@ -136,7 +136,7 @@ fn trace_each<W: Write, T: Write>(
     Ok(HELD)
 }
 
-/// How much the book of a terminal may hold.
+/// The sizes of the stores of a terminal's book.
 fn terminal_limits() -> Limits
     ensures { result ≡ record { port = MOST_PORT; env = MOST_ENVIRONMENT; journal = MOST_JOURNAL } }
 {
@@ -146,7 +146,7 @@ fn terminal_limits() -> Limits
     }
 }
 
-/// The tracer of a terminal over a set, before anything happened; whether skips and turns that have no effect are told too.
+/// Returns a tracer of a new terminal that runs a process set. With `every` it traces skips and dull turns too.
 pub fn open_tracer(alloc: Global, set: &Verified, every: bool) -> Result<Tracer, AllocError>
     ensures every { IfOk result (λ t. t.every ≡ every) }
     ensures start { IfOk result (IsAtStart (opened_book set.now MOST_PORT MOST_ENVIRONMENT MOST_JOURNAL)) }
@@ -155,7 +155,7 @@ pub fn open_tracer(alloc: Global, set: &Verified, every: bool) -> Result<Tracer,
     Ok(tracer)
 }
 
-/// The same, on a new terminal over a set. Gives the exit status, 0 or 1 where an expectation failed.
+/// Obeys and traces a script on a new terminal. Returns the exit status: 0, or 1 if an expectation failed.
 fn trace_on<W: Write, T: Write>(
     alloc: Global,
     set: &Verified,
@@ -194,7 +194,7 @@ fn trace_on<W: Write, T: Write>(
     Ok(status)
 }
 
-/// The same. Gives the exit status, 4 where memory or a write fails.
+/// Obeys and traces a script on a new terminal. Returns the exit status: 4 if memory runs out or a write fails.
 fn trace_new<W: Write, T: Write>(
     alloc: Global,
     set: &Verified,
@@ -221,11 +221,11 @@ fn trace_new<W: Write, T: Write>(
     }
 }
 
-/// Runs a terminal's script on a terminal over a set, as `play_terminal` does, and traces it as `trace_book` does: its processes' events.
-///
-/// Gives the exit status: 0 where each command ran and all was written, 1 after `failed line N` where an expectation failed, 2 after
-/// `refused X2 NoName NAME` alone where the set lacks a name that a terminal speaks to or hears, 4 where memory or a write fails, or where
-/// the terminal's journal begins anew within a command: it does as soon as more than half of its places are taken.
+/// Runs a terminal's script as `play_terminal` does, and traces the events of its processes as `trace_book` does.
+/// Returns the exit status. 0: each command ran and all was written. 1: an expectation failed, and `failed line N` was
+/// written. 2: the process set lacks a name that a terminal needs; only `refused X2 NoName NAME` was written. 4: out of
+/// memory, a write failed, or the terminal's journal restarts within a command: it does once more than half of it is
+/// full.
 pub fn trace_terminal<W: Write, T: Write>(
     alloc: Global,
     set: &Verified,

@@ -1,4 +1,4 @@
-//! A trace: what happened to a link is made to happen once more, and told.
+//! A trace: the events of a link are replayed and written as lines.
 ghost use Rattle.std.specs.Prelude.{◌≡◌, ◌≤◌, true, OnOk, IfOk};
 ghost use Rattle.std.specs.List.{flat_map};
 ghost use Rattle.std.specs.Io.KnownBytes.{Appends};
@@ -22,7 +22,7 @@ use tick_wheel::Wheel;
 use turn_check::Verified;
 use turn_machine::run;
 
-/// A book to which the same happens as to another one, with timers of its own; whether skips and dull turns are told.
+/// A book that replays the events of another, with its own timers. `every`: whether skips and dull turns are traced.
 #[derive(Drop)]
 pub struct Tracer {
     pub(crate) again: Book,
@@ -30,12 +30,12 @@ pub struct Tracer {
     pub(crate) every: bool,
 }
 
-/// What an event that can't happen once more is told as.
+/// The error for an event that can't be replayed.
 pub(crate) fn lost() -> io::Error {
     io::Error::from(ErrorKind::Other)
 }
 
-/// Before the first event of a book of a set with these limits.
+/// Returns a tracer before the first event of a book of this process set, with these limits.
 pub(crate) fn new_tracer(
     alloc: Global,
     set: &Verified,
@@ -56,7 +56,7 @@ pub(crate) fn new_tracer(
 }
 
 impl Tracer {
-    /// A signal of the environment. The text that tells it.
+    /// Replays a signal from the environment. Returns its trace.
     fn offer(&mut self, alloc: Global, offer: &Offer) -> io::Result<Vec<u8>>
         ensures step { OnOk result (IsStep self.old (event.Offer offer.now) self.new) }
         ensures text { IfOk result (λ v. v.items ≡ flat_map line_of (told self.old.every self.old.again.set (state_of self.old.again) (event.Offer offer.now))) }
@@ -68,7 +68,7 @@ impl Tracer {
         }
     }
 
-    /// A turn begins, of which nothing is told.
+    /// Replays the beginning of a turn, which has no trace.
     fn begin(&mut self, alloc: Global, actor: u16) -> io::Result<Vec<u8>>
         ensures step { OnOk result (IsStep self.old (event.Begin actor) self.new) }
         ensures text { IfOk result (λ v. v.items ≡ flat_map line_of (told self.old.every self.old.again.set (state_of self.old.again) (event.Begin actor))) }
@@ -79,7 +79,7 @@ impl Tracer {
         }
     }
 
-    /// An actor throws a signal away. The text that tells it.
+    /// Replays an actor discarding a signal. Returns its trace.
     fn skip(&mut self, alloc: Global, actor: u16) -> io::Result<Vec<u8>>
         ensures step { OnOk result (IsStep self.old (event.Skip actor) self.new) }
         ensures text { IfOk result (λ v. v.items ≡ flat_map line_of (told self.old.every self.old.again.set (state_of self.old.again) (event.Skip actor))) }
@@ -91,7 +91,7 @@ impl Tracer {
         }
     }
 
-    /// The turn that an actor has out ends. It, and what is told of it.
+    /// Ends the turn that an actor has under way. Returns the turn with its report.
     pub(crate) fn end(&mut self, actor: u16) -> io::Result<Ended>
         ensures step { OnOk result (IsStep self.old (event.Finish actor) self.new) }
         ensures ended { IfOk result (λ e. IsEnded self.old.again actor e) }
@@ -116,7 +116,7 @@ impl Tracer {
         })
     }
 
-    /// The same. The text that tells it.
+    /// Ends the turn that an actor has under way. Returns its trace.
     fn finish(&mut self, alloc: Global, actor: u16) -> io::Result<Vec<u8>>
         ensures step { OnOk result (IsStep self.old (event.Finish actor) self.new) }
         ensures text { IfOk result (λ v. v.items ≡ flat_map line_of (told self.old.every self.old.again.set (state_of self.old.again) (event.Finish actor))) }
@@ -125,7 +125,7 @@ impl Tracer {
         Ok(turn_text(alloc, self.again.set(), &ended, self.every)?)
     }
 
-    /// Ticks pass. The text that tells the timers that run out.
+    /// Lets ticks pass. Returns the trace of the timers that expire.
     fn advance(&mut self, alloc: Global, ticks: u64) -> io::Result<Vec<u8>>
         ensures step { OnOk result (IsStep self.old (event.Advance ticks) self.new) }
         ensures text { IfOk result (λ v. Agree self.old → v.items ≡ flat_map line_of (told self.old.every self.old.again.set (state_of self.old.again) (event.Advance ticks))) }
@@ -140,7 +140,7 @@ impl Tracer {
         }
     }
 
-    /// The environment takes a signal, of which nothing is told.
+    /// Replays the environment taking a signal, which has no trace.
     fn take(&mut self, alloc: Global) -> io::Result<Vec<u8>>
         ensures step { OnOk result (IsStep self.old event.TakeEnv self.new) }
         ensures text { IfOk result (λ v. v.items ≡ flat_map line_of (told self.old.every self.old.again.set (state_of self.old.again) event.TakeEnv)) }
@@ -151,7 +151,7 @@ impl Tracer {
         }
     }
 
-    /// An event happens. The text that tells it.
+    /// Replays an event. Returns its trace.
     pub(crate) fn happen(&mut self, alloc: Global, event: &Event) -> io::Result<Vec<u8>>
         ensures step { OnOk result (IsStep self.old event.now self.new) }
         ensures text { IfOk result (λ v. Agree self.old → v.items ≡ flat_map line_of (told self.old.every self.old.again.set (state_of self.old.again) event.now)) }
@@ -166,7 +166,7 @@ impl Tracer {
         }
     }
 
-    /// Events happen one after another, and are told.
+    /// Replays events one after another, and writes their trace.
     fn happen_all<T: Write>(
         &mut self,
         alloc: Global,
@@ -182,7 +182,7 @@ impl Tracer {
         Ok(())
     }
 
-    /// Where the journal of a book began anew, so does this one's.
+    /// Restarts the journal if that of the book was restarted.
     pub(crate) fn catch_up(&mut self, book: &Book) -> io::Result<()>
         ensures { OnOk result (IsCaughtUp book.now self.old self.new) }
     {
@@ -195,7 +195,7 @@ impl Tracer {
         Ok(self.again.rebase()?)
     }
 
-    /// Whether as many ticks went by as for a book, and as many turns began and ended.
+    /// Whether the ticks, turns begun, turns ended and instructions executed are those of a book.
     pub(crate) fn is_in_step(&self, book: &Book) -> bool
         ensures { result ≡ are_in_step (state_of self.now.again) (state_of book.now) }
     {
@@ -206,11 +206,11 @@ impl Tracer {
             && one.instructions() == other.instructions()
     }
 
-    /// Has what has happened to a book since happen here too, and tells each event.
+    /// Replays the events of a book since the last call, and writes their trace.
     ///
     /// # Errors
     ///
-    /// Where the book's journal began anew behind an event that didn't happen here, there is no memory, or a write fails.
+    /// The book's journal was restarted after an event that wasn't replayed here, memory runs out, or a write fails.
     pub fn follow<T: Write>(&mut self, alloc: Global, book: &Book, out: &mut T) -> io::Result<()>
         ensures first { OnOk result (book.now.first ≤ next self.old.again) }
         ensures followed { OnOk result (IsFollowed self.old (since (next self.old.again) book.now) self.new (T.contents out.old) (T.contents out.new)) }

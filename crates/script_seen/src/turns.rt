@@ -19,34 +19,34 @@ use turn_check::Verified;
 use turn_code::{Effect, End, Place, ProcessNumber, Sending, Value, VariableNumber};
 use turn_machine::{Done, Job};
 
-/// A turn that ended: at which tick, whose it was, how it ran, and what came of it.
+/// A turn that ended: its tick, its actor, its execution and its report.
 #[derive(Drop)]
 pub struct Ended {
-    /// At which tick.
+    /// The tick.
     pub clock: u64,
-    /// Whose it was.
+    /// The actor.
     pub me: ActorName,
-    /// What it was, and how it ran.
+    /// The turn's input and its effects.
     pub done: Done,
-    /// What came of it.
+    /// The report of its end.
     pub report: Report,
 }
 
-/// Whether it is the loss of the effect at a place.
+/// Whether a loss is that of the effect at a place.
 fn is_at(loss: &Lost, place: usize) -> bool
     ensures { result ≡ (loss.now.place == place) }
 {
     usize::from(loss.place) == place
 }
 
-/// The number of the loss of the effect at a place, if it was lost.
+/// The index of the loss of the effect at a place, if it was lost.
 fn loss_number(lost: &[Lost], place: usize) -> Option<usize>
     ensures { result ≡ position (λ (l : OneLost). l.place == place) lost.now }
 {
     lost.iter().position(|loss| is_at(loss, place))
 }
 
-/// The loss of the effect at a place, if it was lost.
+/// Returns the loss of the effect at a place, if it was lost.
 pub fn loss_at(lost: &[Lost], place: usize) -> Option<Lost>
     ensures { result ≡ lost_at lost.now place }
 {
@@ -59,7 +59,7 @@ pub fn loss_at(lost: &[Lost], place: usize) -> Option<Lost>
     }
 }
 
-/// Why an output was lost.
+/// The reason why an output was lost.
 fn cause_text<'a>(cause: Cause) -> &'a str
     ensures { result.now ≡ cause_text cause }
 {
@@ -70,7 +70,7 @@ fn cause_text<'a>(cause: Cause) -> &'a str
     }
 }
 
-/// Why the output at a place was lost, if it was.
+/// Appends the reason why the output at a place was lost, if it was.
 fn push_loss(line: &mut Vec<u8>, lost: &[Lost], place: usize) -> Result<(), AllocError>
     ensures { OnOk result (line.new.items ≡ line.old.items ++ lost_text (lost_at lost.now place)) }
 {
@@ -80,7 +80,7 @@ fn push_loss(line: &mut Vec<u8>, lost: &[Lost], place: usize) -> Result<(), Allo
     }
 }
 
-/// An output, without its loss.
+/// Appends an output, without its loss.
 fn push_output(
     alloc: Global,
     line: &mut Vec<u8>,
@@ -97,7 +97,7 @@ fn push_output(
     push_receiver(alloc, line, set, me, sending.receiver)
 }
 
-/// An effect, which stands at a place, of a turn that ends at a tick. A deadline past 2^64 would be told as want of memory, but the clock ends before.
+/// Appends an effect of a turn that ends at tick `clock`. A time past 2^64 would be an error; the clock ends before.
 fn push_effect(
     alloc: Global,
     line: &mut Vec<u8>,
@@ -132,7 +132,7 @@ fn push_effect(
     }
 }
 
-/// The effects of a turn, each behind a comma.
+/// Appends the effects of a turn, with a comma before each.
 fn push_effects(
     alloc: Global,
     line: &mut Vec<u8>,
@@ -150,7 +150,7 @@ fn push_effects(
     Ok(())
 }
 
-/// The value of a variable before, if it was set.
+/// The value of a variable before the turn, if it was set.
 fn value_at(before: &[Option<Value>], number: usize) -> Option<Value>
     ensures { result ≡ value_at before.now number }
 {
@@ -160,7 +160,7 @@ fn value_at(before: &[Option<Value>], number: usize) -> Option<Value>
     }
 }
 
-/// A variable that isn't what it was, behind a comma. A number above 255 would be told as want of memory, but a process has fewer variables.
+/// Appends a changed variable after a comma. A number above 255 would be an error, but no process has as many.
 fn push_change(
     alloc: Global,
     line: &mut Vec<u8>,
@@ -186,7 +186,7 @@ fn push_change(
     Ok(line.extend_from_slice(&is)?)
 }
 
-/// The variables that a turn changed, each behind a comma.
+/// Appends the variables that a turn changed, with a comma before each.
 fn push_changes(
     alloc: Global,
     line: &mut Vec<u8>,
@@ -203,7 +203,7 @@ fn push_changes(
     Ok(())
 }
 
-/// How a turn began.
+/// Appends how a turn began.
 fn push_began(
     alloc: Global,
     line: &mut Vec<u8>,
@@ -223,7 +223,7 @@ fn push_began(
     push_from(alloc, line, set, job.input().sender)
 }
 
-/// How a turn ended, which may have so many instructions.
+/// Appends how a turn ended, with the number of instructions that it may execute.
 fn push_ended(
     alloc: Global,
     line: &mut Vec<u8>,
@@ -272,7 +272,7 @@ fn line_of(alloc: Global, set: &Verified, ended: &Ended) -> Result<Vec<u8>, Allo
     Ok(line)
 }
 
-/// Whether a turn that began there and ended so keeps its state.
+/// Returns whether a turn with this beginning and end keeps its state.
 pub fn stays_in(place: Place, end: End) -> bool
     ensures { result ≡ stays_in place end }
 {
@@ -285,14 +285,14 @@ pub fn stays_in(place: Place, end: End) -> bool
     }
 }
 
-/// Whether a turn keeps its state and has no effect.
+/// Returns whether a turn is dull: it keeps its state and has no effect.
 pub fn is_dull(place: Place, end: End, effects: &[Effect]) -> bool
     ensures { result ≡ is_dull place end effects.now }
 {
     stays_in(place, end) && effects.is_empty()
 }
 
-/// What is told of a turn that ended.
+/// The trace of a turn that ended.
 pub(crate) fn turn_text(
     alloc: Global,
     set: &Verified,

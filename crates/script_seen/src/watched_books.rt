@@ -1,4 +1,4 @@
-//! Book scripts as they run, with a watcher.
+//! Runs book scripts with a watcher.
 ghost use Rattle.std.specs.Prelude.{◌≡◌, ◌⊎◌, ◌++◌, ◌∷◌, [], List, ℕ, Option, None, map, IfOk, true, false};
 ghost use Rattle.script_lines.specs.Scripts.{AreInRange, PlainSaid, plain_said, plain_script};
 ghost use Rattle.actor_machine.specs.Ledger.{Ledger};
@@ -15,7 +15,7 @@ use std::alloc::Global;
 use std::io::{self, Write};
 use turn_check::Verified;
 
-/// Does what a command says, and tells a watcher what happens. Whether the run goes on.
+/// Obeys a command, and notifies a watcher of its events. Returns whether the run goes on.
 fn watch_next<N: Watcher, W: Write>(
     alloc: Global,
     player: &mut Player,
@@ -41,8 +41,8 @@ fn watch_next<N: Watcher, W: Write>(
     Ok(true)
 }
 
-/// Does what the commands say, in order, up to an expectation that fails, and tells a watcher what happens. Gives the exit status, 0 or 1 where
-/// one failed.
+/// Obeys the commands, in order, up to an expectation that fails, and notifies a watcher. Returns the exit status: 0,
+/// or 1 if one failed.
 fn watch_each<N: Watcher, W: Write, E: Write>(
     alloc: Global,
     player: &mut Player,
@@ -73,7 +73,7 @@ fn watch_each<N: Watcher, W: Write, E: Write>(
     Ok(HELD)
 }
 
-/// The same, from a link's beginning. Gives the exit status, 0 or 1 where an expectation failed.
+/// Obeys a script on a new link, and notifies a watcher. Returns the exit status: 0, or 1 if an expectation failed.
 fn watch_link<N: Watcher, W: Write, E: Write>(
     alloc: Global,
     set: &Verified,
@@ -107,10 +107,9 @@ fn watch_link<N: Watcher, W: Write, E: Write>(
     Ok(status)
 }
 
-/// Runs a book script on the processes of a set, as `play_book` does, and tells a watcher what happens.
-///
-/// Gives the exit status: 0 where each command ran and all was written, 1 after `failed line N` where an expectation failed, 4 where memory or a
-/// write fails.
+/// Runs a book script on a process set, as `play_book` does, and notifies a watcher of its events.  Returns the exit
+/// status. 0: each command ran and all was written. 1: an expectation failed, and `failed line N` was written. 4: out
+/// of memory, or a write failed.
 pub fn watch_book<N: Watcher, W: Write, E: Write>(
     alloc: Global,
     set: &Verified,

@@ -1,4 +1,4 @@
-//! Terminals' scripts as they run, with a watcher.
+//! Runs terminals' scripts with a watcher.
 ghost use Rattle.std.specs.Prelude.{◌≡◌, ◌⊎◌, ◌++◌, ◌∷◌, [], List, ℕ, Option, None, map, IfOk, true, false};
 ghost use Rattle.actor_machine.specs.Kept.{opened_book};
 ghost use Rattle.plain_laws.specs.Limits.{MOST_PORT, MOST_ENVIRONMENT, MOST_JOURNAL};
@@ -17,7 +17,7 @@ use std::alloc::Global;
 use std::io::{self, Write};
 use turn_check::Verified;
 
-/// Does what a command says, and tells a watcher what happens. Whether the run goes on.
+/// Obeys a command, and notifies a watcher of its events. Returns whether the run goes on.
 fn watch_next<N: Watcher, W: Write>(
     alloc: Global,
     player: &mut TermPlayer,
@@ -44,8 +44,8 @@ fn watch_next<N: Watcher, W: Write>(
     Ok(true)
 }
 
-/// Does what the commands say, in order, up to an expectation that fails, and tells a watcher what happens. Gives the exit status, 0 or 1 where
-/// one failed.
+/// Obeys the commands, in order, up to an expectation that fails, and notifies a watcher. Returns the exit status: 0,
+/// or 1 if one failed.
 fn watch_each<N: Watcher, W: Write>(
     alloc: Global,
     player: &mut TermPlayer,
@@ -75,7 +75,7 @@ fn watch_each<N: Watcher, W: Write>(
     Ok(HELD)
 }
 
-/// The same, on a new terminal over a set. Gives the exit status, 0 or 1 where an expectation failed.
+/// Obeys a script on a new terminal, and notifies a watcher. Returns the exit status: 0, or 1 if an expectation failed.
 fn watch_on<N: Watcher, W: Write>(
     alloc: Global,
     set: &Verified,
@@ -112,7 +112,7 @@ fn watch_on<N: Watcher, W: Write>(
     Ok(status)
 }
 
-/// The same. Gives the exit status, 4 where memory or a write fails.
+/// Obeys a script on a new terminal, and notifies a watcher. Returns the exit status: 4 if memory or a write fails.
 fn watch_new<N: Watcher, W: Write>(
     alloc: Global,
     set: &Verified,
@@ -137,11 +137,10 @@ fn watch_new<N: Watcher, W: Write>(
     }
 }
 
-/// Runs a terminal's script on a terminal over a set, as `play_terminal` does, and tells a watcher what happens to its processes.
-///
-/// Gives the exit status: 0 where each command ran and all was written, 1 after `failed line N` where an expectation failed, 2 after
-/// `refused X2 NoName NAME` alone where the set lacks a name that a terminal speaks to or hears, 4 where memory or a write fails, or where more
-/// happens by one command than a terminal's journal holds.
+/// Runs a terminal's script as `play_terminal` does, and notifies a watcher of the events of its processes.  Returns
+/// the exit status. 0: each command ran and all was written. 1: an expectation failed, and `failed line N` was written.
+/// 2: the process set lacks a name that a terminal needs; only `refused X2 NoName NAME` was written. 4: out of memory,
+/// a write failed, or one command caused more events than the terminal's journal holds.
 pub fn watch_terminal<N: Watcher, W: Write>(
     alloc: Global,
     set: &Verified,

@@ -1,4 +1,4 @@
-//! Who watches what happens to a link as a script runs.
+//! Watchers of the events on a link during a script.
 ghost use Rattle.std.specs.Prelude.{◌≡◌, ◌≤◌, ◌++◌, ◌∷◌, [], List, Some, slice_get, OnOk, true};
 ghost use Rattle.std.specs.Option.{option_copied};
 ghost use Rattle.turn_code.specs.declared.draft.Draft.{Draft};
@@ -21,25 +21,25 @@ use std::io;
 use turn_check::Verified;
 use turn_code::{Place, StateNumber};
 
-/// Who is told of each turn that ends on a link, and of each signal that is thrown away there.
+/// Is notified of each turn that ends on a link, and of each item that is discarded there.
 pub trait Watcher {
-    // whether it was told these notices of a link of a set, one after another
+    // whether it got these notices about a link that runs a process set, one after another
     ghost knows: { Draft → List Notice → Self → Type 0 };
 
     /// A turn ended.
     ///
     /// # Errors
     ///
-    /// Where there is no memory.
+    /// Out of memory.
     fn end(&mut self, alloc: Global, set: &Verified, ended: &Ended) -> io::Result<()>
         ensures { OnOk result ((ns : List Notice) (t : TurnEnd) → IsEnd ended.now t → IsTurnOf set.now t.me.process.0 t.turn → knows set.now ns self.old
             → knows set.now (ns ++ ends t ∷ []) self.new) };
 
-    /// An actor throws an item away in a state.
+    /// An actor discards an item in a state.
     ///
     /// # Errors
     ///
-    /// Where there is no memory.
+    /// Out of memory.
     fn throw(
         &mut self,
         alloc: Global,
@@ -51,7 +51,7 @@ pub trait Watcher {
         ensures { OnOk result ((ns : List Notice) → knows set.now ns self.old → knows set.now (ns ++ thrown_by me state item.now ∷ []) self.new) };
 }
 
-/// A watcher is told of what an actor throws away, where it throws anything away.
+/// Notifies a watcher of the item that an actor discards, if it discards one.
 fn tell_throw<N: Watcher>(
     alloc: Global,
     set: &Verified,
@@ -82,7 +82,7 @@ fn actor_at<'a>(book: &'a Book, actor: u16) -> Option<&'a Actor>
 }
 
 impl Tracer {
-    /// An actor throws a signal away, and a watcher is told.
+    /// Replays an actor discarding a signal, and notifies a watcher.
     fn skip_watched<N: Watcher>(
         &mut self,
         alloc: Global,
@@ -103,7 +103,7 @@ impl Tracer {
         }
     }
 
-    /// The turn that an actor has out ends, and a watcher is told.
+    /// Ends the turn that an actor has under way, and notifies a watcher.
     fn finish_watched<N: Watcher>(
         &mut self,
         alloc: Global,
@@ -121,7 +121,7 @@ impl Tracer {
         Ok(())
     }
 
-    /// An event happens that no watcher is told of.
+    /// Replays an event of which no watcher is notified.
     fn happen_unwatched(&mut self, alloc: Global, event: &Event) -> io::Result<()>
         ensures { OnOk result (IsStep self.old event.now self.new) }
     {
@@ -129,7 +129,7 @@ impl Tracer {
         Ok(())
     }
 
-    /// An event happens, and a watcher is told.
+    /// Replays an event, and notifies a watcher.
     fn happen_watched<N: Watcher>(
         &mut self,
         alloc: Global,
@@ -147,7 +147,7 @@ impl Tracer {
         }
     }
 
-    /// Events happen one after another, and a watcher is told.
+    /// Replays events one after another, and notifies a watcher.
     fn watch_all<N: Watcher>(
         &mut self,
         alloc: Global,
@@ -164,11 +164,11 @@ impl Tracer {
         Ok(())
     }
 
-    /// Has what has happened to a book since happen here too, and tells a watcher.
+    /// Replays the events of a book since the last call, and notifies a watcher.
     ///
     /// # Errors
     ///
-    /// Where the book's journal began anew behind an event that didn't happen here, or there is no memory.
+    /// The book's journal was restarted after an event that wasn't replayed here, or memory runs out.
     pub(crate) fn watch<N: Watcher>(
         &mut self,
         alloc: Global,

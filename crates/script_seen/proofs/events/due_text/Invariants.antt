@@ -1,4 +1,4 @@
--- The timers so far, and those to come.
+-- The timers written so far, and those still to write.
 use Rattle.std.proofs.Common.{◌≡◌, ◌++◌, drop, map}
 use Rattle.std.specs.List.{flat_map}
 use Rattle.actor_machine.specs.Ledger.{state_of}

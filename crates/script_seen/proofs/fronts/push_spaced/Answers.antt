@@ -8,7 +8,7 @@ use Rattle.script_seen.proofs.fronts.push_spaced.Goals as goal
 abbrev behind : List (Bor (List ℕ)) → List ℕ
 behind ws = flat_map (λ w. 32 ∷ w) (texts ws)
 
--- a space and one word more
+-- a space and one more word
 one_word : (ws : List (Bor (List ℕ))) (i : ℕ) (w : Bor (List ℕ)) (before spaced after word all : List ℕ) → i < length ws
     → spaced ≡ before ++ 32 ∷ [] → after ≡ spaced ++ word → word ≡ (get_or ws i w).now → before ++ behind (drop i ws) ≡ all → after ++ behind (drop (i + 1) ws) ≡ all
 one_word ws i w before spaced after word all within space more is had =

@@ -1,4 +1,4 @@
--- The text so far, and the words to come.
+-- The words written so far, and those still to write.
 use Rattle.std.proofs.Common.{◌≡◌, ◌++◌, ◌∷◌, drop}
 use Rattle.std.specs.List.{flat_map}
 use Rattle.script_lines.specs.Lines.{texts}

@@ -1,4 +1,4 @@
--- The commands so far were obeyed, and shown.
+-- The commands so far were obeyed and echoed.
 use Rattle.std.proofs.Common.{◌≡◌, None, map, take}
 use Rattle.script_lines.specs.Lines.{plain_line}
 use Rattle.script_links.specs.GroupScripts.{plain_group_said}

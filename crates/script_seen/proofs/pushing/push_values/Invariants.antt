@@ -1,4 +1,4 @@
--- The values so far, and those to come.
+-- The values written so far, and those still to write.
 use Rattle.std.proofs.Common.{◌≡◌, ◌++◌, ◌∷◌, drop}
 use Rattle.std.specs.List.{flat_map}
 use Rattle.script_lines.specs.Replies.{value_text}

@@ -1,4 +1,4 @@
--- The effects so far, and those to come.
+-- The effects applied so far, and those still to apply.
 use Rattle.std.proofs.Common.{◌≡◌, drop}
 use Rattle.tick_wheel.specs.Turning.{timers_of}
 use Rattle.script_seen.specs.Following.{timers_laid}

@@ -1,4 +1,4 @@
--- The commands so far were obeyed, and traced.
+-- The commands so far were obeyed and traced.
 use Rattle.std.proofs.Common.{map, take}
 use Rattle.script_lines.specs.Lines.{plain_line}
 use Rattle.script_links.specs.TermScripts.{plain_term_said}

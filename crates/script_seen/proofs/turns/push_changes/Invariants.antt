@@ -1,4 +1,4 @@
--- The variables so far, and those to come.
+-- The variables written so far, and those still to write.
 use Rattle.std.proofs.Common.{◌≡◌, ◌++◌, drop}
 use Rattle.script_seen.specs.Told.{changes_text}
 use Rattle.script_seen.proofs.turns.push_changes.Given as goal

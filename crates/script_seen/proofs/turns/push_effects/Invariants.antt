@@ -1,4 +1,4 @@
--- The effects so far, and those to come.
+-- The effects written so far, and those still to write.
 use Rattle.std.proofs.Common.{◌≡◌, ◌++◌, drop}
 use Rattle.script_seen.specs.Told.{effects_text}
 use Rattle.script_seen.proofs.turns.push_effects.Given as goal

@@ -1,4 +1,4 @@
--- The commands so far were obeyed, and the watcher was told.
+-- The commands so far were obeyed, and the watcher was notified.
 use Rattle.std.proofs.Common.{map, take}
 use Rattle.script_links.specs.TermScripts.{plain_term_said}
 use Rattle.script_group.specs.TermRuns.{last_of}

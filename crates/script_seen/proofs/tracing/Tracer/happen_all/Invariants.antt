@@ -1,4 +1,4 @@
--- The events so far happened, and are told.
+-- The events so far happened and are traced.
 use Rattle.std.proofs.Common.{take}
 use Rattle.script_seen.specs.Following.{IsFollowed}
 use Rattle.script_seen.proofs.tracing.Tracer.happen_all.Given as goal

@@ -1,4 +1,4 @@
--- The events so far happened, and the watcher was told.
+-- The events so far happened, and the watcher was notified.
 use Rattle.std.proofs.Common.{take}
 use Rattle.script_seen.proofs.Noticing.{Watches}
 use Rattle.script_seen.proofs.tracing.Tracer.watch_all.Given as goal
