@@ -1,4 +1,4 @@
--- What a call of the set, however it ends, does to a set that tends itself.
+-- The effect of a call of the set, however it ends, on a set that manages itself.
 use Rattle.std.proofs.Common.{◌≡◌, ◌∙◌, ℕ, ◌<◌, ◌≤◌, Bool, true, false, if◌then◌else◌, List, [], ◌∷◌, ◌++◌, append-nil, length, Option, None, Some, is_some, Result, Ok, Err, is_ok, OnOk, OnErr, IfOk, IfErr, IfSome, refl, sym, ap, subst, arith}
 use Rattle.std.specs.Prelude.{◌↔◌}
 use Rattle.std.proofs.lemmas.Bool.{true≢false}
@@ -102,7 +102,7 @@ pub has_told : (c : LinkSet) (t : Tended) (l : ℕ) (o : Option Report) → is_s
 has_told c t l None none_there did = record { before = c; none_left = did }
 has_told c t l (Some report) none_there did = absurd (true≢false none_there)
 
--- nothing is asked of a link that isn't there
+-- A link that doesn't exist isn't asked.
 pub not_there : {A P : Type 0} (r : Result A LinkError) (e : LinkError) (c d : LinkSet) (l : ℕ) → r ≡ Err e
     → ((r ≡ Err NoLink) ↔ (length c.links ≤ l)) → d ≡ c → l < length d.links → P
 not_there r NoLink c d l is fault same there =
@@ -110,17 +110,17 @@ not_there r NoLink c d l is fault same there =
     let links_are : length d.links ≡ length c.links = ap (λ (x : LinkSet). length x.links) same in
     absurd (omega arith)
 
--- ---- reports that are told
+-- ---- queued reports
 
 told_more : (told : List Told) (x : Told) → reports_in (told ++ x ∷ []) ≡ reports_in told ++ report_in x
 told_more told x = flat_map-append report_in told (x ∷ []) ∙ ap (λ (xs : List Told). reports_in told ++ xs) (append-nil (report_in x))
 
--- what was pushed stands behind the others
+-- A pushed report is the last one.
 pub told_pushed : {A E : Type 0} (r : Result A E) (told after : List Told) (x : Told) (v : A) → r ≡ Ok v
     → after ≡ (if is_ok r then told ++ x ∷ [] else told) → after ≡ told ++ x ∷ []
 told_pushed {A} {E} r told after x v is items = items ∙ ap (λ (o : Result A E). if is_ok o then told ++ x ∷ [] else told) is
 
--- one is to be told behind the others
+-- One more report is queued last.
 pub acts_report : (c : LinkSet) (plan : Plan) (ticks : ℕ) (told after : List Told) (x : Told) → after ≡ told ++ x ∷ []
     → Acts [] (report_in x) (record { set = c; plan = plan; ticks = ticks; reports = reports_in told })
     (record { set = c; plan = plan; ticks = ticks; reports = reports_in after })
@@ -131,7 +131,7 @@ acts_report c plan ticks told after x is = record {
   reports = ap reports_in is ∙ told_more told x;
 }
 
--- `send` took one
+-- `send` took a message.
 pub acts_send : (t : Tended) (d : LinkSet) (m : Msu) → send_fault t.set m ≡ None → selection_of m < SELECTIONS → d ≡ sent t.set m
     → Acts (m ∷ []) [] t (record t { set = d })
 acts_send t d m free small is = record {

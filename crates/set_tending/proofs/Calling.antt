@@ -1,4 +1,4 @@
--- What becomes of a set by its calls: by none, by one, and by some behind others.
+-- How a set changes by no call, by one, and by calls in succession.
 use Rattle.std.proofs.Common.{◌≡◌, ℕ, ◌<◌, Bool, true, List, [], ◌∷◌, ◌++◌, append-nil, append_assoc, Option, None, Some, refl, sym, subst}
 use Rattle.std.specs.Prelude.{◌↔◌}
 use Rattle.std.proofs.lemmas.Option.{none-some}
@@ -32,7 +32,7 @@ pub by_then : (p q r : LinkSet) (xs ys : List Msu) → ByCalls p xs q → ByCall
 unfolding ByCalls
 by_then p q r xs ys h k = λ accepted b. subst (λ (zs : List Msu). Brought r zs) (append_assoc accepted xs ys) (k (accepted ++ xs) (h accepted b))
 
--- neither takes a message
+-- Two steps in which no message is taken.
 pub by_both : (p q r : LinkSet) → ByCalls p [] q → ByCalls q [] r → ByCalls p [] r
 by_both p q r h k = by_then p q r [] [] h k
 
@@ -63,7 +63,7 @@ pub by_fails : (c : LinkSet) (l : ℕ) → fail_fault c l ≡ None → ByCalls c
 by_fails c l free =
     by_one c (after_failure c l) (λ accepted gone r. record { gone = gone; reached = calls.fails c accepted gone l r free })
 
--- what was read of octets is what they are read as
+-- The result of reading octets is the one that `Reads` defines.
 pub is_read : (octets : List ℕ) (r : Option Changeover) → ((m : Changeover) → (r ≡ Some m) ↔ Reads octets m) → IsRead octets r
 is_read octets None exact = λ m reads. none-some m ((exact m).1 reads)
 is_read octets (Some m) exact = (exact m).0 refl
@@ -110,7 +110,7 @@ pub by_refuses : (c d : LinkSet) (l : ℕ) (command : _) (refusal : _) → Alone
 by_refuses c d l command refusal did =
     by_one c d (λ accepted gone r. record { gone = gone; reached = calls.refuses c d accepted gone l command refusal r did })
 
--- a command that wasn't taken
+-- A command that wasn't taken changes the set by no call.
 pub by_command_error : (c d : LinkSet) (l : ℕ) (command : _) (e : CommandError) → IsCommandError command l c d e
     → ByCalls c [] d
 by_command_error c d l command error.NoLink h = by_same c d h.1

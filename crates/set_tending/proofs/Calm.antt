@@ -35,11 +35,11 @@ any_by ks n None there before last =
     ap (list_any is_changing) (take_all (n + 1) ks (omega arith) ∙ sym (take_all n ks past)) ∙ before
 any_by ks n (Some k) there before last = any_there ks n k there before last
 
--- one link more
+-- One more link.
 pub any_more : (ks : List Link) (n : ℕ) → list_any is_changing (take n ks) ≡ false → changing_by (slice_get ks n) ≡ false
     → list_any is_changing (take (n + 1) ks) ≡ false
 any_more ks n before last = any_by ks n (slice_get ks n) refl before last
 
--- all of them
+-- All links.
 pub any_all : (ks : List Link) (n : ℕ) → length ks ≤ n → list_any is_changing (take n ks) ≡ false → list_any is_changing ks ≡ false
 any_all ks n past before = sym (ap (list_any is_changing) (take_all n ks past)) ∙ before

@@ -1,4 +1,4 @@
--- What the rules do, one thing behind another.
+-- The steps of the rules, one after another.
 use Rattle.std.proofs.Common.{◌≡◌, ◌∙◌, ℕ, ◌≤◌, Bool, length, List, [], ◌∷◌, ◌++◌, append-nil, append_assoc, refl, sym, ap, subst, arith}
 use Rattle.std.proofs.lemmas.Grind.{flat_map-append}
 use Rattle.link_group.specs.Set.{LinkSet}
@@ -34,7 +34,7 @@ adds_then s t u h k = λ first d. k first (h first d)
 pub adds_does : (t u : Tended) → Does t u → Adds t u
 adds_does t u d = λ first h. does_then first t u h d
 
--- a call of the set
+-- A call of the set.
 pub adds_call : (t : Tended) (d : LinkSet) → ByCalls t.set [] d → Adds t (record t { set = d })
 adds_call t d calls = adds_does t (record t { set = d }) (record { calls = calls; plan = refl; ticks = refl; reports = refl })
 
@@ -49,7 +49,7 @@ acts_of t u adds =
     let d : Does t u = adds_of t u adds in
     record { calls = d.calls; plan = d.plan; ticks = d.ticks; reports = d.reports ∙ sym (append-nil t.reports) }
 
--- a report of which nothing is told
+-- A report that isn't passed on.
 pub acts_quiet : (t u : Tended) (tells : List Told) → tells ≡ [] → Adds t u → Acts [] tells t u
 acts_quiet t u tells none adds = subst (λ (xs : List Told). Acts [] xs t u) (sym none) (acts_of t u adds)
 
@@ -63,7 +63,7 @@ acts_adds s t u tells acts adds =
       reports = d.reports ∙ acts.reports;
     }
 
--- a new one, once links were admitted or not
+-- A new set, after links were admitted or not.
 pub new_tended : (ends : Ends) (tests : Bool) (set : LinkSet) (links : ℕ) (reports : List Told) (t : Tended) → links ≡ length set.links → reports ≡ []
     → Adds (record { set = set; plan = record { ends = ends; tests = tests; links = links }; ticks = 0; reports = reports }) t
     → IsNewTended ends tests set t
@@ -124,7 +124,7 @@ heeded_one s t u w h before out acts =
 
 -- ---- all links
 
--- as many as there are
+-- As many links as there are.
 pub each_all : (t u : Tended) (count gone : ℕ) → HeedsEach t gone u → gone ≤ count → count ≤ gone → HeedsEach t count u
 each_all t u count gone heeds most least =
     let whole : gone ≡ count = omega arith in
@@ -137,7 +137,7 @@ each_heeded t _ _ (one_link {count} {u} {w} before adds told) = λ first h. adds
 pub tends_heeded : (t u : Tended) → Tends t u → AddsHeeded t u
 tends_heeded t u tends = λ first h. adds_heeded_then first tends.heeded u (each_heeded t tends.heeded t.plan.links tends.heeds first h) tends.adds
 
--- the links were heeded, and the rules did what they do in four steps
+-- The links were heeded, and the rules took four steps.
 pub tends_in_steps : (t heeded u v w x : Tended) → HeedsEach t t.plan.links heeded → Adds heeded u → Adds u v → Adds v w → Adds w x → Tends t x
 tends_in_steps t heeded u v w x heeds first second third last = record {
   heeded = heeded;

@@ -1,4 +1,4 @@
--- The fields of messages that a set sends of its own.
+-- The fields of the messages that a set sends itself.
 use Rattle.std.proofs.Common.{◌≡◌, ◌∙◌, ℕ, ◌+◌, ◌*◌, ◌%◌, ◌^◌, ◌<◌, List, [], ◌∷◌, ◌++◌, length, drop, Some, ap, arith}
 use Rattle.std.proofs.lemmas.List.{drop_at}
 use Rattle.std.proofs.lemmas.Option.{none-some}
@@ -11,7 +11,7 @@ use Rattle.set_tending.specs.declared.ends.Ends.{Ends}
 abbrev pub label_to : Ends → ℕ → Label
 label_to e link = record { dpc = e.peer; opc = e.own; sls = link }
 
--- what is too large is cut off; nothing is
+-- Values too large would be cut off; none are.
 pub label_within : (e : Ends) (link : ℕ) (octets : List ℕ)
     → label_in octets ≡ Some (record { dpc = e.peer % 16384; opc = e.own % 16384; sls = link % 16 })
     → AreEnds e → link < 16 → label_in octets ≡ Some (label_to e link)

@@ -1,4 +1,4 @@
--- How many octets the messages of a link have.
+-- The number of octets in the messages of a link.
 use Rattle.std.proofs.Common.{◌≡◌, ◌∙◌, ℕ, zero, suc, ◌+◌, ◌-◌, ◌^◌, ◌<◌, ◌≤◌, ◌&&◌, ◌||◌, not, Bool, true, false, List, [], ◌∷◌, ◌++◌, length, take, get_or, min, nat_le, unwrap_or, Option, None, Some, slice_get, refl, sym, ap, arith}
 use Rattle.std.proofs.lemmas.Bool.Decides.{nat_tests}
 use Rattle.std.proofs.lemmas.List.{take_more, take_all}
@@ -29,7 +29,7 @@ take_past xs n e =
     let past : length xs ≤ n = none_past xs n e in
     take_all (n + 1) xs (omega arith) ∙ sym (take_all n xs past)
 
--- one message more
+-- One more message.
 pub octets_more : (xs : List Msu) (n : ℕ) (o : Option Msu) → slice_get xs n ≡ o → octets_in (take (n + 1) xs) ≡ octets_in (take n xs) + size_of o
 octets_more xs n None e = ap octets_in (take_past xs n e) ∙ omega arith
 octets_more xs n (Some m) e =
@@ -42,7 +42,7 @@ message_there : (k : Option Link) (n : ℕ) → message_at n k ≡ slice_get (he
 message_there None n = refl
 message_there (Some k) n = refl
 
--- the sum so far, which stays at its greatest value
+-- The sum so far, which stays at its greatest value.
 pub sum_more : (k : Option Link) (n octets size : ℕ) → octets ≡ min LAST (octets_in (take n (held_by k))) → size ≡ size_of (message_at n k)
     → min LAST (octets + size) ≡ min LAST (octets_in (take (n + 1) (held_by k)))
 sum_more k n octets size is size_is =
@@ -56,7 +56,7 @@ held_there (Some k) = refl
 capped_reaches : (n : ℕ) → nat_le MOST_OCTETS (min LAST n) ≡ nat_le MOST_OCTETS n
 capped_reaches n = grind (arith, nat_tests)
 
--- as many as it holds, and their octets
+-- All messages that it holds, and their octets.
 full_by : (k : Option Link) (count octets : ℕ) → count ≡ unwrap_or (read_at held_count k) 0 → octets ≡ min LAST (octets_in (take count (held_by k)))
     → (nat_le MOST_HELD count || nat_le MOST_OCTETS octets) ≡ is_full_of k
 full_by k count octets is octets_is =
@@ -69,14 +69,14 @@ full_by k count octets is octets_is =
     ∙ (ap (λ (n : ℕ). nat_le MOST_HELD (length (held_by k)) || nat_le MOST_OCTETS n) octets_at
     ∙ ap (λ (b : Bool). nat_le MOST_HELD (length (held_by k)) || b) (capped_reaches (octets_in (held_by k))))
 
--- as many messages as it may hold
+-- The greatest number of messages that it may hold.
 pub full_of_many : (k : Option Link) (count : ℕ) → count ≡ unwrap_or (read_at held_count k) 0 → MOST_HELD ≤ count → true ≡ is_full_of k
 full_of_many k count is many =
     let octets : ℕ = min LAST (octets_in (take count (held_by k))) in
     let e : nat_le MOST_HELD count ≡ true = grind (arith, nat_tests) in
     sym (ap (λ (b : Bool). b || nat_le MOST_OCTETS octets) e) ∙ full_by k count octets is refl
 
--- fewer
+-- Fewer messages.
 pub full_of_few : (k : Option Link) (count octets : ℕ) → count ≡ unwrap_or (read_at held_count k) 0 → octets ≡ min LAST (octets_in (take count (held_by k)))
     → count < MOST_HELD → nat_le MOST_OCTETS octets ≡ is_full_of k
 full_of_few k count octets is octets_is few =

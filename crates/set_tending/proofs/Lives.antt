@@ -1,4 +1,4 @@
--- What follows for all that a set did over a time.
+-- Laws for the history of a set.
 use Rattle.std.proofs.Common.{◌≡◌, ◌∙◌, ℕ, List, [], ◌∷◌, ◌++◌, append-nil, append_assoc, Some, refl, sym, ap, subst}
 use Rattle.resend_store.specs.declared.messages.Msu.{Msu}
 use Rattle.link_group.specs.Set.{LinkSet}
@@ -15,7 +15,7 @@ use Rattle.set_tending.specs.declared.told.Told.{Told}
 use Rattle.set_tending.proofs.Calling.{by_none, by_then, by_is, by_gives, by_reports, by_ticks}
 use Rattle.set_tending.proofs.Doing.{adds_of, heeded_nothing, reports_more, tends_heeded}
 
--- ---- all that becomes of the set is by its calls
+-- ---- the set changes only by its calls
 
 pub lives_calls : (t u : Tended) (sent : List Msu) (handed : List Handed) (told : List Told) → Lives t sent handed told u → ByCalls t.set sent u.set
 lives_calls t _ _ _ _ begins = by_none t.set
@@ -29,7 +29,7 @@ lives_calls t _ _ _ _ (ticks {sent} {handed} {told} {u} w before passes) =
     subst (λ (xs : List Msu). ByCalls t.set xs w.set) (append-nil sent)
     (by_then t.set u.set w.set sent [] (lives_calls t u sent handed told before) (by_is u.set w.set (after_ticks 1 u.set) passes.set (by_ticks u.set 1)))
 
--- ---- each report is told once, in the order in which links handed them out
+-- ---- each report is made once, in the order in which links delivered them
 
 pub lives_plan : (t u : Tended) (sent : List Msu) (handed : List Handed) (told : List Told) → Lives t sent handed told u → u.plan ≡ t.plan
 lives_plan t _ _ _ _ begins = refl
@@ -57,18 +57,18 @@ lives_told t _ _ _ _ (tells {sent} {handed} {told} {u} reports left before is) =
 lives_told t _ _ _ _ (ticks {sent} {handed} {told} {u} w before passes) =
     ap (λ (x : Tended). told ++ x.reports) passes.same ∙ lives_told t u sent handed told before
 
--- ---- what goes on
+-- ---- continuing a history
 
 pub lived_none : (t : Tended) → Lived t [] [] t
 lived_none t = record { handed = []; lives = begins }
 
--- calls of the set, of which `send` took these messages, and nothing else changed
+-- Calls of the set, in which `send` took these messages, and nothing else changed.
 pub lived_calls : (t u w : Tended) (sent : List Msu) (told : List Told) (taken : List Msu) → Lived t sent told u → ByCalls u.set taken w.set → w ≡ record u { set = w.set }
     → Lived t (sent ++ taken) told w
 lived_calls t u w sent told taken before step same =
     subst (λ (x : Tended). Lived t (sent ++ taken) told x) (sym same) (record { handed = before.handed; lives = calls taken w.set before.lives step })
 
--- calls that took none
+-- Calls in which no message was taken.
 pub lived_none_taken : (t u w : Tended) (sent : List Msu) (told : List Told) → Lived t sent told u → ByCalls u.set [] w.set → w ≡ record u { set = w.set }
     → Lived t sent told w
 lived_none_taken t u w sent told before step same =
@@ -82,7 +82,7 @@ lived_adds t u w sent told before adds =
     let d : Does u w = adds_of u w adds in
     lived_none_taken t u w sent told before d.calls (same_but_set u w d.plan d.ticks d.reports)
 
--- `send` took messages
+-- `send` took messages.
 pub lived_sends : (t u w : Tended) (sent : List Msu) (told : List Told) (taken : List Msu) → Lived t sent told u → Acts taken [] u w → Lived t (sent ++ taken) told w
 lived_sends t u w sent told taken before acts =
     lived_calls t u w sent told taken before acts.calls (same_but_set u w acts.plan acts.ticks (acts.reports ∙ append-nil u.reports))
@@ -153,7 +153,7 @@ lived_speaks first sent told link _ _ _ _ _ _ _ before (no_octet s v out) = befo
 lived_speaks first sent told link _ _ _ _ _ _ _ before (octet {count} {t} {u} {w} {v} {x} {y} {out} {after} gives earlier next) =
     lived_gives first u w sent told link x y gives (lived_speaks first sent told link count t u v x out after before earlier) next
 
--- ---- what is told
+-- ---- reports taken
 
 pub lived_tells : (t u w : Tended) (sent : List Msu) (told reports : List Told) → Lived t sent told u → u.reports ≡ reports ++ w.reports
     → w ≡ record u { reports = w.reports } → Lived t sent (told ++ reports) w

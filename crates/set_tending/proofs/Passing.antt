@@ -1,4 +1,4 @@
--- Messages that came and aren't told.
+-- Received messages that aren't passed on.
 use Rattle.std.proofs.Common.{◌≡◌, ◌∙◌, ℕ, ◌<◌, nat_le, Bool, false, if◌then◌else◌, [], ◌∷◌, sym, ap, arith}
 use Rattle.std.proofs.lemmas.Bool.Decides.{nat_tests}
 use Rattle.resend_store.specs.declared.messages.Msu.{Msu}
@@ -11,10 +11,10 @@ use Rattle.set_tending.specs.declared.told.Told.TheVariants.{Message}
 of_came : (p : Plan) (m : Msu) (what : Came) → what ≡ came p.ends m → is_for_user p m ≡ is_for_user_by p.links what
 of_came p m what is = ap (λ (x : Came). is_for_user_by p.links x) (sym is)
 
--- one that is something else than a message for level 3
+-- A message that isn't for level 3.
 pub unheard : (p : Plan) (link : ℕ) (m : Msu) (what : Came) → what ≡ came p.ends m → is_for_user_by p.links what ≡ false → message_told p link m ≡ []
 unheard p link m what is not = ap (λ (b : Bool). if b then Message link m ∷ [] else []) (of_came p m what is ∙ not)
 
--- a link that is there
+-- A link of the set.
 pub of_a_link : (links about : ℕ) → about < links → nat_le links about ≡ false
 of_a_link links about there = grind (arith, nat_tests)

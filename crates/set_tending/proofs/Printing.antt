@@ -1,4 +1,4 @@
--- Texts that are printed one behind another.
+-- Texts that are printed one after another.
 use Rattle.std.proofs.Common.{◌≡◌, ◌∙◌, ℕ, ◌+◌, ◌<◌, ◌^◌, ◌-◌, List, [], ◌∷◌, ◌++◌, length, take, true, false, Some, ap, sym}
 use Rattle.std.specs.List.{flat_map}
 use Rattle.std.specs.Option.{option_map}
@@ -8,7 +8,7 @@ use Rattle.std.proofs.lemmas.List.{take_more, flat_map_more}
 use Rattle.set_tending.specs.Texts.{octet_text}
 use lib.ListN.{get_or}
 
--- what a hole of two digits with zeros in front writes
+-- The output of a format of two digits with leading zeros.
 pub styled_octet : (d : _) (s : _) (octet : ℕ) → octet < 256 → digits_output d ≡ Some (digits 16 true octet) → s ≡ format_spec 32 0 4 2 (2 ^ 64 - 1)
     → styled_digits_output d s ≡ Some (octet_text octet)
 styled_octet d s octet small shown laid =
@@ -16,7 +16,7 @@ styled_octet d s octet small shown laid =
     ∙ ap (λ t. Some (padded_integral t false (shown_prefix t (radix_prefix d.base)) (digits 16 true octet))) laid
     ∙ ap Some (hex_byte true octet small)
 
--- one item more
+-- One more item.
 pub more_at : {X : Type 0} (f : X → List ℕ) (items : List X) (i : ℕ) (d : X) → i < length items
     → flat_map f (take i items) ++ f (get_or items i d) ≡ flat_map f (take (i + 1) items)
 more_at f items i d within = flat_map_more f [] (take i items) (get_or items i d) ∙ ap (flat_map f) (sym (take_more items i d within))

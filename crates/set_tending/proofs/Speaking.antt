@@ -1,4 +1,4 @@
--- Octets that come in and go out on the line of a link, and a round of it.
+-- Octets received and sent on the line of a link, and a round of it.
 use Rattle.std.proofs.Common.{◌≡◌, ◌∙◌, ℕ, ◌+◌, ◌-◌, ◌%◌, ◌<◌, ◌≤◌, ◌==◌, ◌&&◌, nat_le, Bool, true, false, if◌then◌else◌, List, [], ◌∷◌, ◌++◌, append-nil, append_assoc, length-drop, take-append-drop, length, take, drop, replicate, Result, Ok, Err, IfOk, refl, sym, ap, subst, arith}
 use Rattle.std.proofs.lemmas.Bool.Decides.{nat_tests}
 use Rattle.std.proofs.lemmas.List.{replicate_more, take_all}
@@ -12,21 +12,21 @@ use Rattle.set_tending.specs.declared.wire.Wire.{Wire}
 pub speaks_nothing : (link : ℕ) (t : Tended) (v : Voice) (out : List ℕ) → Speaks link 0 t v out t v out
 speaks_nothing link t v out = nothing t v out
 
--- as many as were to go out
+-- As many octets as were to be sent.
 pub speaks_all : (link count gone : ℕ) (t u : Tended) (v x : Voice) (out after : List ℕ) → Speaks link gone t v out u x after → gone ≤ count → count ≤ gone
     → Speaks link count t v out u x after
 speaks_all link count gone t u v x out after speaks most least =
     let whole : gone ≡ count = omega arith in
     subst (λ (n : ℕ). Speaks link n t v out u x after) whole speaks
 
--- one octet more
+-- One more octet.
 pub speaks_more : (link count : ℕ) (t u w : Tended) (v x y : Voice) (out after last : List ℕ) (gives : ℕ)
     → Speaks link count t v out u x after → GivesNext link u x gives w y → last ≡ after ++ gives ∷ []
     → Speaks link (count + 1) t v out w y last
 speaks_more link count t u w v x y out after last gives before next is =
     subst (λ (xs : List ℕ). Speaks link (count + 1) t v out w y xs) (sym is) (octet gives before next)
 
--- ---- a round in which nothing came
+-- ---- a round without received octets
 
 none_low : (ahead q : ℕ) → q < PATIENCE → ahead_at ahead q ≡ []
 none_low ahead q low =
@@ -57,7 +57,7 @@ passed_silent q is =
     let e : (q == PATIENCE) ≡ true = grind (arith, nat_tests) in
     sym (ap (λ (b : Bool). if b then Silent else Same) e)
 
--- 1s that go out
+-- Sending 1s.
 pub silent_none : (out : List ℕ) → out ≡ out ++ replicate 0 SILENCE
 silent_none out = sym (append-nil out)
 
@@ -74,13 +74,13 @@ silent_all out after ahead gone is most least =
     let whole : gone ≡ ahead = omega arith in
     is ∙ ap (λ (n : ℕ). out ++ replicate n SILENCE) whole
 
--- ---- what is heard
+-- ---- octets heard
 
 none_in : (octets : List ℕ) → length octets ≡ 0 → octets ≡ []
 none_in [] none_there = refl
 none_in (x ∷ octets) none_there = absurd (omega (arith, none_there))
 
--- all that stands behind some octets
+-- All octets after the first `gone`.
 pub all_behind : (octets : List ℕ) (gone : ℕ) → take (length octets - gone) (drop gone octets) ≡ drop gone octets
 all_behind octets gone = take_all (length octets - gone) (drop gone octets) (omega (arith, length-drop gone octets))
 
@@ -90,7 +90,7 @@ is_none octets b is shown = none_in octets (grind (arith, nat_tests))
 pub is_some_there : (octets : List ℕ) (b : Bool) → b ≡ (length octets == 0) → b ≡ false → 0 < length octets
 is_some_there octets b is denied = grind (arith, nat_tests)
 
--- so much of some octets was heard, and the rest wasn't yet
+-- Some first octets were heard, the rest not yet.
 pub record HeardSoFar (link : ℕ) (t : Tended) (octets rest : List ℕ) (u : Tended) : Type 0 where
   pub heard : List ℕ
   pub hears : Hears link t heard u
@@ -125,9 +125,9 @@ hears_silence link q t u high hears =
     let e : nat_le PATIENCE q ≡ true = grind (arith, nat_tests) in
     subst (λ (xs : List ℕ). Hears link t xs u) (sym (ap (λ (b : Bool). if b then SILENT else []) e)) hears
 
--- ---- a round in which nothing came
+-- ---- a round without received octets
 
--- it isn't taken for silent yet
+-- The line doesn't count as silent yet.
 pub waits_on : (link ahead quiet next : ℕ) (t : Tended) (out : List ℕ) → next ≡ rounds_on quiet → next < PATIENCE
     → Waits link ahead quiet t out Same t out next
 waits_on link ahead quiet next t out next_is low = record {
@@ -137,7 +137,7 @@ waits_on link ahead quiet next t out next_is low = record {
   passed_is = passed_same next (λ is. omega arith);
 }
 
--- it is silent, between two times at which octets go out
+-- The line is silent, and no 1s are sent in this round.
 pub waits_between : (link ahead quiet next : ℕ) (t u : Tended) (out : List ℕ) → next ≡ rounds_on quiet → PATIENCE ≤ next → (next % PATIENCE ≡ 0 → ⊥)
     → Hears link t SILENT u → Waits link ahead quiet t out Same u out next
 waits_between link ahead quiet next t u out next_is high between hears = record {
@@ -147,7 +147,7 @@ waits_between link ahead quiet next t u out next_is high between hears = record 
   passed_is = passed_same next (λ is. between (ap (λ (n : ℕ). n % PATIENCE) is));
 }
 
--- it falls silent
+-- The line falls silent.
 pub waits_first : (link ahead quiet next : ℕ) (t u : Tended) (out after : List ℕ) → next ≡ rounds_on quiet → next ≡ PATIENCE
     → after ≡ out ++ replicate ahead SILENCE → Hears link t SILENT u → Waits link ahead quiet t out Silent u after next
 waits_first link ahead quiet next t u out after next_is first after_is hears = record {
@@ -157,7 +157,7 @@ waits_first link ahead quiet next t u out after next_is first after_is hears = r
   passed_is = passed_silent next first;
 }
 
--- it is silent, and octets go out anew
+-- The line is silent, and 1s are sent again.
 pub waits_anew : (link ahead quiet next : ℕ) (t u : Tended) (out after : List ℕ) → next ≡ rounds_on quiet → PATIENCE ≤ next → next % PATIENCE ≡ 0
     → (next ≡ PATIENCE → ⊥) → after ≡ out ++ replicate ahead SILENCE → Hears link t SILENT u → Waits link ahead quiet t out Same u after next
 waits_anew link ahead quiet next t u out after next_is high whole later after_is hears = record {

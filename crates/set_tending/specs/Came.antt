@@ -1,4 +1,4 @@
--- What a message that came is to a set.
+-- What a received message is to a set.
 use Rattle.std.specs.Prelude.{ℕ, ◌==◌, ◌/◌, ◌%◌, ◌&&◌, nat_lt, Bool, if◌then◌else◌, List, [], ◌∷◌}
 use Rattle.std.specs.Prelude.{Option, Some, None, drop, length}
 use Rattle.resend_store.specs.declared.messages.Msu.{Msu}
@@ -12,18 +12,18 @@ use Rattle.set_tending.specs.declared.came.Came.TheVariants.{Message, Changeover
 use Rattle.set_tending.specs.declared.came.Came.TheVariants.{Test, Answer, Own}
 use Rattle.set_tending.specs.declared.ends.Ends.{Ends}
 
--- from the other point to this one
+-- The label leads from the other point to this one.
 abbrev pub comes_between : Ends → Label → Bool
 comes_between e label = label.dpc == e.own && label.opc == e.peer
 
--- a heading alone: ECO 18, ECA 34
+-- The message with only a heading: ECO 18, ECA 34.
 abbrev pub by_heading : ℕ → ℕ → Came
 by_heading link heading =
     if heading == 18 then Changeover link kind.EmergencyOrder
     else (if heading == 34 then Changeover link kind.EmergencyAcknowledgement else Message)
 
--- a heading and an octet: COO 17, COA 33 and the number of the last message accepted, whose spare
--- bit is ignored; a changeback declaration 81 and its code
+-- A heading and an octet: COO 17 and COA 33 with the number of the last accepted message, whose
+-- spare bit is ignored; a changeback declaration 81 with its code.
 abbrev pub by_pair : ℕ → ℕ → ℕ → Came
 by_pair link heading octet =
     if heading == 17 then Changeover link (kind.Order (octet % 128))
@@ -36,7 +36,7 @@ management_in link (heading ∷ []) = by_heading link heading
 management_in link (heading ∷ octet ∷ []) = by_pair link heading octet
 management_in link (heading ∷ octet ∷ more ∷ others) = Message
 
--- a test or its answer, with a pattern that is as long as it says
+-- A test or its answer, if the pattern has the stated length.
 abbrev pub test_by : ℕ → ℕ → Bool → Came
 test_by link heading whole =
     if heading == 17 && whole then Test link
@@ -53,14 +53,14 @@ content_in indicator link content =
     if indicator == 0 then management_in link content
     else (if indicator == 1 then test_in link content else Message)
 
--- of the set's own network, by the network indicator
+-- The message is of the set's own network, by its network indicator.
 abbrev pub is_of : Ends → Msu → Bool
 is_of e m = m.sio / 64 == e.network
 
 abbrev pub points_of : Ends → Points
 points_of e = record { own = e.own; peer = e.peer }
 
--- one of those that only this end sends, by a link: its line leads back here
+-- The message is one that only this end sends by a link: the link's line leads back here.
 abbrev pub comes_back : Ends → Msu → Bool
 comes_back e m = is_bound (points_of e) m
 
@@ -73,7 +73,6 @@ abbrev pub came_by : Ends → Msu → Option Label → Came
 came_by e m None = Message
 came_by e m (Some label) = came_within e m label (drop 4 m.sif.items)
 
--- What is none of these, what isn't between these points, and what is of another network, is for
--- level 3.
+-- Other messages, those not between these points, and those of another network are for level 3.
 unfoldable pub came : Ends → Msu → Came
 came e m = if is_of e m then came_by e m (label_in m.sif.items) else Message

@@ -1,4 +1,4 @@
--- What is kept of each link, and how it changes.
+-- The state that is kept of each link, and how it changes.
 use Rattle.std.specs.Prelude.{ℕ, ◌+◌, ◌-◌, ◌^◌, ◌%◌, ◌==◌, ◌&&◌, ◌||◌, nat_le, not, Bool, true}
 use Rattle.std.specs.Prelude.{false}
 use Rattle.std.specs.Prelude.{if◌then◌else◌, min, max, Option, Some, None}
@@ -26,18 +26,18 @@ REST = 1000
 abbrev pub LAST : ℕ
 LAST = 2 ^ 64 - 1
 
--- ticks later; it stays at its greatest value
+-- A later tick; it stays at its greatest value.
 abbrev pub later : ℕ → ℕ → ℕ
 later now ticks = min LAST (now + ticks)
 
--- an order, and one that waits for a link to go by
+-- Whether a message is an order, and whether it waits for a link by which to be sent.
 abbrev pub is_order : Owed → Bool
 is_order o = is_kind_order o.kind
 
 abbrev pub waits : Owed → Bool
 waits o = is_none o.by
 
--- nothing happened
+-- The state before any event.
 abbrev pub new_care : Care
 new_care = record {
   powered = false;
@@ -59,8 +59,8 @@ new_care = record {
   handed = 0;
 }
 
--- it comes into service: its test begins now, and what was to be said of it speaks of numbers that
--- are no more
+-- It comes into service: its test begins now. A message owed about it is dropped, since its
+-- sequence numbers are no longer valid.
 unfoldable pub risen : ℕ → Care → Care
 risen now c =
     record c { serves = true; served = true; urgent = false; owed = None; test = Rests now }
@@ -69,7 +69,7 @@ abbrev pub due_if : Bool → ℕ → Option ℕ
 due_if true at = Some at
 due_if false at = None
 
--- it goes down: where it is to be in service its Start falls due 1,000 ticks later
+-- It goes down: if it is to be in service, its Start falls due 1,000 ticks later.
 unfoldable pub fallen : ℕ → Care → Care
 fallen now c = record c {
   serves = false;
@@ -80,7 +80,7 @@ fallen now c = record c {
   due = due_if c.wanted (later now REST);
 }
 
--- it is to be in service: its Start falls due now, and not before 1,000 ticks behind its last Down
+-- It is to be in service: its Start falls due now, but not before 1,000 ticks after its last Down.
 unfoldable pub desired : ℕ → Care → Care
 desired now c = record c {
   wanted = true;
@@ -103,20 +103,20 @@ handed_out count c = record c { handed = count }
 abbrev pub tested : Testing → Care → Care
 tested test c = record c { test = test }
 
--- one more test of it; the number has 16 bits
+-- One more test of it was sent; the number has 16 bits.
 abbrev pub numbered : Care → Care
 numbered c = record c { tests = (c.tests + 1) % 2 ^ 16 }
 
 abbrev pub owing : Option Owed → Care → Care
 owing owed c = record c { owed = owed }
 
--- its changeover goes on, and its messages aren't handed out
+-- Its changeover goes on, and its messages aren't retrieved.
 abbrev pub is_open_by : Option Link → Bool
 is_open_by k = changing_by k && is_none (hand_count k)
 
--- What is owed about a link a tick later. It is owed for 1,400 ticks, of which those count in which
--- another link would take it; an order that waits is owed while the link's changeover waits for an
--- answer, and not once its messages only wait for diversion.
+-- The message owed about a link one tick later. It is owed for 1,400 ticks, counting those in which
+-- another link would take it. An order that waits is owed while the changeover waits for an answer,
+-- not once the link's messages only wait for diversion.
 abbrev pub left_on : Bool → Owed → ℕ
 left_on is_taken o = if is_taken then o.left - 1 else o.left
 
@@ -132,22 +132,22 @@ owed_by is_taken is_open (Some o) =
 unfoldable pub owed_on : Bool → Bool → Care → Option Owed
 owed_on is_taken is_open c = owed_by is_taken is_open c.owed
 
--- messages of it were told as unsure: nothing is owed about it
+-- Its messages were reported as unsure: nothing is owed about it.
 abbrev pub given_up : Care → Care
 given_up c = record c { owed = None }
 
--- it was started: its Start isn't due any more, and nothing is owed about its service before
+-- It was started: its Start is no longer due, and nothing is owed about its earlier service.
 abbrev pub begun : Care → Care
 begun c = record c { started = true; renewed = true; due = None; owed = None }
 
--- COO and COA tell a number; ECO and ECA don't
+-- COO and COA contain a number; ECO and ECA don't.
 abbrev pub is_numbered : Kind → Bool
 is_numbered (kind.Order accepted) = true
 is_numbered (kind.Acknowledgement accepted) = true
 is_numbered kind.EmergencyOrder = false
 is_numbered kind.EmergencyAcknowledgement = false
 
--- No number is said of a link that was started, before its next changeover begins here.
+-- From its start until its next changeover begins here, no number is sent about a link.
 abbrev pub may_say : Care → Kind → Bool
 may_say c k = not (c.renewed && is_numbered k)
 
@@ -157,12 +157,12 @@ without_number (kind.Acknowledgement accepted) = kind.EmergencyAcknowledgement
 without_number kind.EmergencyOrder = kind.EmergencyOrder
 without_number kind.EmergencyAcknowledgement = kind.EmergencyAcknowledgement
 
--- what is said of it in place of this
+-- The message to send about it instead of this.
 abbrev pub spoken : Care → Kind → Kind
 spoken c k = if c.renewed then without_number k else k
 
--- It comes into service as an emergency where that was ordered, or where no other link is in
--- service and nothing was ordered.
+-- It starts as an emergency if that was ordered, or if nothing was ordered and no other link is in
+-- service.
 abbrev pub is_emergency_by : Bool → Urgency → Bool
 is_emergency_by another_serves Open = not another_serves
 is_emergency_by another_serves Emergency = true
@@ -171,8 +171,7 @@ is_emergency_by another_serves Calm = false
 abbrev pub is_emergency : Bool → Care → Bool
 is_emergency another_serves c = is_emergency_by another_serves c.urgency
 
--- An emergency that was declared of it ends once another link carries messages, unless it was
--- ordered.
+-- Its declared emergency ends once another link carries messages, unless it was ordered.
 abbrev pub is_eased_by : Bool → Bool → Urgency → Bool
 is_eased_by another_carries urgent Open = urgent && another_carries
 is_eased_by another_carries urgent Emergency = false
@@ -184,11 +183,11 @@ is_eased another_carries c = is_eased_by another_carries c.urgent c.urgency
 abbrev pub urged : Bool → Care → Care
 urged urgent c = record c { urgent = urgent }
 
--- a tick passed in which the answer of its changeover could come
+-- A tick passed in which the answer of its changeover could arrive.
 abbrev pub waited : Care → Care
 waited c = record c { patience = c.patience - 1 }
 
--- it is on its way into service: it was started, or is to be, and may be
+-- It is coming into service: it was started, or its Start is pending and allowed.
 abbrev pub is_coming : Bool → Care → Bool
 is_coming may_start c = c.started || (may_start && is_some c.due)
 
@@ -197,6 +196,6 @@ due_by c now None = None
 due_by c now (Some due) =
     if nat_le due now && (c.wanted && (c.powered && not c.started)) then Some due else None
 
--- since which tick its Start has been due
+-- The tick since which its Start has been due.
 unfoldable pub is_due : ℕ → Care → Option ℕ
 is_due now c = due_by c now c.due

@@ -1,18 +1,18 @@
--- The messages that a set sends of its own: changeover, changeback and traffic restart (Q.704,
--- 15.4, 15.5, 15.16), and tests of a link (Q.707, 2.2).
+-- The messages that a set sends itself: changeover, changeback and traffic restart (Q.704, 15.4,
+-- 15.5, 15.16), and link tests (Q.707, 2.2).
 use Rattle.std.specs.Prelude.{◌≡◌, ℕ, ◌+◌, ◌*◌, ◌<◌, ◌^◌, List, [], ◌∷◌, ◌++◌, Some, drop}
 use Rattle.resend_store.specs.declared.messages.Msu.{Msu}
 use Rattle.group_changeover.specs.Labels.{label_in}
 use Rattle.set_tending.specs.declared.ends.Ends.{Ends}
 
--- point codes have 14 bits, the network indicator 2
+-- Point codes have 14 bits, the network indicator 2.
 pub record AreEnds (e : Ends) : Type 0 where
   pub own : e.own < 2 ^ 14
   pub peer : e.peer < 2 ^ 14
   pub network : e.network < 4
 
--- a message from this point to the other with this service indicator, about this link, and what
--- stands behind its label
+-- A message from this point to the other about this link, with this service indicator and these
+-- octets after its label.
 pub record IsAbout (e : Ends) (indicator link : ℕ) (content : List ℕ) (m : Msu) : Type 0 where
   pub sio : m.sio ≡ e.network * 64 + indicator
   pub label : label_in m.sif.items ≡ Some (record { dpc = e.peer; opc = e.own; sls = link })
@@ -25,9 +25,9 @@ MANAGEMENT = 0
 abbrev pub TESTING : ℕ
 TESTING = 1
 
--- behind the label, in decimal: changeback acknowledgement 97 and the code that came, traffic
--- restart allowed 23, a test 17 with four octets, whose number stands in the upper half of an
--- octet, and the answer to a test 33, with what stood behind the test's heading
+-- After the label, in decimal: changeback acknowledgement 97 with the received code; traffic
+-- restart allowed 23; a test 17 with its length (the upper half of an octet) and four octets; a
+-- test's answer 33 with the octets after the test's heading.
 abbrev pub back_declared : ℕ → List ℕ
 back_declared code = 97 ∷ code ∷ []
 

@@ -1,5 +1,5 @@
--- What a set that tends itself has done over a time: messages that it took, reports that its links
--- handed out, and those that were told.
+-- The history of a set that manages itself: messages that it took, reports that its links
+-- delivered, and reports that it made.
 use Rattle.std.specs.Prelude.{◌≡◌, List, [], ◌∷◌, ◌++◌}
 use Rattle.resend_store.specs.declared.messages.Msu.{Msu}
 use Rattle.link_group.specs.Set.{LinkSet}
@@ -9,9 +9,9 @@ use Rattle.set_tending.specs.Telling.{report_told}
 use Rattle.set_tending.specs.Tended.{Tended}
 use Rattle.set_tending.specs.declared.told.Told.{Told}
 
--- From one state to another: the messages that `send` took, the reports that links handed out, and
--- those that were told, each in their order. What is told of a report waits behind the others, and
--- what is told is taken from the front.
+-- From one state to another: the messages that `send` took, the reports that links delivered, and
+-- those that the set made, each in order. New reports are queued last, and are taken from the
+-- front.
 pub data Lives (t : Tended) : List Msu → List Handed → List Told → Tended → Type 0 where
   begins : Lives t [] [] [] t
   calls : {sent : List Msu} {handed : List Handed} {told : List Told} {u : Tended}
@@ -30,7 +30,7 @@ pub data Lives (t : Tended) : List Msu → List Handed → List Told → Tended 
   ticks : {sent : List Msu} {handed : List Handed} {told : List Told} {u : Tended} (w : Tended)
       → Lives t sent handed told u → Ticks u w → Lives t sent handed told w
 
--- so it was for some reports of links
+-- Such a history exists, for some reports of links.
 pub record Lived (t : Tended) (sent : List Msu) (told : List Told) (u : Tended) : Type 0 where
   pub handed : List Handed
   pub lives : Lives t sent handed told u

@@ -1,4 +1,4 @@
--- What the calls of a set that tends itself do. All that becomes of the set is by its calls.
+-- The calls of a set that manages itself. The set changes only by its calls.
 use Rattle.std.specs.Prelude.{◌≡◌, ℕ, ◌+◌, ◌^◌, ◌-◌, ◌<◌, min, List, [], ◌∷◌, ◌++◌, length}
 use Rattle.std.specs.Prelude.{None, Some}
 use Rattle.std.specs.List.{flat_map}
@@ -14,50 +14,50 @@ use Rattle.set_tending.specs.Tended.{Tended}
 use Rattle.set_tending.specs.declared.tender.Plan.{Plan}
 use Rattle.set_tending.specs.declared.told.Told.{Told}
 
--- `send` took these messages, and these reports are told behind those that were to be told.
+-- `send` took these messages, and these reports are queued after those that were pending.
 pub record Acts (taken : List Msu) (tells : List Told) (old new : Tended) : Type 0 where
   pub calls : ByCalls old.set taken new.set
   pub plan : new.plan ≡ old.plan
   pub ticks : new.ticks ≡ old.ticks
   pub reports : new.reports ≡ old.reports ++ tells
 
--- `send` took none, and no report is told.
+-- `send` took no message, and no report is queued.
 pub record Does (old new : Tended) : Type 0 where
   pub calls : ByCalls old.set [] new.set
   pub plan : new.plan ≡ old.plan
   pub ticks : new.ticks ≡ old.ticks
   pub reports : new.reports ≡ old.reports
 
--- That is added to what was done: whatever did just that before, has done just that now.
+-- The step can be added to earlier ones: any state that `Does` led from to old leads to new.
 abbrev pub Adds : Tended → Tended → Type 0
 Adds old new = (first : Tended) → Does first old → Does first new
 
 -- ---- reports
 
--- a report that a link handed out
+-- A report that a link delivered.
 pub record Handed : Type 0 where
   pub link : ℕ
   pub report : Report
 
--- a link hands out a report, and nothing else changes
+-- A link delivers a report, and nothing else changes.
 pub record HandsOut (h : Handed) (old new : Tended) : Type 0 where
   pub reports : ByLink (Reported (Some h.report)) h.link old.set new.set
   pub same : new ≡ record old { set = new.set }
 
--- Links hand out reports one after another; before them, and behind each, the rules do what they do
--- by calls of the set.
+-- Links deliver reports one after another; before them and after each, the rules make calls of the
+-- set.
 pub data Heeds (t : Tended) : List Handed → Tended → Type 0 where
   nothing : {u : Tended} → ByCalls t.set [] u.set → Heeds t [] u
   one : {hs : List Handed} {u v w : Tended} (h : Handed)
       → Heeds t hs u → HandsOut h u v → ByCalls v.set [] w.set
       → Heeds t (hs ++ h ∷ []) w
 
--- of what links handed out what is told
+-- The reports made for the reports that links delivered.
 abbrev pub reports_told : Plan → List Handed → List Told
 reports_told p hs = flat_map (λ h. report_told p h.link h.report) hs
 
--- Links were heeded: each message for level 3 that they handed out, and what became of them, is
--- told once, in their order, with the link of which it is.
+-- Links were heeded: each message for level 3 that they delivered and each change of a link is
+-- reported once, in order and with its link.
 pub record IsHeeded (old new : Tended) : Type 0 where
   pub handed : List Handed
   pub heeds : Heeds old handed new
@@ -68,22 +68,22 @@ pub record IsHeeded (old new : Tended) : Type 0 where
 abbrev pub AddsHeeded : Tended → Tended → Type 0
 AddsHeeded old new = (first : Tended) → IsHeeded first old → IsHeeded first new
 
--- Asked for a report behind all that it handed out, a link had none.
+-- Asked for a report after all that it delivered, a link had none.
 pub record HasTold (link : ℕ) (t : Tended) : Type 0 where
   pub before : LinkSet
   pub none_left : ByLink (Reported None) link before t.set
 
--- where it is there
+-- The link has no report left, if it exists.
 abbrev pub ToldAll : ℕ → Tended → Type 0
 ToldAll link t = link < length t.set.links → HasTold link t
 
--- So many links are heeded one after another from the first, each until it has nothing to tell.
+-- The first `count` links are heeded in order, each until it has no report left.
 pub data HeedsEach (t : Tended) : ℕ → Tended → Type 0 where
   no_link : HeedsEach t 0 t
   one_link : {count : ℕ} {u w : Tended}
       → HeedsEach t count u → AddsHeeded u w → ToldAll count w → HeedsEach t (count + 1) w
 
--- All links are heeded, and then the rules do what they do by calls of the set.
+-- All links are heeded, and then the rules make calls of the set.
 pub record Tends (old new : Tended) : Type 0 where
   pub heeded : Tended
   pub heeds : HeedsEach old old.plan.links heeded

@@ -1,4 +1,4 @@
--- Which of the reports that links hand out are told, and in which order.
+-- Which of the reports of links are passed on, and in which order.
 use Rattle.std.specs.Prelude.{ℕ, List, [], ◌∷◌, ◌++◌, Bool, true, false, nat_le, if◌then◌else◌}
 use Rattle.std.specs.List.{flat_map}
 use Rattle.resend_store.specs.declared.messages.Msu.{Msu}
@@ -14,7 +14,7 @@ use Rattle.set_tending.specs.declared.tender.Plan.{Plan}
 use Rattle.set_tending.specs.declared.told.Told.{Told}
 use Rattle.set_tending.specs.declared.told.Told.TheVariants as told
 
--- one for level 3, by what it is; a declaration and a test about no link of the set are too
+-- A message is for level 3, by its kind; so are a declaration and a test about no link of the set.
 abbrev pub is_for_user_by : ℕ → Came → Bool
 is_for_user_by links Message = true
 is_for_user_by links (Changeover about kind) = false
@@ -26,11 +26,11 @@ is_for_user_by links Own = false
 abbrev pub is_for_user : Plan → Msu → Bool
 is_for_user p m = is_for_user_by p.links (came p.ends m)
 
--- of a message that came by a link; nothing where it isn't for level 3
+-- The report for a message received on a link; none if it isn't for level 3.
 abbrev pub message_told : Plan → ℕ → Msu → List Told
 message_told p link m = if is_for_user p m then told.Message link m ∷ [] else []
 
--- of what became of it: that its buffers were emptied is told of none
+-- The report for a change of a link; there is none for cleared buffers.
 abbrev pub status_told : ℕ → LinkStatus → List Told
 status_told link status.InService = told.InService link ∷ []
 status_told link (status.Down reason) = told.Down link reason ∷ []
@@ -38,12 +38,12 @@ status_told link status.RemoteOut = told.FarOut link ∷ []
 status_told link status.RemoteBack = told.FarBack link ∷ []
 status_told link status.Cleared = []
 
--- what is told of a report of a link
+-- The reports made for a report of a link.
 abbrev pub report_told : Plan → ℕ → Report → List Told
 report_told p link (report.Message m) = message_told p link m
 report_told p link (report.Status s) = status_told link s
 
--- what is told, where it is a report of a link
+-- The report itself, if it passes on a report of a link.
 abbrev pub report_in : Told → List Told
 report_in (told.Message link m) = told.Message link m ∷ []
 report_in (told.InService link) = told.InService link ∷ []
@@ -60,6 +60,6 @@ report_in (told.Tested link) = []
 report_in (told.Looped link) = []
 report_in (told.Shared shared) = []
 
--- the reports that are told, in order
+-- The reports that pass on reports of links, in order.
 abbrev pub reports_in : List Told → List Told
 reports_in ts = flat_map report_in ts

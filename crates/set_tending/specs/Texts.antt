@@ -1,4 +1,4 @@
--- What is told, as it is printed: bytes without an end of line, numbers in decimal, messages in
+-- Reports as they are printed: bytes without an end of line, numbers in decimal, messages in
 -- hexadecimal digits.
 use Rattle.std.specs.Prelude.{ℕ, ◌/◌, ◌%◌, true, List, [], ◌∷◌, ◌++◌, Option, None, Some, codes}
 use Rattle.std.specs.List.{flat_map}
@@ -15,15 +15,15 @@ kind_text (kind.Acknowledgement accepted) = codes "COA " ++ decimal accepted
 kind_text kind.EmergencyOrder = codes "ECO"
 kind_text kind.EmergencyAcknowledgement = codes "ECA"
 
--- two digits, `A` to `F` in capitals
+-- Two digits, with capitals `A` to `F`.
 abbrev pub octet_text : ℕ → List ℕ
 octet_text octet = digit_glyph true (octet / 16) ∷ digit_glyph true (octet % 16) ∷ []
 
--- the service information octet first
+-- A message in hexadecimal, its service information octet first.
 abbrev pub message_text : Msu → List ℕ
 message_text m = octet_text m.sio ++ flat_map octet_text m.sif.items
 
--- of a selection, with a space before it
+-- The link of a selection, with a space before it.
 abbrev pub link_text : Option ℕ → List ℕ
 link_text None = codes " -"
 link_text (Some link) = codes " " ++ decimal link

@@ -1,4 +1,4 @@
--- What comes in and what goes out on the line of a link of a set.
+-- The octets received and sent on the line of a link of a set.
 use Rattle.std.specs.Prelude.{◌≡◌, ℕ, ◌+◌, ◌-◌, ◌^◌, ◌%◌, ◌<◌, ◌==◌, ◌&&◌, nat_le, min}
 use Rattle.std.specs.Prelude.{if◌then◌else◌, List, [], ◌∷◌, ◌++◌, length, replicate, take, drop}
 use Rattle.std.specs.Prelude.{Option}
@@ -13,12 +13,12 @@ use Rattle.set_tending.specs.declared.wire.Passed.{Passed}
 use Rattle.set_tending.specs.declared.wire.Passed.TheVariants.{Same, Silent, Back}
 use Rattle.set_tending.specs.declared.wire.Wire.{Wire}
 
--- asked for its next unit, a link gives it, and nothing else changes
+-- Asked for its next unit, a link returns it, and nothing else changes.
 pub record Asks (link : ℕ) (unit : Option units.Unit) (old new : Tended) : Type 0 where
   pub sent : ByLink (Sent unit) link old.set new.set
   pub same : new ≡ record old { set = new.set }
 
--- A link of a set is asked for its next unit; it does nothing else as octets go out.
+-- A link of a set is asked for its next unit; it does nothing else while octets are sent.
 abbrev pub gives_units : ℕ → Tended → Act → Tended → Type 0
 gives_units link t (asked unit) u = Asks link unit t u
 gives_units link t (heard octet) u = ⊥
@@ -29,17 +29,16 @@ gives_units link t (obeyed order answer) u = ⊥
 abbrev pub GivesNext : ℕ → Tended → Voice → ℕ → Tended → Voice → Type 0
 GivesNext link t v octet u w = Gives (gives_units link) t v octet u w
 
--- So many octets go out one after another, behind others: the stuffing of the link's units in turn,
--- and 1s where it gives none.
+-- `count` octets are appended in turn: the stuffing of the link's units, and 1s if it has none.
 pub data Speaks (link : ℕ) : ℕ → Tended → Voice → List ℕ → Tended → Voice → List ℕ → Type 0 where
   nothing : (t : Tended) (v : Voice) (out : List ℕ) → Speaks link 0 t v out t v out
   octet : {count : ℕ} {t u w : Tended} {v x y : Voice} {out after : List ℕ} (gives : ℕ)
       → Speaks link count t v out u x after → GivesNext link u x gives w y
       → Speaks link (count + 1) t v out w y (after ++ gives ∷ [])
 
--- ---- what comes in
+-- ---- received octets
 
--- A link hears the first of some octets, and what it tells is heeded.
+-- A link hears the first of some octets, and its reports are heeded.
 pub record HearsPart (link : ℕ) (old : Tended) (octets left : List ℕ) (new : Tended) : Type 0 where
   pub taken : ℕ
   pub middle : Tended
@@ -48,7 +47,7 @@ pub record HearsPart (link : ℕ) (old : Tended) (octets left : List ℕ) (new :
   pub heeds : AddsHeeded middle new
   pub left_is : left ≡ drop taken octets
 
--- It hears octets, all of them, part by part.
+-- The link hears all octets, part by part.
 pub data Hears (link : ℕ) (t : Tended) : List ℕ → Tended → Type 0 where
   no_part : Hears link t [] t
   one_part : {octets : List ℕ} {u w : Tended} (rest left : List ℕ)
@@ -57,7 +56,7 @@ pub data Hears (link : ℕ) (t : Tended) : List ℕ → Tended → Type 0 where
 
 -- ---- a round
 
--- for so many rounds a line on which nothing comes isn't taken for silent
+-- The rounds without octets after which a line counts as silent.
 abbrev pub PATIENCE : ℕ
 PATIENCE = 1000
 
@@ -67,29 +66,29 @@ SILENCE = 255
 abbrev pub rounds_on : ℕ → ℕ
 rounds_on quiet = min (2 ^ 64 - 1) (quiet + 1)
 
--- what goes out in a round in which nothing came: each 1,000 rounds as many octets of 1s as at the
--- line's beginning
+-- The octets sent in a round without received octets: each 1,000 rounds as many 1s as at the
+-- beginning of the line.
 abbrev pub ahead_at : ℕ → ℕ → List ℕ
 ahead_at ahead quiet =
     if nat_le PATIENCE quiet && (quiet % PATIENCE == 0) then replicate ahead SILENCE else []
 
--- what is heard of a line that is silent, or isn't there
+-- The octets that a link hears from a silent or missing line.
 abbrev pub SILENT : List ℕ
 SILENT = replicate 8 SILENCE
 
--- what is heard in a round in which nothing came
+-- The octets that a link hears in a round without received octets.
 abbrev pub heard_at : ℕ → List ℕ
 heard_at quiet = if nat_le PATIENCE quiet then SILENT else []
 
--- a line falls silent in the 1,000th round in which nothing came
+-- A line falls silent in the 1,000th round without received octets.
 abbrev pub passed_by : ℕ → Passed
 passed_by quiet = if quiet == PATIENCE then Silent else Same
 
--- as octets come, a line that was silent isn't any more
+-- When octets are received, a silent line is no longer silent.
 abbrev pub passed_on : ℕ → Passed
 passed_on quiet = if nat_le PATIENCE quiet then Back else Same
 
--- nothing came in a round
+-- A round without received octets.
 pub record Waits (link ahead quiet : ℕ) (old : Tended) (out : List ℕ) (passed : Passed)
     (new : Tended) (after : List ℕ) (next : ℕ) : Type 0 where
   pub next_is : next ≡ rounds_on quiet
@@ -97,7 +96,7 @@ pub record Waits (link ahead quiet : ℕ) (old : Tended) (out : List ℕ) (passe
   pub out_is : after ≡ out ++ ahead_at ahead next
   pub passed_is : passed ≡ passed_by next
 
--- A round of a line: octets came, which the link heard, and one goes out for each; or none came.
+-- A round of a line: the link heard octets and one is sent for each, or none were received.
 pub data Passes (link ahead : ℕ) (came : List ℕ) (old : Tended) (w : Wire) (out : List ℕ)
     (passed : Passed) (new : Tended) (x : Wire) (after : List ℕ) : Type 0 where
   some : (heard : Tended) → 0 < length came → Hears link old came heard
@@ -107,7 +106,7 @@ pub data Passes (link ahead : ℕ) (came : List ℕ) (old : Tended) (w : Wire) (
   none : came ≡ [] → x.voice ≡ w.voice → Waits link ahead w.quiet old out passed new after x.quiet
       → Passes link ahead came old w out passed new x after
 
--- a line on which nothing came or went
+-- A line on which no octet was received or sent.
 pub record IsNewWire (w : Wire) : Type 0 where
   pub silent : IsSilent w.voice
   pub quiet : w.quiet ≡ 0

@@ -1,4 +1,4 @@
-//! What is done to the set: each is a call of it, or none.
+//! The acts on the set: each is one call of the set, or none.
 ghost use Rattle.std.specs.Prelude.{◌≡◌, [], OnOk, OnErr};
 ghost use Rattle.link_group.specs.Lines.{ByCommand};
 ghost use Rattle.link_group.specs.OneLink.{fault_of};
@@ -11,14 +11,14 @@ use crate::told::Told;
 use group_changeover::{Hearing, Kind, read_changeover};
 use link_group::{Command, CommandError, Heard, Msu, RebalanceError, Sif};
 
-/// What a message of changeover was to the set, and the answer that is due.
+/// How the set took a changeover message, and the answer that is due.
 #[derive(Clone, Copy)]
 pub(crate) struct Noted {
     pub hearing: Hearing,
     pub answer: Option<Kind>,
 }
 
-/// What a message of changeover says, if the field is one.
+/// The kind of a changeover message, if the field is one.
 fn kind_in(sif: &[u8]) -> Option<Kind> {
     match read_changeover(sif) {
         Some(message) => Some(message.kind),
@@ -26,7 +26,7 @@ fn kind_in(sif: &[u8]) -> Option<Kind> {
     }
 }
 
-/// What an answer says, if there is one.
+/// The kind of an answer, if there is one.
 fn answer_in(reply: &Option<Sif>) -> Option<Kind> {
     match reply {
         Some(sif) => kind_in(sif.as_slice()),
@@ -35,7 +35,7 @@ fn answer_in(reply: &Option<Sif>) -> Option<Kind> {
 }
 
 impl Tender {
-    /// All links are admitted, or none.
+    /// Admits all links, or none.
     pub(crate) fn admit_all(&mut self, way: bool)
         ensures { Adds self.old self.new }
     {
@@ -44,7 +44,7 @@ impl Tender {
         }
     }
 
-    /// A link is admitted, or is no more.
+    /// Admits a link, or withdraws it.
     pub(crate) fn admit(&mut self, link: usize, way: bool)
         ensures { Adds self.old self.new }
     {
@@ -54,7 +54,7 @@ impl Tender {
         }
     }
 
-    /// Has a message that is bound to a link go by it. Whether that takes it.
+    /// Sends a message that is bound to a link by it. Returns whether the link takes it.
     pub(crate) fn send_by(&mut self, link: usize, msu: Msu) -> bool
         ensures { Adds self.old self.new }
     {
@@ -67,7 +67,7 @@ impl Tender {
         }
     }
 
-    /// Gives a command to a link, as [`link_group::Group::command`].
+    /// Gives a command to a link, as [`link_group::Group::command`] does.
     fn order(&mut self, link: usize, command: Command) -> Result<(), CommandError>
         ensures adds { Adds self.old self.new }
         ensures ok { OnOk result (ByCommand command link self.old.set self.new.set) }
@@ -78,7 +78,7 @@ impl Tender {
         }
     }
 
-    /// The same. What a link's buffers are emptied of by it is told as unsure.
+    /// Gives a command to a link. Messages that this clears from its buffers are reported as unsure.
     pub(crate) fn give(&mut self, link: usize, command: Command) -> Result<(), CommandError>
         ensures adds { Adds self.old self.new }
         ensures ok { OnOk result (ByCommand command link self.old.set self.new.set) }
@@ -88,7 +88,7 @@ impl Tender {
         self.tell_unsure(link, before)
     }
 
-    /// Tells how many messages more count as unsure than did before. Nothing is owed about the link then.
+    /// Reports how many more messages are unsure than before, if any. Then nothing is owed about the link any more.
     fn tell_unsure(&mut self, link: usize, before: u64) -> Result<(), CommandError>
         ensures { self.new ≡ self.old }
     {
@@ -103,7 +103,7 @@ impl Tender {
         }
     }
 
-    /// Gives a command to a link. Whether it took it.
+    /// Gives a command to a link. Returns whether it took it.
     pub(crate) fn command(&mut self, link: usize, command: Command) -> Result<bool, TendError>
         ensures { Adds self.old self.new }
     {
@@ -116,7 +116,7 @@ impl Tender {
         }
     }
 
-    /// A link fails: its changeover begins. What is to be said of it; none where it isn't there, or its changeover goes on.
+    /// Begins a link's changeover. Returns the message due; none if there is no link or its changeover goes on.
     pub(crate) fn fail(&mut self, link: usize) -> Option<Kind>
         ensures { Adds self.old self.new }
     {
@@ -126,7 +126,7 @@ impl Tender {
         }
     }
 
-    /// The set hears a message of changeover.
+    /// Passes a changeover message to the set.
     pub(crate) fn note(&mut self, sif: &[u8]) -> Noted
         ensures { Adds self.old self.new }
     {
@@ -138,7 +138,7 @@ impl Tender {
         }
     }
 
-    /// A report of a link is to be told.
+    /// Queues a report of a link.
     pub(crate) fn tell_report(&mut self, told: Told) -> Result<(), TendError>
         ensures { OnOk result (Acts [] (report_in told) self.old self.new) }
     {
@@ -148,11 +148,11 @@ impl Tender {
         }
     }
 
-    /// Selections are shared out anew, as [`link_group::Group::rebalance`].
+    /// Shares out selections anew, as [`link_group::Group::rebalance`] does.
     ///
     /// # Errors
     ///
-    /// The same. Nothing changes then.
+    /// Those of [`link_group::Group::rebalance`]. Nothing changes then.
     pub fn rebalance(&mut self) -> Result<(), RebalanceError>
         ensures adds { Adds self.old self.new }
         ensures fault { fault_of result ≡ rebalance_fault self.old.set }

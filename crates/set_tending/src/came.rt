@@ -1,4 +1,4 @@
-//! What a message that came is to a set.
+//! What a received message is to a set.
 ghost use Rattle.std.specs.Prelude.{◌≡◌};
 ghost use Rattle.set_tending.specs.Came.{comes_between, is_of, by_heading, by_pair, management_in, test_by, test_in, content_in, comes_back, came_within, came};
 
@@ -6,24 +6,24 @@ use crate::ends::Ends;
 use group_changeover::{Kind, Label, Points, label_of};
 use link_group::Msu;
 
-/// What a message that came is.
+/// What a received message is.
 #[derive(Clone, Copy, Debug, PartialEq, Eq)]
 pub enum Came {
-    /// One for level 3.
+    /// A message for level 3.
     Message,
-    /// One of changeover, about a link.
+    /// A changeover message about a link.
     Changeover(usize, Kind),
     /// A changeback declaration of a link, with its code.
     Declaration(usize, u8),
     /// A test of a link, with the code of the link that it names.
     Test(usize),
-    /// The answer to one.
+    /// The answer to a test.
     Answer(usize),
-    /// One that this end sent by the link: it came back.
+    /// A message that this end sent by the link: it came back.
     Own,
 }
 
-/// A heading that stands alone.
+/// The message with only a heading.
 fn by_heading(link: usize, heading: u8) -> Came
     ensures { result ≡ by_heading link heading }
 {
@@ -36,7 +36,7 @@ fn by_heading(link: usize, heading: u8) -> Came
     Came::Message
 }
 
-/// A heading and an octet. The spare bit of the number of a message that was accepted is ignored.
+/// The message with a heading and an octet. The spare bit of the accepted sequence number is ignored.
 fn by_pair(link: usize, heading: u8, octet: u8) -> Came
     ensures { result ≡ by_pair link heading octet }
 {
@@ -52,7 +52,7 @@ fn by_pair(link: usize, heading: u8, octet: u8) -> Came
     Came::Message
 }
 
-/// What stands behind the label of a message of network management.
+/// The message of network management with these octets after its label.
 fn management_in(link: usize, octets: &[u8]) -> Came
     ensures { result ≡ management_in link octets.now }
 {
@@ -63,7 +63,7 @@ fn management_in(link: usize, octets: &[u8]) -> Came
     }
 }
 
-/// A heading, where the pattern behind it is as long as it says.
+/// The test message with this heading, if its pattern has the stated length.
 fn test_by(link: usize, heading: u8, whole: bool) -> Came
     ensures { result ≡ test_by link heading whole }
 {
@@ -76,7 +76,7 @@ fn test_by(link: usize, heading: u8, whole: bool) -> Came
     Came::Message
 }
 
-/// What stands behind the label of a test.
+/// The test message with these octets after its label.
 fn test_in(link: usize, octets: &[u8]) -> Came
     ensures { result ≡ test_in link octets.now }
 {
@@ -89,7 +89,7 @@ fn test_in(link: usize, octets: &[u8]) -> Came
     }
 }
 
-/// What stands behind a label, by the service indicator.
+/// The message with this service indicator and these octets after its label.
 fn content_in(indicator: u8, link: usize, octets: &[u8]) -> Came
     ensures { result ≡ content_in indicator link octets.now }
 {
@@ -115,7 +115,7 @@ impl Ends {
         msu.sio / 64 == self.network
     }
 
-    /// Whether a message is one of those that are bound to a link, from this point to the other.
+    /// Whether a message is bound to a link, from this point to the other.
     fn comes_back(self, msu: &Msu) -> bool
         ensures { result ≡ comes_back self msu.now }
     {
@@ -126,7 +126,7 @@ impl Ends {
         points.is_bound(msu)
     }
 
-    /// What a message of the set's own network that came is: its label, and what stands behind it.
+    /// What a received message of the set's own network is, given its label and the octets after it.
     fn came_within(self, msu: &Msu, label: Label, content: &[u8]) -> Came
         ensures { result ≡ came_within self msu.now label content.now }
     {
@@ -139,7 +139,7 @@ impl Ends {
         Came::Message
     }
 
-    /// What a message that came is.
+    /// What a received message is.
     #[tactic(auto, unfolding(crate::specs::Came::came))]
     pub(crate) fn came(self, msu: &Msu) -> Came
         ensures { result ≡ came self msu.now }

@@ -1,43 +1,43 @@
-//! What is kept of each link.
+//! The state that is kept of each link.
 ghost use Rattle.std.specs.Prelude.{◌≡◌, Some};
 ghost use Rattle.set_tending.specs.Cares.{is_order, waits, new_care, risen, fallen, desired, let_be, changing, stopped, handed_out, tested, numbered, owing, left_on, is_over, owed_by, owed_on, given_up, begun, waited, is_coming, is_due, is_emergency, is_eased, urged, is_numbered, may_say, spoken};
 
 use group_changeover::Kind;
 use link_group::Command;
 
-/// Q.704's T2. A message about a link is owed, and its answer waited for, for so many ticks in which another link would take it; a Start that is due
-/// waits for so many at most.
+/// Q.704's T2, in ticks. This long a message about a link is owed and its answer awaited, counting only ticks in which
+/// another link would take messages about it. A due Start waits this long at most.
 pub const PATIENCE: u64 = 1_400;
 
-/// So many ticks after the beginning of a changeover no other link is waited for any more: as long as one takes to come into service.
+/// Ticks after which a changeover stops waiting for another link: as long as one takes to come into service.
 pub const LONGEST: u64 = 14_000;
 
-/// So many ticks after its last Down a link may be started again (Q.704's T17).
+/// Ticks after its last Down before a link may be started again (Q.704's T17).
 pub const REST: u64 = 1_000;
 
-/// A message of changeover that is to go to the other point.
+/// A changeover message to be sent to the other point.
 #[derive(Clone, Copy, Debug, PartialEq, Eq)]
 pub struct Owed {
-    /// What is said.
+    /// The message.
     pub kind: Kind,
-    /// For how many ticks more it is owed, of those in which another link would take it.
+    /// The ticks left for which it is owed; only ticks count in which another link would take it.
     pub left: u64,
-    /// The link by which it went, where it did.
+    /// The link by which it was sent, if it was.
     pub by: Option<usize>,
 }
 
-/// How a link's test goes (Q.707, 2.2).
+/// The state of a link's test (Q.707, 2.2).
 #[derive(Clone, Copy, Debug, PartialEq, Eq)]
 pub enum Testing {
-    /// None runs. The next begins at this tick.
+    /// No test runs. The next begins at this tick.
     Rests(u64),
-    /// Its test message isn't answered. It counts as failed at this tick.
+    /// The first test message is unanswered; it fails at this tick.
     Runs(u64),
-    /// Nor is the one that was sent in its place.
+    /// The second test message is unanswered too; it fails at this tick.
     RunsAgain(u64),
 }
 
-/// Whether a message of changeover tells a number.
+/// Whether a changeover message contains a sequence number.
 fn is_numbered(kind: Kind) -> bool
     ensures { result ≡ is_numbered kind }
 {
@@ -47,25 +47,25 @@ fn is_numbered(kind: Kind) -> bool
     }
 }
 
-/// What level 3 ordered last of a link's emergency.
+/// The last order of level 3 about a link's emergency.
 #[derive(Clone, Copy, Debug, PartialEq, Eq)]
 pub enum Urgency {
-    /// Nothing.
+    /// No order.
     Open,
-    /// That it is one.
+    /// It is an emergency.
     Emergency,
-    /// That it is none.
+    /// It is no emergency.
     Calm,
 }
 
-/// What is kept of a link.
+/// The state that is kept of a link.
 #[derive(Clone, Copy, Debug, PartialEq, Eq)]
 pub struct Care {
     /// Its power was switched on.
     pub powered: bool,
     /// It is to be in service.
     pub wanted: bool,
-    /// It is in service, by what was heard last.
+    /// It is in service, by its last report.
     pub serves: bool,
     /// It has been in service.
     pub served: bool,
@@ -77,28 +77,28 @@ pub struct Care {
     pub stopping: bool,
     /// The tick from which it may be started.
     pub rested: u64,
-    /// The tick at which its Start falls due, where that is to come.
+    /// The tick at which its Start falls due, if a Start is pending.
     pub due: Option<u64>,
-    /// This side's processor is out, as was ordered.
+    /// The local processor is out, by order.
     pub outage: bool,
-    /// What was ordered of its emergency.
+    /// The order about its emergency.
     pub urgency: Urgency,
-    /// An emergency of it was declared, and hasn't ended since.
+    /// An emergency was declared for it, and hasn't ended since.
     pub urgent: bool,
-    /// For how many ticks more the answer of its changeover is waited for, of those in which another link takes messages about it.
+    /// Ticks left to wait for its changeover's answer, counting those in which another link takes messages about it.
     pub patience: u64,
-    /// What is to be said of it.
+    /// The changeover message owed about it.
     pub owed: Option<Owed>,
     /// Its test.
     pub test: Testing,
-    /// How many tests of it were sent.
+    /// The number of tests sent, modulo 2^16.
     pub tests: u16,
-    /// How many messages it handed out last.
+    /// The number of messages last retrieved from it.
     pub handed: usize,
 }
 
 impl Owed {
-    /// Whether it is an order.
+    /// Whether it is an order, COO or ECO.
     pub fn is_order(self) -> bool
         ensures { result ≡ is_order self }
     {
@@ -108,14 +108,14 @@ impl Owed {
         }
     }
 
-    /// Whether it waits for a link to go by.
+    /// Whether it waits for a link by which to be sent.
     pub fn waits(self) -> bool
         ensures { result ≡ waits self }
     {
         self.by.is_none()
     }
 
-    /// For how many ticks more it is owed a tick later.
+    /// The ticks left for which it is owed, one tick later.
     fn left_on(self, is_taken: bool) -> u64
         ensures { result ≡ left_on is_taken self }
     {
@@ -126,14 +126,14 @@ impl Owed {
         }
     }
 
-    /// Whether it isn't owed any more a tick later.
+    /// Whether it is no longer owed one tick later.
     fn is_over(self, is_taken: bool, is_open: bool) -> bool
         ensures { result ≡ is_over is_taken is_open self }
     {
         self.left_on(is_taken) == 0 || (self.is_order() && (self.waits() && !is_open))
     }
 
-    /// The same a tick later.
+    /// The message one tick later, if it is still owed.
     fn on(self, is_taken: bool, is_open: bool) -> Option<Owed>
         ensures { result ≡ owed_by is_taken is_open (Some self) }
     {
@@ -148,7 +148,7 @@ impl Owed {
 }
 
 impl Care {
-    /// Nothing happened.
+    /// The state before any event.
     pub fn new() -> Care
         ensures { result ≡ new_care }
     {
@@ -173,7 +173,7 @@ impl Care {
         }
     }
 
-    /// It comes into service. What was to be said of it speaks of numbers that are no more.
+    /// It comes into service. A message owed about it is dropped: its sequence numbers are no longer valid.
     #[tactic(auto, unfolding(crate::specs::Cares::risen))]
     pub fn risen(self, now: u64) -> Care
         ensures { result ≡ risen now self }
@@ -222,7 +222,7 @@ impl Care {
         }
     }
 
-    /// It isn't any more.
+    /// It is no longer to be in service.
     #[tactic(auto, unfolding(crate::specs::Cares::let_be))]
     pub fn let_be(self) -> Care
         ensures { result ≡ let_be self }
@@ -234,7 +234,7 @@ impl Care {
         }
     }
 
-    /// It is to be in service from now on, or isn't any more, where a command says so.
+    /// It is to be in service from now on, or no longer, if the command is Start or Stop.
     pub fn asked(self, command: Command, now: u64) -> Care {
         match command {
             Command::Start => self.desired(now),
@@ -243,7 +243,7 @@ impl Care {
         }
     }
 
-    /// It took a command: it has power, this side's processor is out, or is back, or its emergency begins or ends.
+    /// It took a command: power on, a local processor outage or its end, or the begin or end of its emergency.
     pub fn obeyed(self, command: Command) -> Care {
         match command {
             Command::PowerOn => Care {
@@ -283,28 +283,28 @@ impl Care {
         }
     }
 
-    /// It was stopped, or wasn't.
+    /// Whether it was stopped and hasn't gone down since.
     pub fn stopped(self, stopping: bool) -> Care
         ensures { result ≡ stopped stopping self }
     {
         Care { stopping, ..self }
     }
 
-    /// It handed out so many messages.
+    /// `handed` messages were retrieved from it.
     pub fn handed(self, handed: usize) -> Care
         ensures { result ≡ handed_out handed self }
     {
         Care { handed, ..self }
     }
 
-    /// How its test goes from now on.
+    /// The new state of its test.
     pub fn tested(self, test: Testing) -> Care
         ensures { result ≡ tested test self }
     {
         Care { test, ..self }
     }
 
-    /// One more test of it.
+    /// One more test of it was sent.
     pub fn numbered(self) -> Care
         ensures { result ≡ numbered self }
     {
@@ -314,14 +314,14 @@ impl Care {
         }
     }
 
-    /// A message about it is owed.
+    /// The message owed about it.
     pub fn owing(self, owed: Option<Owed>) -> Care
         ensures { result ≡ owing owed self }
     {
         Care { owed, ..self }
     }
 
-    /// What is owed about it a tick later, whether another link would take it, and whether its changeover waits for the answer.
+    /// The message owed about it one tick later; `is_open`: its changeover waits for an answer.
     #[tactic(auto, unfolding(crate::specs::Cares::owed_on))]
     pub fn owed_on(self, is_taken: bool, is_open: bool) -> Option<Owed>
         ensures { result ≡ owed_on is_taken is_open self }
@@ -332,14 +332,14 @@ impl Care {
         }
     }
 
-    /// Messages of it were told as unsure: nothing that is to be said of it helps any more.
+    /// Its messages were reported as unsure, so a message about it is of no use any more.
     pub fn given_up(self) -> Care
         ensures { result ≡ given_up self }
     {
         Care { owed: None, ..self }
     }
 
-    /// It was started: what was to be said of it speaks of the service before.
+    /// It was started: a message owed about it refers to its earlier service, and is dropped.
     pub fn begun(self) -> Care
         ensures { result ≡ begun self }
     {
@@ -351,14 +351,14 @@ impl Care {
         }
     }
 
-    /// Whether this is said of it: nothing with a number once it was started, before its next changeover begins here.
+    /// Whether this may be sent about it: no number from its start until its next changeover begins here.
     pub fn may_say(self, kind: Kind) -> bool
         ensures { result ≡ may_say self kind }
     {
         !(self.renewed && is_numbered(kind))
     }
 
-    /// What is said of it in place of this: the emergency one, where the number isn't to be said.
+    /// The message to send about it instead of this: the emergency one if no number may be sent.
     pub fn spoken(self, kind: Kind) -> Kind
         ensures { result ≡ spoken self kind }
     {
@@ -373,7 +373,7 @@ impl Care {
         }
     }
 
-    /// Whether it comes into service as an emergency: as was ordered; where nothing was, while no other link is in service.
+    /// Whether it starts as an emergency: as ordered, or, without an order, if no other link is in service.
     pub fn is_emergency(self, another_serves: bool) -> bool
         ensures { result ≡ is_emergency another_serves self }
     {
@@ -384,7 +384,7 @@ impl Care {
         }
     }
 
-    /// Whether an emergency that was declared of it ends: once another link carries messages, unless it was ordered.
+    /// Whether its declared emergency ends: once another link carries messages, unless it was ordered.
     pub fn is_eased(self, another_carries: bool) -> bool
         ensures { result ≡ is_eased another_carries self }
     {
@@ -394,14 +394,14 @@ impl Care {
         }
     }
 
-    /// An emergency of it was declared, or has ended.
+    /// Whether an emergency is declared for it.
     pub fn urged(self, urgent: bool) -> Care
         ensures { result ≡ urged urgent self }
     {
         Care { urgent, ..self }
     }
 
-    /// A tick passed in which the answer of its changeover could come.
+    /// A tick passed in which the answer of its changeover could arrive.
     pub fn waited(self) -> Care
         ensures { result ≡ waited self }
     {
@@ -411,14 +411,14 @@ impl Care {
         }
     }
 
-    /// Whether it is on its way into service: it was started, or is to be, and may be.
+    /// Whether it is coming into service: it was started, or its Start is pending and allowed.
     pub fn is_coming(self, may_start: bool) -> bool
         ensures { result ≡ is_coming may_start self }
     {
         self.started || (may_start && self.due.is_some())
     }
 
-    /// Since which tick its Start has been due, where it is.
+    /// The tick since which its Start has been due, if it is due.
     #[tactic(auto, unfolding(crate::specs::Cares::is_due))]
     pub fn is_due(self, now: u64) -> Option<u64>
         ensures { result ≡ is_due now self }

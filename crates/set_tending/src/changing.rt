@@ -1,4 +1,4 @@
-//! Changeover of links, step by step.
+//! The changeover of links, step by step.
 ghost use Rattle.std.specs.Prelude.{◌≡◌, OnOk};
 ghost use Rattle.set_tending.specs.Rounds.{Adds};
 
@@ -10,7 +10,7 @@ use group_changeover::Answer;
 use link_group::{Command, LinkState};
 
 impl Tender {
-    /// A changeover begins, unless it goes on, and its order is owed.
+    /// Begins a changeover, unless one goes on; its order is then owed.
     pub(crate) fn begin_changeover(&mut self, link: usize) -> Result<(), TendError>
         ensures { OnOk result (Adds self.old self.new) }
     {
@@ -23,7 +23,7 @@ impl Tender {
         self.tell(Told::Changeover(link))
     }
 
-    /// A link that is held in service is stopped.
+    /// Stops a link that is in service while held.
     pub(crate) fn stop_held(&mut self, link: usize, state: LinkState) -> Result<(), TendError>
         ensures { OnOk result (Adds self.old self.new) }
     {
@@ -35,7 +35,7 @@ impl Tender {
         Ok(())
     }
 
-    /// The next step of a changeover that goes on: the messages are handed out, and diverted.
+    /// The next step of a changeover that goes on: messages are retrieved, then diverted.
     pub(crate) fn change_over(&mut self, link: usize, state: LinkState) -> Result<(), TendError>
         ensures { OnOk result (Adds self.old self.new) }
     {
@@ -51,7 +51,7 @@ impl Tender {
         self.divert_all(link)
     }
 
-    /// A tick passed in a changeover.
+    /// Counts a tick of a changeover in which another link takes messages about the link.
     fn wait_on(&mut self, link: usize)
         ensures { self.new ≡ self.old }
     {
@@ -60,13 +60,13 @@ impl Tender {
         }
     }
 
-    /// Whether a link is on its way into service: it was started, or is to be and may be.
+    /// Whether a link is coming into service: it was started, or its Start is pending and allowed.
     fn is_coming(&self, link: usize) -> bool {
         let may_start = !self.set.in_changeover(link) || self.set.hand(link).is_some();
         self.care(link).is_coming(may_start)
     }
 
-    /// Whether a link other than this one is on its way into service.
+    /// Whether a link other than this one is coming into service.
     fn another_comes(&self, link: usize) -> bool {
         for other in 0..self.len() {
             if other != link && self.is_coming(other) {
@@ -76,8 +76,8 @@ impl Tender {
         false
     }
 
-    /// Whether the answer of a changeover that began so many ticks ago is waited for: for 1,400 ticks in which another link takes messages about the
-    /// link; where none does, for as many, and longer while one is on its way into service.
+    /// Whether a changeover still waits for its answer: for 1,400 ticks in which another link takes messages about the
+    /// link. If none does, it waits 1,400 ticks, and longer while another link is coming into service.
     fn is_waited_for(&self, link: usize, waited: u64) -> bool {
         if self.care(link).patience == 0 {
             return false;
@@ -88,7 +88,7 @@ impl Tender {
         waited < LONGEST && self.another_comes(link)
     }
 
-    /// Has a link hand out its messages. Where it isn't known which of them arrived they are given up, if nothing more is to be waited for.
+    /// Retrieves a link's messages. If it isn't known which of them arrived, they are given up when waiting is over.
     fn hand_out(&mut self, link: usize, is_over: bool) -> Result<(), TendError>
         ensures { OnOk result (Adds self.old self.new) }
     {
@@ -102,7 +102,7 @@ impl Tender {
         }
     }
 
-    /// Gives up the messages of a link that were sent, and keeps the others. Nothing is owed about it any more.
+    /// Gives up the sent messages of a link and keeps the others. No message about it is owed any more.
     fn give_up(&mut self, link: usize, count: usize) -> Result<(), TendError>
         ensures { OnOk result (Adds self.old self.new) }
     {
@@ -115,7 +115,7 @@ impl Tender {
         }
     }
 
-    /// Diverts what a link handed out, as far as it goes.
+    /// Diverts the retrieved messages of a link, as far as possible.
     fn divert_all(&mut self, link: usize) -> Result<(), TendError>
         ensures { OnOk result (Adds self.old self.new) }
     {

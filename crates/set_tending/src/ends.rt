@@ -1,4 +1,4 @@
-//! The points between which a set lies, and the messages that it sends of its own.
+//! The points that a set connects, and the messages that it sends itself.
 ghost use Rattle.std.specs.Prelude.{◌≡◌, ◌<◌, ◌≤◌, ◌^◌, ◌++◌, Some, length};
 ghost use Rattle.group_changeover.specs.Changeovers.{behind_label};
 ghost use Rattle.group_changeover.specs.Labels.{label_in};
@@ -11,24 +11,24 @@ use link_group::Msu;
 /// The service indicator of network management (Q.704, 14.2.1).
 const MANAGEMENT: u8 = 0;
 
-/// That of tests of a link.
+/// The service indicator of link tests.
 const TESTING: u8 = 1;
 
-/// The points between which the links of a set lie, and the network indicator of what the set sends of its own.
+/// The points that the links of a set connect, and the network indicator of the messages that the set sends itself.
 #[derive(Clone, Copy, Debug, PartialEq, Eq)]
 pub struct Ends {
-    /// The code of this point, below 16,384.
+    /// The point code of this point, below 16,384.
     pub own: u16,
-    /// That of the other.
+    /// The point code of the other point, below 16,384.
     pub peer: u16,
-    /// 0 to 3: the upper two bits of the service information octet.
+    /// The network indicator, 0 to 3: the upper two bits of the service information octet.
     pub network: u8,
 }
 
-/// A pattern by which a test of a link is known: the octets behind its length.
+/// The pattern that identifies a link test: the octets after its length.
 pub type Pattern = [u8; 4];
 
-/// The octets of a label: 14 bits of the destination, 14 of the origin, 4 of the selection, the lowest first.
+/// The octets of a label, lowest bits first: 14 bits of the destination, 14 of the origin, 4 of the selection.
 fn label_octets(dpc: u16, opc: u16, sls: u8) -> [u8; 4]
     requires dpc { dpc < 2 ^ 14 }
     requires opc { opc < 2 ^ 14 }
@@ -43,7 +43,7 @@ fn label_octets(dpc: u16, opc: u16, sls: u8) -> [u8; 4]
     ]
 }
 
-/// Octets behind four others, as far as there is room.
+/// A field of a label and these octets.
 fn field(label: [u8; 4], content: &[u8]) -> ArrayVec<u8, 272>
     requires { length content.now ≤ 268 }
     ensures { result.items ≡ label ++ content.now }
@@ -55,14 +55,14 @@ fn field(label: [u8; 4], content: &[u8]) -> ArrayVec<u8, 272>
 }
 
 impl Ends {
-    /// The label of a message from this point to the other about a link.
+    /// The label of a message from this point to the other point about a link.
     fn label(self, link: usize) -> [u8; 4]
         ensures { AreEnds self → link < 16 → label_in result ≡ Some (record { dpc = self.peer; opc = self.own; sls = link }) }
     {
         label_octets(self.peer % 16_384, self.own % 16_384, (link % 16) as u8)
     }
 
-    /// A message from this point to the other about a link.
+    /// A message from this point to the other point about a link.
     fn message(self, indicator: u8, link: usize, content: &[u8]) -> Msu
         requires indicator { indicator < 16 }
         requires few { length content.now ≤ 268 }
@@ -74,7 +74,7 @@ impl Ends {
         }
     }
 
-    /// A message of changeover (Q.704, 15.4).
+    /// A changeover message (Q.704, 15.4).
     pub(crate) fn changeover(self, link: usize, kind: Kind) -> Msu
         ensures { AreEnds self → link < 16 → IsAbout self MANAGEMENT link (behind_label kind) result }
     {
@@ -108,7 +108,7 @@ impl Ends {
         self.message(TESTING, link, &[0x11, 0x40, a, b, c, d])
     }
 
-    /// The answer to a test: its link, its length and its pattern once more. What is longer than a test is left out.
+    /// The answer to a test, with its link, length and pattern. Octets that exceed the length of a test are omitted.
     pub(crate) fn test_answer(self, link: usize, test: &[u8]) -> Msu
         ensures { AreEnds self → link < 16 → length test.now ≤ 16 → IsAbout self TESTING link (answering test.now) result }
     {

@@ -1,22 +1,22 @@
-//! Messages that links hand out, and that are diverted.
+//! Messages that are retrieved from links and diverted.
 ghost use Rattle.set_tending.specs.Rounds.{Adds};
 
 use crate::tender::{TendError, Tender};
 use link_group::{AbandonError, RetrieveError};
 
-/// What a link hands out.
+/// The result of a retrieval from a link.
 #[derive(Clone, Copy, Debug, PartialEq, Eq)]
 pub(crate) enum HandsOut {
-    /// So many messages.
+    /// So many messages were retrieved.
     Messages(usize),
-    /// Nothing: of so many that were sent it isn't known whether they arrived.
+    /// None: of so many sent messages it isn't known whether they arrived.
     Unsure(usize),
-    /// Nothing, for now.
+    /// None, for now.
     Nothing,
 }
 
 impl Tender {
-    /// Has a link hand out its messages.
+    /// Retrieves the messages of a link.
     pub(crate) fn retrieve(&mut self, link: usize) -> Result<HandsOut, TendError>
         ensures { Adds self.old self.new }
     {
@@ -28,7 +28,7 @@ impl Tender {
         }
     }
 
-    /// Has a link hand out what it never sent, and gives up the rest.
+    /// Retrieves the messages that a link never sent, and drops the others.
     pub(crate) fn abandon(&mut self, link: usize) -> Result<HandsOut, TendError>
         ensures { Adds self.old self.new }
     {
@@ -39,7 +39,7 @@ impl Tender {
         }
     }
 
-    /// Diverts what a link handed out, as far as it goes. Whether it handed something out, and all of it went.
+    /// Diverts a link's retrieved messages, as far as possible. Returns whether there were any and all were diverted.
     pub(crate) fn divert(&mut self, link: usize) -> bool
         ensures { Adds self.old self.new }
     {

@@ -1,4 +1,4 @@
-//! What links tell.
+//! Reading the reports of links.
 ghost use Rattle.std.specs.Prelude.{◌≡◌, ◌∷◌, [], OnOk, IfSome, IsNone};
 ghost use Rattle.set_tending.specs.Rounds.{Acts, Adds, AddsHeeded, HandsOut, HeedsEach, ToldAll};
 ghost use Rattle.set_tending.specs.Telling.{report_told, message_told, status_told};
@@ -10,11 +10,11 @@ use crate::told::Told;
 use group_changeover::{Hearing, Kind};
 use link_group::{Command, LinkStatus, Msu, Report};
 
-/// How many ticks lie between two tests of a link (Q.707's T2: 30 to 90 s).
+/// The ticks between two tests of a link (Q.707's T2: 30 to 90 s).
 const BETWEEN_TESTS: u64 = 60_000;
 
 impl Tender {
-    /// Takes all that each link has to tell.
+    /// Takes all reports of each link.
     pub(crate) fn heed_all(&mut self) -> Result<(), TendError>
         ensures { OnOk result (HeedsEach self.old self.old.plan.links self.new) }
     {
@@ -24,11 +24,11 @@ impl Tender {
         Ok(())
     }
 
-    /// Takes all that a link has to tell.
+    /// Takes all reports of a link.
     ///
     /// # Errors
     ///
-    /// Where there is no memory, or after 2^64 - 1 reports.
+    /// If memory runs out, or after 2^64 - 1 reports.
     pub fn heed_link(&mut self, link: usize) -> Result<(), TendError>
         ensures adds { OnOk result (AddsHeeded self.old self.new) }
         ensures told { OnOk result (ToldAll link self.new) }
@@ -42,7 +42,7 @@ impl Tender {
         Err(TendError::NoMemory)
     }
 
-    /// What a link has to tell next.
+    /// The next report of a link, if it has one.
     fn next_report(&mut self, link: usize) -> Option<Report>
         ensures some { IfSome result (λ report. HandsOut (record { link = link; report = report }) self.old self.new) }
         ensures none { IsNone result → Adds self.old self.new }
@@ -54,7 +54,7 @@ impl Tender {
         }
     }
 
-    /// Takes what a link told.
+    /// Takes a report of a link.
     fn heed(&mut self, link: usize, report: Report) -> Result<(), TendError>
         ensures { OnOk result (Acts [] (report_told self.old.plan link report) self.old self.new) }
     {
@@ -64,7 +64,7 @@ impl Tender {
         }
     }
 
-    /// Takes what was told of a link.
+    /// Takes a status report of a link.
     fn heed_status(&mut self, link: usize, status: LinkStatus) -> Result<(), TendError>
         ensures { OnOk result (Acts [] (status_told link status) self.old self.new) }
     {
@@ -81,7 +81,7 @@ impl Tender {
         }
     }
 
-    /// A link went down.
+    /// Handles a link that went down.
     fn go_down(&mut self, link: usize, reason: i32) -> Result<(), TendError>
         ensures { OnOk result (Acts [] (Told.Down link reason ∷ []) self.old self.new) }
     {
@@ -89,7 +89,7 @@ impl Tender {
         self.fall(link)
     }
 
-    /// What is done for a link that went down: its changeover begins, unless it wasn't in service or its changeover goes on.
+    /// Handles a link that went down: begins its changeover, unless it wasn't in service or its changeover goes on.
     fn fall(&mut self, link: usize) -> Result<(), TendError>
         ensures { OnOk result (Adds self.old self.new) }
     {
@@ -103,7 +103,7 @@ impl Tender {
         self.begin_changeover(link)
     }
 
-    /// A link that is tested isn't admitted any more.
+    /// Withdraws a link that is tested from admission.
     fn withdraw(&mut self, link: usize)
         ensures { Adds self.old self.new }
     {
@@ -113,7 +113,7 @@ impl Tender {
         self.admit(link, false);
     }
 
-    /// Takes a message that came by a link.
+    /// Takes a message received on a link.
     fn heed_message(&mut self, link: usize, msu: Msu) -> Result<(), TendError>
         ensures { OnOk result (Acts [] (message_told self.old.plan link msu) self.old self.new) }
     {
@@ -145,10 +145,10 @@ impl Tender {
         }
     }
 
-    /// A message of changeover came about a link that is there, by another one. About one that hasn't been in service an order is answered
-    /// without the set. One that begins no changeover, since it may be a late one, has this end begin its own, if the link is in service: its order
-    /// goes in place of the answer, so that the other end, whose changeover goes on, tells its number once more. Copies of it say nothing then: by the
-    /// number of a late one what is out would be lost.
+    /// Takes a changeover message about a link, received on another link. If the link has never been in service, only
+    /// an order is answered, without the set. An order that begins no changeover in the set may be a late one: if the
+    /// link is in service, this end then begins its own. Its order replaces the answer, so that the other end repeats
+    /// its number. Copies of the late order are ignored: messages still unacknowledged would be lost by its number.
     fn hear_changeover(&mut self, about: usize, kind: Kind, msu: &Msu) -> Result<(), TendError>
         ensures { OnOk result (Adds self.old self.new) }
     {
@@ -175,7 +175,7 @@ impl Tender {
         self.tell(Told::Changeover(about))
     }
 
-    /// An order about a link that hasn't been in service is answered.
+    /// Answers an order about a link that has never been in service.
     fn answer_unknown(&mut self, about: usize, kind: Kind)
         ensures { self.new ≡ self.old }
     {
@@ -187,7 +187,7 @@ impl Tender {
         }
     }
 
-    /// An answer is to be said of a link, if there is one.
+    /// Makes an answer about a link the message owed, if there is one.
     fn owe_answer(&mut self, about: usize, answer: Option<Kind>)
         ensures { self.new ≡ self.old }
     {
@@ -197,8 +197,8 @@ impl Tender {
         }
     }
 
-    /// A changeback declaration came about a link that is there: it is acknowledged by a link that takes messages about others, the one it speaks of
-    /// where no other does, and where that doesn't either by the one by which it came.
+    /// Acknowledges a changeback declaration about a link of the set: by another link that takes messages about it,
+    /// else by the declared link if that takes messages, else by the link on which the declaration came.
     fn acknowledge_declaration(&mut self, came_by: usize, about: usize, code: u8)
         ensures { Adds self.old self.new }
     {
@@ -211,7 +211,7 @@ impl Tender {
         let _sent = self.send_by(by, msu);
     }
 
-    /// A test came that names a link: it is answered by that link, whichever it came by, so that crossed lines pass no test (Q.707, 2.2).
+    /// Answers a test by the link that it names, not the one it came by, so crossed lines pass no test (Q.707, 2.2).
     fn answer_test(&mut self, about: usize, msu: &Msu)
         ensures { Adds self.old self.new }
     {
@@ -220,7 +220,7 @@ impl Tender {
         let _sent = self.send_by(about, answer);
     }
 
-    /// What this end sent by a link came back by it. The link goes out of service, until it is started by an order.
+    /// Handles a message that this end sent by a link and received on it. The link is stopped until an order starts it.
     fn hear_itself(&mut self, link: usize) -> Result<(), TendError>
         ensures { OnOk result (Adds self.old self.new) }
     {
@@ -235,7 +235,7 @@ impl Tender {
         Ok(())
     }
 
-    /// An answer to a test came by a link. It counts where it names that link and has the pattern of the test that runs.
+    /// Takes the answer to a test on a link. It counts if it names this link and has the pattern of the running test.
     fn hear_answer(&mut self, link: usize, about: usize, msu: &Msu) -> Result<(), TendError>
         ensures { OnOk result (Adds self.old self.new) }
     {
@@ -253,7 +253,7 @@ impl Tender {
         self.tell(Told::Tested(link))
     }
 
-    /// Whether a link is admitted, or isn't there.
+    /// Whether a link is admitted, or doesn't exist.
     pub(crate) fn is_admitted(&self, link: usize) -> bool {
         match self.state(link) {
             Some(state) => state.admitted,

@@ -1,5 +1,5 @@
-//! A link set that tends itself, round by round: links that are to be in service are started and tested, a changeover begins as one goes down and is
-//! carried through, and selections are shared out anew. Sequential, and in memory: whoever has lines hands over what comes and takes what is told.
+//! A link set that manages itself, round by round: it starts and tests links, carries out changeovers, and shares out
+//! selections anew. Sequential and in memory: the caller hands over the octets received and takes the reports.
 #![tactic(auto)]
 
 mod acts;

@@ -1,4 +1,4 @@
-//! Orders.
+//! Orders to a set and its links.
 ghost use Rattle.std.specs.Prelude.{◌≡◌, ◌≤◌, ◌∷◌, [], true, false, Some, Err, OnOk, OnErr, map, min, take, slice_get};
 ghost use Rattle.group_changeover.specs.Labels.{label_in};
 ghost use Rattle.group_changeover.specs.Sharing.{link_of, selections};
@@ -14,10 +14,10 @@ use crate::tender::Tender;
 use crate::told::Told;
 use link_group::{Command, CommandError, Label, Msu, SendError};
 
-/// So many messages that a link holds leave no room for more.
+/// The number of messages with which a link is full.
 const MOST_HELD: usize = 256;
 
-/// So many octets that it holds do, 450 ms of a line: an order of changeover and its answer stand behind them.
+/// The number of octets with which a link is full: 450 ms of a line, before any changeover order or answer is sent.
 const MOST_OCTETS: usize = 3_000;
 
 fn is_start(command: Command) -> bool
@@ -40,7 +40,7 @@ fn is_start(command: Command) -> bool
 }
 
 impl Tender {
-    /// How many octets a message that a link holds has.
+    /// The octets of the message at a place among those that a link holds, or 0.
     fn octets_at(&self, link: usize, place: usize) -> usize
         ensures { result ≡ size_of (message_at place (slice_get self.now.set.links link)) }
     {
@@ -50,7 +50,7 @@ impl Tender {
         }
     }
 
-    /// How many octets the first of the messages that a link holds have.
+    /// The octets of the first `held` messages that a link holds.
     fn octets_held(&self, link: usize, held: usize) -> usize
         ensures { result ≡ min LAST (octets_in (take held (held_by (slice_get self.now.set.links link)))) }
     {
@@ -61,7 +61,7 @@ impl Tender {
         octets
     }
 
-    /// Whether a link holds as much as it may.
+    /// Whether a link is full.
     fn is_full(&self, link: usize) -> bool
         ensures { result ≡ is_full_of (slice_get self.now.set.links link) }
     {
@@ -72,7 +72,7 @@ impl Tender {
         self.octets_held(link, held) >= MOST_OCTETS
     }
 
-    /// Whether the link of a selection isn't in changeover, and holds as much as it may.
+    /// Whether the link of a selection is full and not in changeover.
     fn lacks_room(&self, selection: u8) -> bool
         ensures { result ≡ is_full_at self.now.set (link_of self.now.set.table selection) }
     {
@@ -82,7 +82,7 @@ impl Tender {
         }
     }
 
-    /// Whether a message isn't bound to a link, and the link of its selection has no room for it.
+    /// Whether a message isn't bound to a link and the link of its selection has no room for it.
     fn is_refused(&self, label: Label, msu: &Msu) -> bool
         requires { label_in msu.now.sif.items ≡ Some label }
         ensures { result ≡ finds_no_room self.now.set msu.now }
@@ -97,8 +97,8 @@ impl Tender {
     ///
     /// # Errors
     ///
-    /// `E1 Full` also where the link of its selection, which isn't in changeover, holds 256 messages or 3,000 octets, unless the message is bound to a
-    /// link; else those of [`link_group::Group::send`]. Nothing changes then.
+    /// `E1 Full` also if the link of its selection isn't in changeover but holds 256 messages or 3,000 octets, unless
+    /// the message is bound to a link. Else those of [`link_group::Group::send`]. Nothing changes then.
     #[tactic(auto, unfolding(crate::specs::Sending::tended_send_fault))]
     pub fn send(&mut self, label: Label, msu: Msu) -> Result<(), SendError>
         requires { label_in msu.sif.items ≡ Some label }
@@ -115,7 +115,7 @@ impl Tender {
         }
     }
 
-    /// Gives a command to a link, and keeps what follows of it.
+    /// Gives a command to a link, and records its effect in the link's state.
     fn carry_out(&mut self, link: usize, command: Command) -> Result<(), CommandError>
         ensures adds { Adds self.old self.new }
         ensures ok { OnOk result (ByCommand command link self.old.set self.new.set) }
@@ -125,12 +125,12 @@ impl Tender {
         Ok(())
     }
 
-    /// Obeys an order to a link. A link that is to start is started once that is due.
+    /// Obeys an order to a link. With Start the link is started once that is due.
     ///
     /// # Errors
     ///
-    /// Those of [`link_group::Group::command`], and nothing changes in the set then, but where there is no memory to tell what became unsure; for
-    /// Start only that the link isn't there.
+    /// Those of [`link_group::Group::command`]; nothing changes in the set then, unless memory ran out while reporting
+    /// unsure messages. For Start only that the link doesn't exist.
     pub fn obey(&mut self, link: usize, command: Command) -> Result<(), CommandError>
         ensures adds { Adds self.old self.new }
         ensures start { OnOk result (is_start command ≡ true → self.new ≡ self.old) }
@@ -148,7 +148,7 @@ impl Tender {
         self.carry_out(link, command)
     }
 
-    /// The links of selections, as they are told.
+    /// The report of the links of selections.
     pub fn shared_out(&self) -> Told
         ensures { result ≡ Told.Shared (map (link_of self.now.set.table) selections) }
     {

@@ -1,4 +1,4 @@
-//! Messages that are owed to the other point.
+//! Messages owed to the other point.
 ghost use Rattle.std.specs.Prelude.{◌≡◌, false, slice_get, OnOk};
 ghost use Rattle.set_tending.specs.Cares.{is_open_by, may_say};
 ghost use Rattle.set_tending.specs.Rounds.{Adds};
@@ -9,10 +9,10 @@ use crate::told::Told;
 use group_changeover::{Kind, read_changeover};
 use link_group::Msu;
 
-/// More messages than a link holds.
+/// A number above that of the messages that a link holds.
 const UNTESTED: usize = 1_000_000;
 
-/// Whether a message is one of changeover about a link.
+/// Whether a message is a changeover message about a link.
 fn is_word(msu: &Msu, about: usize) -> bool {
     match read_changeover(msu.sif.as_slice()) {
         Some(message) => msu.sio % 16 == 0 && usize::from(message.label.sls) == about,
@@ -21,7 +21,7 @@ fn is_word(msu: &Msu, about: usize) -> bool {
 }
 
 impl Tender {
-    /// Whether a link takes messages about others: it is in service and not held, and no processor is out there.
+    /// Whether a link takes messages about others: it is in service, not held, and neither processor is out.
     pub(crate) fn may_take(&self, link: usize) -> bool {
         match self.state(link) {
             Some(state) => state.in_service && !state.held && !state.far_out && !state.own_out,
@@ -29,8 +29,8 @@ impl Tender {
         }
     }
 
-    /// How many messages a link holds; one that isn't admitted counts as if it held more than any: its line may be looped,
-    /// and then it takes for itself what is sent there.
+    /// The number of messages that a link holds. A link that isn't admitted counts as holding more than any other: its
+    /// line may be looped, so that it would receive its own messages.
     fn load(&self, link: usize) -> usize {
         let held = self.set.held(link).unwrap_or(usize::MAX);
         if self.is_admitted(link) {
@@ -40,7 +40,7 @@ impl Tender {
         }
     }
 
-    /// The link that takes messages about this one and holds the fewest, one that is admitted before others, if there is one. It isn't this one.
+    /// The link that takes messages about another one and holds the fewest, if any does; admitted links come first.
     pub(crate) fn least_loaded(&self, about: usize) -> Option<usize> {
         let mut best: Option<(usize, usize)> = None;
         for link in 0..self.len() {
@@ -59,7 +59,7 @@ impl Tender {
         }
     }
 
-    /// Whether a link keeps a message.
+    /// Whether a link holds this message.
     fn keeps(&self, link: usize, msu: &Msu) -> bool {
         let held = self.set.held(link).unwrap_or(0);
         for place in 0..held {
@@ -71,7 +71,7 @@ impl Tender {
         false
     }
 
-    /// Whether a link holds a message of changeover about another one.
+    /// Whether a link holds a changeover message about another link.
     pub(crate) fn holds_word(&self, by: usize, about: usize) -> bool {
         let held = self.set.held(by).unwrap_or(0);
         for place in 0..held {
@@ -83,7 +83,7 @@ impl Tender {
         false
     }
 
-    /// What of a link's last message that went by another one is left to do: nothing where that was acknowledged.
+    /// The message owed about a link, unless the other link that sent it holds it no more, because it was acknowledged.
     fn owed_still(&self, about: usize, owed: Owed) -> Option<Owed> {
         match owed.by {
             Some(by) if !self.keeps(by, &self.plan.ends.changeover(about, owed.kind)) => None,
@@ -91,7 +91,7 @@ impl Tender {
         }
     }
 
-    /// A link went down: what went by it and wasn't acknowledged is owed again.
+    /// Handles a link that went down: messages sent by it and not acknowledged are owed again.
     pub(crate) fn owe_again(&mut self, by: usize)
         ensures { self.new ≡ self.old }
     {
@@ -101,7 +101,7 @@ impl Tender {
         }
     }
 
-    /// What is owed about a link once this one is down.
+    /// The message owed about a link once the link `by` is down.
     fn owed_behind(&self, about: usize, by: usize) -> Option<Owed> {
         let owed = self.care(about).owed?;
         if owed.by != Some(by) {
@@ -111,22 +111,22 @@ impl Tender {
         Some(Owed { by: None, ..left })
     }
 
-    /// Whether a changeover of a link goes on, and its messages aren't handed out.
+    /// Whether a changeover of a link goes on and its messages aren't retrieved.
     fn is_open(&self, about: usize) -> bool
         ensures { result ≡ is_open_by (slice_get self.now.set.links about) }
     {
         self.set.in_changeover(about) && self.set.hand(about).is_none()
     }
 
-    /// What is owed about a link a tick later, once what is over was dropped: each after 1,400 ticks in which another link would take it, an order
-    /// as its messages are handed out, and what was acknowledged.
+    /// The message owed about a link one tick later. It is dropped after 1,400 ticks in which another link would take
+    /// it, or once it was acknowledged; an order also once the link's messages are retrieved.
     fn owed_now(&self, about: usize) -> Option<Owed> {
         let is_taken = self.least_loaded(about).is_some();
         let owed = self.care(about).owed_on(is_taken, self.is_open(about))?;
         self.owed_still(about, owed)
     }
 
-    /// Has a message of changeover about a link of which this is kept go by another one. Whether that takes it.
+    /// Sends a changeover message about a link with this state by another link. Returns whether that takes it.
     fn say(&mut self, about: usize, care: Care, kind: Kind, by: usize) -> bool
         ensures adds { Adds self.old self.new }
         ensures number { may_say care kind ≡ false → self.new ≡ self.old }
@@ -138,7 +138,7 @@ impl Tender {
         self.send_by(by, msu)
     }
 
-    /// Has what is owed about a link go by another one, where one takes it.
+    /// Sends the message owed about a link by another link, if one takes it.
     fn pay(&mut self, about: usize, owed: Owed) -> Result<Owed, TendError>
         ensures { OnOk result (Adds self.old self.new) }
     {
@@ -158,7 +158,7 @@ impl Tender {
         })
     }
 
-    /// Sends what is owed about a link.
+    /// Sends the message owed about a link.
     pub(crate) fn pay_owed(&mut self, about: usize) -> Result<(), TendError>
         ensures { OnOk result (Adds self.old self.new) }
     {
@@ -175,7 +175,7 @@ impl Tender {
         Ok(())
     }
 
-    /// A message about a link is owed, in place of the one that was.
+    /// Makes this the message owed about a link, in place of an earlier one.
     pub(crate) fn owe(&mut self, link: usize, kind: Kind)
         ensures { self.new ≡ self.old }
     {

@@ -1,4 +1,4 @@
-//! Messages go on behind an outage, and traffic restarts.
+//! Resuming messages after an outage, and restarting traffic.
 ghost use Rattle.std.specs.Prelude.{◌≡◌, OnOk};
 ghost use Rattle.set_tending.specs.Rounds.{Adds};
 
@@ -6,7 +6,7 @@ use crate::tender::{TendError, Tender};
 use link_group::{Command, LinkState};
 
 impl Tender {
-    /// A link that carries no messages though it is in service and not held, and no processor is out, is told to go on: an outage has ended.
+    /// Resumes a link that carries no messages after an outage: it is in service, not held, and no processor is out.
     pub(crate) fn resume(&mut self, link: usize, state: LinkState) -> Result<(), TendError>
         ensures { OnOk result (Adds self.old self.new) }
     {
@@ -31,7 +31,7 @@ impl Tender {
         None
     }
 
-    /// Traffic restart allowed goes out once, as the first link is in service and admitted behind a time without any.
+    /// Sends traffic restart allowed once, when a first link is in service and admitted after a time without any.
     pub(crate) fn restart(&mut self)
         ensures { Adds self.old self.new }
     {

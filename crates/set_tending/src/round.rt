@@ -1,4 +1,4 @@
-//! A round.
+//! A round of the set.
 ghost use Rattle.std.specs.Prelude.{◌≡◌, ◌<◌, length, IfOk, OnOk, OnErr};
 ghost use Rattle.link_group.specs.Doing.{Listened, Sent};
 ghost use Rattle.link_group.specs.Lines.{ByLink};
@@ -10,7 +10,7 @@ use std::alloc::AllocError;
 use su_octets::Unit;
 
 impl Tender {
-    /// Takes line octets of a link: how many, up to one that finds no room or no memory.
+    /// Takes octets received on a link's line. Returns how many were taken, until room or memory runs out.
     pub fn line_in(&mut self, link: usize, octets: &[u8]) -> usize
         ensures adds { Adds self.old self.new }
         ensures heard { link < length self.old.set.links → ByLink (Listened octets.now result) link self.old.set self.new.set }
@@ -22,7 +22,7 @@ impl Tender {
         }
     }
 
-    /// The next unit of a link, if one is to go out.
+    /// The next unit to send on a link, if there is one.
     pub fn unit_out(&mut self, link: usize) -> Result<Option<Unit>, AllocError>
         ensures adds { Adds self.old self.new }
         ensures ok { IfOk result (λ unit. ByLink (Sent unit) link self.old.set self.new.set) }
@@ -39,7 +39,7 @@ impl Tender {
     ///
     /// # Errors
     ///
-    /// Where a terminal refuses it, or there is no memory.
+    /// If a terminal refuses the tick, or memory runs out.
     pub fn tick(&mut self) -> Result<(), TendError>
         ensures { OnOk result (Ticks self.old self.new) }
     {
@@ -53,7 +53,7 @@ impl Tender {
         }
     }
 
-    /// Does what is to be done for a link.
+    /// Does all that is due for a link.
     fn tend_link(&mut self, link: usize) -> Result<(), TendError>
         ensures { OnOk result (Adds self.old self.new) }
     {
@@ -69,11 +69,11 @@ impl Tender {
         self.start(link)
     }
 
-    /// Takes what links tell, and does what is to be done for them.
+    /// Takes the reports of links, and does all that is due.
     ///
     /// # Errors
     ///
-    /// Where there is no memory.
+    /// If memory runs out.
     pub fn tend(&mut self) -> Result<(), TendError>
         ensures { OnOk result (Tends self.old self.new) }
     {

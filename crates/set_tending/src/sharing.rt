@@ -1,4 +1,4 @@
-//! Selections are shared out anew.
+//! Sharing out selections anew.
 ghost use Rattle.std.specs.Prelude.{◌≡◌, OnOk, map};
 ghost use Rattle.group_changeover.specs.Sharing.{link_of, selections};
 ghost use Rattle.set_tending.specs.Rounds.{Adds};
@@ -9,21 +9,21 @@ use arrayvec::ArrayVec;
 use group_changeover::{label_of, pick};
 use link_group::{LinkState, Msu, RebalanceError};
 
-/// Messages to send wait for so many ticks at most, so that links run empty; after as many rounds in which its messages are in the way a link with a
-/// processor out is left.
+/// The most ticks for which messages to send wait so that links run empty. Also the rounds after which a link with a
+/// processor out, whose messages prevent sharing out, is left.
 const DRAIN: u64 = 1_000;
 
-/// After that they don't wait, for so many ticks.
+/// The ticks after that for which messages don't wait.
 const CALM: u64 = 5_000;
 
-/// How sharing out goes.
+/// The state of sharing out.
 #[derive(Clone, Copy, Debug, PartialEq, Eq)]
 pub enum Sharing {
-    /// Messages to send don't wait, and don't before this tick.
+    /// Messages to send don't wait, and won't before this tick.
     Rests(u64),
-    /// They wait, up to this tick.
+    /// Messages to send wait, up to this tick.
     Drains(u64),
-    /// All that is in the way is on links with a processor out.
+    /// All messages that prevent sharing out are on links with a processor out.
     Blocked,
 }
 
@@ -32,7 +32,7 @@ impl Sharing {
         Sharing::Rests(0)
     }
 
-    /// The same where messages are in the way, and not all of them on links with a processor out.
+    /// The next state if messages prevent sharing out, and not only on links with a processor out.
     fn drained(self, now: u64) -> Sharing {
         match self {
             Sharing::Rests(since) if now < since => Sharing::Rests(since),
@@ -42,7 +42,7 @@ impl Sharing {
         }
     }
 
-    /// The same once it is over, or has nothing to do: no message to send waits.
+    /// The next state once sharing out is done or needless: no message to send waits.
     fn settled(self) -> Sharing {
         match self {
             Sharing::Rests(since) => Sharing::Rests(since),
@@ -60,7 +60,7 @@ fn has_outage(state: LinkState) -> bool {
     state.far_out || state.own_out
 }
 
-/// The selection of a message; none where it has no label.
+/// The selection of a message, if it has a label.
 fn selection_of(msu: &Msu) -> Option<u8> {
     match label_of(msu) {
         Some(label) => Some(label.sls),
@@ -74,7 +74,7 @@ impl Tender {
         matches!(self.sharing, Sharing::Drains(_))
     }
 
-    /// The links that may have selections, with an outage or without.
+    /// The links that may have selections, either with a processor outage or without.
     fn able_by(&self, outage: bool) -> ArrayVec<usize, 16> {
         let mut able = ArrayVec::new();
         for link in 0..self.len() {
@@ -88,7 +88,7 @@ impl Tender {
         able
     }
 
-    /// The links among which selections are to be shared out.
+    /// The links among which selections are to be shared out: those without an outage, else those with one.
     fn able(&self) -> ArrayVec<usize, 16> {
         let able = self.able_by(false);
         if able.is_empty() {
@@ -108,7 +108,7 @@ impl Tender {
         false
     }
 
-    /// Whether a link counts as one that failed, though it may have selections.
+    /// Whether one of these links counts as failed.
     fn any_failed(&self, able: &[usize]) -> bool {
         for link in able {
             match self.state(*link) {
@@ -150,7 +150,7 @@ impl Tender {
         ]
     }
 
-    /// Tells the links of selections, where they are others than were told last.
+    /// Reports the links of selections, if they differ from the last report.
     pub(crate) fn tell_shared(&mut self) -> Result<(), TendError>
         ensures { OnOk result (Adds self.old self.new) }
     {
@@ -194,7 +194,7 @@ impl Tender {
         false
     }
 
-    /// The links that hold messages of selections which are to have another one.
+    /// The links that hold messages of selections that are to have another link.
     fn in_way(&self, able: &[usize]) -> ArrayVec<usize, 16> {
         let mut links = ArrayVec::new();
         for link in 0..self.len() {
@@ -205,7 +205,7 @@ impl Tender {
         links
     }
 
-    /// Those of these links that have a processor out.
+    /// Those of these links that have a processor outage.
     fn out_among(&self, links: &[usize]) -> ArrayVec<usize, 16> {
         let mut out = ArrayVec::new();
         for link in links {
@@ -219,7 +219,7 @@ impl Tender {
         out
     }
 
-    /// Whether a link but these carries messages.
+    /// Whether a link other than these carries messages.
     pub(crate) fn another_carries(&self, links: &[usize]) -> bool {
         for link in 0..self.len() {
             match self.state(link) {
@@ -232,7 +232,7 @@ impl Tender {
         false
     }
 
-    /// Changeover begins for links whose messages wait behind an outage.
+    /// Begins changeover for links whose messages wait because of an outage.
     pub(crate) fn leave(&mut self, links: &[usize]) -> Result<(), TendError>
         ensures { OnOk result (Adds self.old self.new) }
     {
@@ -242,7 +242,7 @@ impl Tender {
         Ok(())
     }
 
-    /// What is done where messages are in the way.
+    /// Handles messages that prevent sharing out.
     fn drain(&mut self, able: &[usize]) -> Result<(), TendError>
         ensures { OnOk result (Adds self.old self.new) }
     {
@@ -256,7 +256,7 @@ impl Tender {
         self.wait_for(out.as_slice())
     }
 
-    /// What is done where links with a processor out are in the way, if any are: once they have been that for so long, they are left.
+    /// Handles links with a processor out that prevent sharing out: they are left if that lasts for 1,000 rounds.
     fn wait_for(&mut self, out: &[usize]) -> Result<(), TendError>
         ensures { OnOk result (Adds self.old self.new) }
     {
@@ -273,7 +273,7 @@ impl Tender {
         self.leave(out)
     }
 
-    /// Sharing out is over, or has nothing to do: no message to send waits.
+    /// Ends sharing out, or finds nothing to do: no message to send waits.
     fn settle(&mut self)
         ensures { self.new ≡ self.old }
     {
@@ -281,7 +281,7 @@ impl Tender {
         self.blocked = 0;
     }
 
-    /// Shares selections out anew, where that is wanted and may be.
+    /// Shares out selections anew, if that is needed and possible.
     pub(crate) fn share(&mut self) -> Result<(), TendError>
         ensures { OnOk result (Adds self.old self.new) }
     {

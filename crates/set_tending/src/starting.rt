@@ -1,4 +1,4 @@
-//! Starts of links.
+//! Starting links.
 ghost use Rattle.std.specs.Prelude.{◌≡◌, OnOk};
 ghost use Rattle.set_tending.specs.Rounds.{Adds};
 
@@ -19,7 +19,7 @@ impl Tender {
         false
     }
 
-    /// Whether a Start waits for what is to be said of its link.
+    /// Whether a Start waits because a message about its link is owed.
     fn has_to_wait(&self, link: usize) -> bool {
         match self.care(link).owed {
             Some(owed) => owed.waits() || self.another_serves(link),
@@ -27,8 +27,8 @@ impl Tender {
         }
     }
 
-    /// Whether a link with a processor out holds a message of changeover about another one: once the processor is back it would go, long behind, and be
-    /// taken for a new one.
+    /// Whether a link with a processor out holds a changeover message about another link. Once the processor is back it
+    /// would be sent much too late, and be taken for a new one.
     fn is_stuck(&self, by: usize, about: usize) -> bool {
         match self.state(by) {
             Some(state) if state.in_service && (state.far_out || state.own_out) => {
@@ -38,7 +38,7 @@ impl Tender {
         }
     }
 
-    /// The links that hold such a message about this one.
+    /// The links that hold such a message about this link.
     fn stuck_about(&self, about: usize) -> ArrayVec<usize, 16> {
         let mut stuck = ArrayVec::new();
         for link in 0..self.len() {
@@ -49,7 +49,7 @@ impl Tender {
         stuck
     }
 
-    /// They are left, so that it goes with their changeover.
+    /// Begins the changeover of the links that hold such a message, so that it is removed with their messages.
     fn leave_stuck(&mut self, about: usize) -> Result<(), TendError>
         ensures { OnOk result (Adds self.old self.new) }
     {
@@ -57,7 +57,7 @@ impl Tender {
         self.leave(links.as_slice())
     }
 
-    /// Declares an emergency of a link that is to come into service, where it is one and none was declared.
+    /// Declares an emergency for a link that is coming into service, if it is one and none was declared.
     fn urge(&mut self, link: usize) -> Result<(), TendError>
         ensures { OnOk result (Adds self.old self.new) }
     {
@@ -70,7 +70,7 @@ impl Tender {
         Ok(())
     }
 
-    /// Ends the emergency of a link, once another one carries messages.
+    /// Ends the emergency of a link once another link carries messages.
     fn ease(&mut self, link: usize) -> Result<(), TendError>
         ensures { OnOk result (Adds self.old self.new) }
     {
@@ -82,7 +82,7 @@ impl Tender {
         Ok(())
     }
 
-    /// What a link that was started, and isn't in service yet, is told of emergencies.
+    /// Declares or ends the emergency of a link that was started and isn't yet in service.
     pub(crate) fn hurry(&mut self, link: usize) -> Result<(), TendError>
         ensures { OnOk result (Adds self.old self.new) }
     {
@@ -94,7 +94,7 @@ impl Tender {
         self.ease(link)
     }
 
-    /// Gives a link Start, as an emergency where it is one. Whether it took it.
+    /// Gives a link Start, with an emergency if it is one. Returns whether it took it.
     fn begin_start(&mut self, link: usize) -> Result<bool, TendError>
         ensures { OnOk result (Adds self.old self.new) }
     {
@@ -102,7 +102,7 @@ impl Tender {
         self.command(link, Command::Start)
     }
 
-    /// Starts a link where that is due, and doesn't wait for what is to be said of it, for 1,400 ticks at most.
+    /// Starts a link if that is due; it waits at most 1,400 ticks for a message owed about the link.
     pub(crate) fn start(&mut self, link: usize) -> Result<(), TendError>
         ensures { OnOk result (Adds self.old self.new) }
     {

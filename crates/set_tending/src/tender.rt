@@ -1,4 +1,4 @@
-//! The set with what is kept of it.
+//! The set with the state kept of its links.
 ghost use Rattle.std.specs.Prelude.{◌≡◌, ◌++◌, [], true, false, length, slice_get, IfSome, IsNone};
 ghost use Rattle.std.specs.List.{list_any};
 ghost use Rattle.link_group.specs.OneLink.{is_changing};
@@ -17,16 +17,16 @@ use std::collections::VecDeque;
 use std::marker::Model;
 use thiserror::Error;
 
-/// How many links a set has at most.
+/// The most links of a set.
 pub const MOST_LINKS: usize = 16;
 
-/// Why a set can't be tended any more.
+/// Why a set can't be managed any longer.
 #[derive(Clone, Copy, Debug, PartialEq, Eq, Error)]
 pub enum TendError {
-    /// There is no memory.
+    /// Out of memory.
     #[error("out of memory")]
     NoMemory,
-    /// No tick passes: a terminal refuses it.
+    /// A terminal refuses a tick.
     #[error("no tick passes")]
     NoTick,
 }
@@ -37,36 +37,36 @@ impl From<AllocError> for TendError {
     }
 }
 
-/// What is given with a set, and stays.
+/// The fixed parameters of a set.
 #[derive(Clone, Copy, Debug, PartialEq, Eq)]
 pub struct Plan {
-    /// The points between which it lies.
+    /// The points that it connects.
     pub ends: Ends,
-    /// Whether links are tested, and admitted once that was answered.
+    /// Whether links are tested, and admitted only once a test is answered.
     pub tests: bool,
-    /// How many links there are.
+    /// The number of links.
     pub links: usize,
 }
 
-/// A set that tends itself.
+/// A set that manages itself.
 #[derive(Drop)]
 pub struct Tender {
     pub(crate) set: Group,
     pub(crate) plan: Plan,
-    /// How many ticks have passed.
+    /// The number of ticks passed.
     pub(crate) ticks: u64,
     pub(crate) told: VecDeque<Told>,
     pub(crate) cares: [Care; MOST_LINKS],
     pub(crate) sharing: Sharing,
-    /// In how many rounds, one behind another, links with a processor out were in the way of sharing out.
+    /// The number of consecutive rounds in which links with a processor out prevented sharing out.
     pub(crate) blocked: u64,
-    /// Whether a link was in service and admitted as this was last looked at.
+    /// Whether a link was in service and admitted at the last check.
     pub(crate) is_open: bool,
-    /// Whether traffic restart allowed is to go out.
+    /// Whether traffic restart allowed is to be sent.
     pub(crate) restarts: bool,
-    /// The links of selections as they were told last.
+    /// The links of selections as last reported.
     pub(crate) shared: SharedOut,
-    /// The order that may have been a late one and had this end begin a link's changeover, of each link.
+    /// For each link, the possibly late order because of which this end began a changeover.
     pub(crate) doubted: [Option<Kind>; MOST_LINKS],
 }
 
@@ -84,7 +84,7 @@ impl Model for Tender {
 }
 
 impl Tender {
-    /// A new set, whose links are tested or not. Nothing has happened.
+    /// A new set, with or without tests of its links, before any event.
     pub fn new(alloc: Global, ends: Ends, tests: bool, set: Group) -> Tender
         ensures { IsNewTended ends tests set result }
     {
@@ -106,52 +106,52 @@ impl Tender {
         tender
     }
 
-    /// How many links there are.
+    /// The number of links.
     pub fn len(&self) -> usize
         ensures { result ≡ self.now.plan.links }
     {
         self.plan.links
     }
 
-    /// How many ticks have passed.
+    /// The number of ticks passed.
     pub fn now(&self) -> u64
         ensures { result ≡ self.now.ticks }
     {
         self.ticks
     }
 
-    /// The set.
+    /// The set of links.
     pub fn set(&self) -> &Group
         ensures { result.now ≡ self.now.set }
     {
         &self.set
     }
 
-    /// What is kept of a link.
+    /// The state kept of a link.
     pub(crate) fn care(&self, link: usize) -> Care {
         self.cares[link % MOST_LINKS]
     }
 
-    /// Keeps it.
+    /// Stores the state kept of a link.
     pub(crate) fn keep(&mut self, link: usize, care: Care)
         ensures { self.new ≡ self.old }
     {
         self.cares[link % MOST_LINKS] = care;
     }
 
-    /// Keeps which order may have been a late one.
+    /// Stores the order about a link that may have been late.
     pub(crate) fn doubt(&mut self, link: usize, kind: Option<Kind>)
         ensures { self.new ≡ self.old }
     {
         self.doubted[link % MOST_LINKS] = kind;
     }
 
-    /// Whether an order is a copy of one that may have been late, and had this end begin the changeover that goes on.
+    /// Whether an order is a copy of a possibly late one because of which this end began the current changeover.
     pub(crate) fn is_doubted(&self, link: usize, kind: Kind) -> bool {
         self.in_changeover(link) && self.doubted[link % MOST_LINKS] == Some(kind)
     }
 
-    /// Whether nothing of a link is owed, and no Start is to come.
+    /// Whether no message about a link is owed, and none of its Starts is pending.
     fn is_quiet(&self, link: usize) -> bool {
         let care = self.care(link);
         care.owed.is_none() && care.due.is_none()
@@ -164,14 +164,14 @@ impl Tender {
         self.set.in_changeover(link)
     }
 
-    /// How many links the set has.
+    /// The number of links of the set.
     fn count(&self) -> usize
         ensures { result ≡ length self.now.set.links }
     {
         self.set.len()
     }
 
-    /// Whether nothing is owed or in changeover, and no Start is to come.
+    /// Whether no message is owed, no changeover goes on, and no Start is pending.
     pub fn is_calm(&self) -> bool
         ensures { result ≡ true → list_any is_changing self.now.set.links ≡ false }
     {
@@ -186,7 +186,7 @@ impl Tender {
         true
     }
 
-    /// What is told next.
+    /// The next report, if there is one.
     pub fn take_told(&mut self) -> Option<Told>
         ensures some { IfSome result (λ told. self.old.reports ≡ report_in told ++ self.new.reports) }
         ensures none { IsNone result → self.old.reports ≡ [] }
@@ -196,7 +196,7 @@ impl Tender {
         self.told.pop_front()
     }
 
-    /// Something more is to be told that is no report of a link.
+    /// Queues something other than a report of a link.
     pub(crate) fn tell(&mut self, told: Told) -> Result<(), TendError>
         requires { report_in told ≡ [] }
         ensures { self.new ≡ self.old }
@@ -207,7 +207,7 @@ impl Tender {
         }
     }
 
-    /// What a link is, where it is there.
+    /// The state of a link, if it exists.
     pub(crate) fn state(&self, link: usize) -> Option<LinkState> {
         self.set.state(link)
     }

@@ -7,7 +7,7 @@ use crate::ends::Pattern;
 use crate::tender::{TendError, Tender};
 use link_group::{Command, LinkState, Msu};
 
-/// For so many ticks the answer to a test is waited for (Q.707's T1: 4 to 12 s).
+/// The ticks to wait for the answer to a test (Q.707's T1: 4 to 12 s).
 const ANSWER: u64 = 6_000;
 
 impl Tender {
@@ -27,7 +27,7 @@ impl Tender {
         }
     }
 
-    /// Sends a test. Whether it went.
+    /// Sends a test. Returns whether the link takes it.
     fn send_test(&mut self, link: usize) -> bool
         ensures { Adds self.old self.new }
     {
@@ -36,7 +36,7 @@ impl Tender {
         self.send_by(link, msu)
     }
 
-    /// Sends a test, which counts as failed behind some time. Where it doesn't go nothing is changed.
+    /// Sends a test, and enters this test state. Changes only the test number if the link doesn't take the test.
     fn try_test(&mut self, link: usize, test: Testing)
         ensures { Adds self.old self.new }
     {
@@ -46,7 +46,7 @@ impl Tender {
         self.keep(link, self.care(link).tested(test));
     }
 
-    /// A link whose tests weren't answered is stopped.
+    /// Stops a link whose tests weren't answered.
     fn fail_test(&mut self, link: usize, until: u64) -> Result<(), TendError>
         ensures { OnOk result (Adds self.old self.new) }
     {
@@ -59,7 +59,7 @@ impl Tender {
         Ok(())
     }
 
-    /// What a test leads to at this tick. None runs while a processor is out.
+    /// Does what the test of a link requires at this tick. No test runs while a processor is out.
     pub(crate) fn test(&mut self, link: usize, state: LinkState) -> Result<(), TendError>
         ensures { OnOk result (Adds self.old self.new) }
     {

@@ -1,4 +1,4 @@
-//! What is told.
+//! The reports of a set.
 ghost use Rattle.std.specs.Prelude.{Some};
 ghost use Rattle.std.specs.List.{flat_map};
 ghost use Rattle.set_tending.specs.Texts.{kind_text, octet_text, message_text, link_text, told_text};
@@ -10,40 +10,40 @@ use std::fmt;
 /// The link of each selection.
 pub type SharedOut = [Option<usize>; 16];
 
-/// What a set tells.
+/// A report of a set.
 #[derive(Debug, Drop, PartialEq, Eq)]
 pub enum Told {
     /// A link came into service.
     InService(usize),
-    /// A link went down, for the reason that its actor numbers so.
+    /// A link went down, with its process's number for the reason.
     Down(usize, i32),
-    /// The processor at its far side is out.
+    /// The processor at the link's far end is out.
     FarOut(usize),
-    /// It is back.
+    /// The processor at the link's far end is back.
     FarBack(usize),
     /// A message for level 3 came by a link.
     Message(usize, Msu),
     /// A link was started.
     Started(usize),
-    /// Its changeover began.
+    /// A link's changeover began.
     Changeover(usize),
-    /// Something of changeover is said of a link, by another.
+    /// A changeover message about the first link was sent by the last one.
     Says(usize, Kind, usize),
-    /// Something of changeover was heard of a link, by another.
+    /// A changeover message about the first link was received on the last one.
     Hears(usize, Kind, usize),
-    /// So many messages of a link may have arrived or not.
+    /// Messages of a link, so many, may or may not have arrived.
     Unsure(usize, usize),
-    /// So many messages of a link went to others, or back to it.
+    /// Messages of a link, so many, were diverted to other links, or back to it.
     Diverted(usize, usize),
     /// A link was tested, and is admitted.
     Tested(usize),
-    /// What this end sent by a link came back by it.
+    /// A message that this end sent by a link was received on it.
     Looped(usize),
-    /// Selections have other links.
+    /// Selections have new links.
     Shared(SharedOut),
 }
 
-/// A kind of message of changeover, as it is told.
+/// A kind of changeover message, as it is printed.
 #[derive(Clone, Copy)]
 struct Named(Kind);
 
@@ -73,7 +73,7 @@ impl fmt::Display for Octet {
     }
 }
 
-/// Octets, one behind another.
+/// Octets in hexadecimal, one after another.
 #[derive(Clone, Copy)]
 struct Octets<'a>(&'a [u8]);
 
@@ -103,7 +103,7 @@ impl fmt::Display for Digits<'_> {
     }
 }
 
-/// The link of a selection.
+/// The link of a selection, as it is printed.
 #[derive(Clone, Copy)]
 struct LinkOf(Option<usize>);
 
@@ -118,7 +118,7 @@ impl fmt::Display for LinkOf {
     }
 }
 
-/// The links of selections, from 0 up.
+/// The links of selections, from selection 0 on.
 #[derive(Clone, Copy)]
 struct Links<'a>(&'a [Option<usize>]);
 

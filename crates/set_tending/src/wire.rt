@@ -1,4 +1,4 @@
-//! One line of a set.
+//! The line of a link of a set.
 ghost use Rattle.std.specs.Prelude.{◌≡◌, ◌++◌, ◌∷◌, [], IfOk, OnOk};
 ghost use Rattle.set_tending.specs.Rounds.{Adds};
 ghost use Rattle.set_tending.specs.Wires.{GivesNext, Speaks, HearsPart, Hears, SILENT as HEARD, Waits, Passes, IsNewWire};
@@ -6,34 +6,34 @@ ghost use Rattle.set_tending.specs.Wires.{GivesNext, Speaks, HearsPart, Hears, S
 use crate::tender::{TendError, Tender};
 use line_filter::Voice;
 
-/// For so many rounds a line on which nothing comes isn't taken for silent.
+/// The rounds without octets after which a line counts as silent.
 const PATIENCE: u64 = 1_000;
 
 /// An octet of 1s.
 const SILENCE: u8 = 255;
 
-/// What is heard of a line that is silent, or isn't there.
+/// The octets that a link hears from a silent or missing line.
 const SILENT: [u8; 8] = [SILENCE; 8];
 
-/// What became of a line in a round.
+/// The change of a line in a round.
 #[derive(Clone, Copy, Debug, PartialEq, Eq)]
 pub enum Passed {
-    /// Nothing new.
+    /// No change.
     Same,
-    /// It fell silent.
+    /// The line fell silent.
     Silent,
-    /// It isn't any more.
+    /// The line is no longer silent.
     Back,
 }
 
-/// What goes out on a line, and for how many rounds nothing has come there.
+/// The octets being sent on a line, and the number of rounds without received octets.
 #[derive(Drop)]
 pub struct Wire {
     voice: Voice,
     quiet: u64,
 }
 
-/// Has a link hear the first of some octets, as many as find room, and heeds what it tells. What is left of them.
+/// Has a link hear as many of the first octets as it has room for, and heeds its reports. Returns the remaining octets.
 fn hear_part<'a>(tender: &mut Tender, link: usize, octets: &'a [u8]) -> Result<&'a [u8], TendError>
     ensures { IfOk result (λ left. HearsPart link tender.old octets.now left.now tender.new) }
 {
@@ -49,7 +49,7 @@ fn hear_part<'a>(tender: &mut Tender, link: usize, octets: &'a [u8]) -> Result<&
     Ok(left)
 }
 
-/// Has a link hear octets, all of them.
+/// Has a link hear all octets.
 fn hear(tender: &mut Tender, link: usize, octets: &[u8]) -> Result<(), TendError>
     ensures { OnOk result (Hears link tender.old octets.now tender.new) }
 {
@@ -67,7 +67,7 @@ fn hear(tender: &mut Tender, link: usize, octets: &[u8]) -> Result<(), TendError
     }
 }
 
-/// Puts an octet behind others.
+/// Appends an octet to the others.
 fn push_octet(out: &mut Vec<u8>, octet: u8) -> Result<(), TendError>
     ensures { OnOk result (out.new.items ≡ out.old.items ++ octet ∷ []) }
 {
@@ -78,7 +78,7 @@ fn push_octet(out: &mut Vec<u8>, octet: u8) -> Result<(), TendError>
 }
 
 impl Wire {
-    /// Nothing came, nothing went out.
+    /// A line before any octet was received or sent.
     pub fn new() -> Wire
         ensures { IsNewWire result }
     {
@@ -88,7 +88,7 @@ impl Wire {
         }
     }
 
-    /// The octet that goes out next where no unit is under way. A unit that isn't whole would be told as want of memory, but none comes here.
+    /// The next octet to send if no unit is being sent. An incomplete unit (there is none) counts as out of memory.
     fn begin(&mut self, tender: &mut Tender, link: usize) -> Result<u8, TendError>
         requires { self.old.voice.ready ≡ [] }
         ensures gives { IfOk result (λ octet. GivesNext link tender.old self.old.voice octet tender.new self.new.voice) }
@@ -107,7 +107,7 @@ impl Wire {
         }
     }
 
-    /// The octet that goes out next.
+    /// The next octet to send.
     fn next(&mut self, tender: &mut Tender, link: usize) -> Result<u8, TendError>
         ensures gives { IfOk result (λ octet. GivesNext link tender.old self.old.voice octet tender.new self.new.voice) }
         ensures adds { Adds tender.old tender.new }
@@ -119,7 +119,7 @@ impl Wire {
         }
     }
 
-    /// So many octets go out, behind others.
+    /// Appends `count` octets to send to `out`.
     fn speak(
         &mut self,
         tender: &mut Tender,
@@ -138,7 +138,7 @@ impl Wire {
         Ok(())
     }
 
-    /// A round of a line on which nothing came. Once it is silent 1s are heard, and each 1,000 rounds as many octets go out as at its beginning.
+    /// A round without received octets. A silent line is heard as 1s; each 1,000 rounds `ahead` octets of 1s are sent.
     fn wait(
         &mut self,
         tender: &mut Tender,
@@ -167,11 +167,11 @@ impl Wire {
         }
     }
 
-    /// A round of a line that is open: what came is heard, and an octet goes out for each that came, behind others.
+    /// A round of an open line: its link hears the octets received, and appends one octet to send for each to `out`.
     ///
     /// # Errors
     ///
-    /// Where there is no memory.
+    /// If memory runs out.
     pub fn pass(
         &mut self,
         tender: &mut Tender,
@@ -197,11 +197,11 @@ impl Wire {
     }
 }
 
-/// A round of a line that isn't open: 1s are heard.
+/// A round of a line that isn't open: its link hears 1s.
 ///
 /// # Errors
 ///
-/// Where there is no memory.
+/// If memory runs out.
 pub fn miss_line(tender: &mut Tender, link: usize) -> Result<(), TendError>
     ensures { OnOk result (Hears link tender.old HEARD tender.new) }
 {
