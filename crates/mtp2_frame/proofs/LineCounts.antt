@@ -18,7 +18,7 @@ counts_zero sent count line held more = record {
   ones = refl;
 }
 
--- the next number is five exactly where this one is four
+-- the next number is five exactly if this one is four
 suc_five : (n : ℕ) → (suc n == 5) ≡ (n == 4)
 suc_five n = elim (cases_eq n 4) [
   | inl e ↦ eq-eqb (suc n) 5 (omega (arith, e)) ∙ sym (eq-eqb n 4 e)
@@ -45,7 +45,7 @@ counts_fifth sent line held fifth =
       ones = rw test refl;
     }
 
--- a bit of an octet, and the ones before it
+-- a bit of an octet, and the bits before it
 pub next_bit : (k octet : ℕ) (sent : List Bool)
     → reverse (low_bits (k + 1) octet) ++ sent ≡ (octet / 2 ^ k % 2 == 1) ∷ (reverse (low_bits k octet) ++ sent)
 unfolding low_bits
@@ -67,7 +67,7 @@ pub counts_empty : Counts (reverse (bits_of [])) (record { count = 0; ones = 0 }
 unfolding bits_of stuffed trailing
 counts_empty = record { count = refl; ones = refl }
 
--- one octet more
+-- one more octet
 pub counts_octet : (i : ℕ) (octets : List ℕ) (line : LineBits) → i < length octets
     → Counts (reverse (low_bits 8 (get_or octets i 0)) ++ reverse (bits_of (take i octets))) line → Counts (reverse (bits_of (take (i + 1) octets))) line
 unfolding bits_of

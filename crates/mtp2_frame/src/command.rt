@@ -20,7 +20,7 @@ use thiserror::Error;
 pub enum FrameFault {
     /// The word isn't an even number of hexadecimal digits.
     NotHex,
-    /// The octets are no signal unit, and why.
+    /// The octets are no signal unit, for this reason.
     Unit(UnitFault),
 }
 
@@ -37,18 +37,17 @@ impl fmt::Display for FrameFault {
     }
 }
 
-/// A unit with the number of its bits on the line.
+/// A signal unit and the number of its bits on the line.
 #[derive(Drop)]
 struct Reading {
     unit: Unit,
     line_bits: usize,
 }
 
-/// Prints the fields of the unit whose octets, check octets included, the word spells in hexadecimal
-/// digits, and then the number of its bits on the line, between the flags. The spare bits count as they are.
-///
-/// Gives the exit status: 0, or 2 after a line `refused CODE Name` (H1 NotHex, then U1 TooShort,
-/// U2 TooLong, U3 BadCheck, U4 BadLength), or 4 where memory or a write fails.
+/// Prints the fields of the signal unit whose octets, check octets included, the word spells in hexadecimal digits.
+/// Then it prints the number of the unit's bits on the line, between the flags. Spare bits are counted as they are.
+/// Returns the exit status: 0; or 2 after a line `refused CODE Name` (H1 NotHex, then U1 TooShort, U2 TooLong, U3
+/// BadCheck, U4 BadLength); or 4 if memory runs out or a write fails.
 pub fn frame<W: Write>(alloc: Global, word: &str, writer: &mut W) -> u8
     ensures held { result ≡ 0 → (unit : Unit) × Spells word.now unit }
     ensures refused { result ≡ 2 → (unit : Unit) → Spells word.now unit → ⊥ }
@@ -69,7 +68,7 @@ pub fn frame<W: Write>(alloc: Global, word: &str, writer: &mut W) -> u8
     }
 }
 
-/// The unit's fields on a line, and its bits on another.
+/// Writes a line with the signal unit's fields, and a line with the number of its bits.
 fn write_reading<W: Write>(alloc: Global, writer: &mut W, reading: &Reading) -> io::Result<()>
     ensures { OnOk result (Appends (W.contents writer.old) (W.contents writer.new) (reading_lines reading.now.unit reading.now.line_bits)) }
 {
@@ -78,14 +77,14 @@ fn write_reading<W: Write>(alloc: Global, writer: &mut W, reading: &Reading) -> 
     write_line(alloc, writer, &format_args!("bits {line_bits}"))
 }
 
-/// The line of a refusal.
+/// Writes the line of a refusal.
 fn write_fault<W: Write>(alloc: Global, writer: &mut W, fault: FrameFault) -> io::Result<()>
     ensures { OnOk result (Appends (W.contents writer.old) (W.contents writer.new) (fault_line fault)) }
 {
     write_line(alloc, writer, &format_args!("refused {fault}"))
 }
 
-/// The unit that the word spells, or why it spells none.
+/// Returns the signal unit that the word spells, or why it spells none.
 fn read(alloc: Global, word: &str) -> Result<Result<Reading, FrameFault>, AllocError>
     ensures unit { IfOk result (λ r. IfOk r (λ reading. IsReading word.now reading.unit reading.line_bits)) }
     ensures fault { IfOk result (λ r. IfErr r (λ fault. IsRefused word.now fault)) }

@@ -1,18 +1,18 @@
-//! How many bits octets are on a line.
+//! The number of bits of octets on a line.
 ghost use Rattle.std.specs.Prelude.{◌≡◌, ◌+◌, ◌≤◌, ◌<◌, ◌^◌, ℕ, Bool, List, ◌∷◌, ◌++◌, reverse, length};
 ghost use Rattle.su_octets.specs.Bits.{low_bits, bits_of};
 ghost use Rattle.bit_line.specs.Stuffing.{stuffing_of};
 ghost use Rattle.mtp2_frame.specs.LineBits.{Counts};
 
-/// Bits of a line that were counted so far.
+/// The line bits counted so far.
 #[derive(Clone, Copy)]
 struct LineBits {
     count: usize,
-    /// How many of them are 1s in a row at the end.
+    /// The number of consecutive 1s at the end.
     ones: u8,
 }
 
-/// One bit of a unit more, and an inserted 0 where it is the fifth 1 in a row.
+/// Adds one bit of a signal unit, and an inserted 0 if it is the fifth consecutive 1.
 fn with_bit(line: LineBits, bit: bool) -> LineBits
     requires count { line.count < 2 ^ 62 }
     requires ones { line.ones < 5 }
@@ -38,7 +38,7 @@ fn with_bit(line: LineBits, bit: bool) -> LineBits
     }
 }
 
-/// One octet more, its low bit first.
+/// Adds one octet, its least significant bit first.
 fn with_octet(line: LineBits, octet: u8) -> LineBits
     requires count { line.count < 2 ^ 61 }
     requires ones { line.ones < 5 }
@@ -53,7 +53,7 @@ fn with_octet(line: LineBits, octet: u8) -> LineBits
     counted
 }
 
-/// How many bits the octets are on the line, between the flags: with a 0 more behind each five 1s in a row (Q.703, 3.2).
+/// Returns the number of bits of the octets on the line, between the flags: a 0 is inserted after five 1s (Q.703, 3.2).
 pub fn line_bits(octets: &[u8]) -> usize
     requires { length octets.now < 2 ^ 32 }
     ensures { result ≡ length (stuffing_of (bits_of octets.now)) }

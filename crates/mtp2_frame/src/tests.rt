@@ -3,7 +3,7 @@ use std::alloc::Global;
 use std::io::{self, Write};
 use std::test::Fail;
 
-/// A writer that keeps what it is given, and fails after so many calls.
+/// A writer that keeps its input, and fails after `calls` calls.
 #[derive(Drop)]
 struct Paper {
     text: Vec<u8>,
@@ -11,7 +11,7 @@ struct Paper {
 }
 
 impl Paper {
-    /// An empty one.
+    /// An empty writer.
     fn new(alloc: Global, calls: u32) -> Paper {
         Paper {
             text: Vec::new(alloc),
@@ -19,7 +19,7 @@ impl Paper {
         }
     }
 
-    /// What was written.
+    /// The text written.
     fn into_text(self) -> Vec<u8> {
         let Paper { text, .. } = self;
         text
@@ -41,14 +41,14 @@ impl Write for Paper {
     }
 }
 
-/// What `frame` prints for a word, and its exit status.
+/// The output of `frame` for a word, and its exit status.
 fn printed(alloc: Global, word: &str, calls: u32) -> (Vec<u8>, u8) {
     let mut paper = Paper::new(alloc, calls);
     let status = frame(alloc, word, &mut paper);
     (paper.into_text(), status)
 }
 
-/// Words, with what is printed for them and the exit status.
+/// Words, each with its output and exit status.
 const WORDS: [(&str, &[u8], u8); 13] = [
     (
         "FFFF00FFFF",
