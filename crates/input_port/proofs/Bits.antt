@@ -17,7 +17,7 @@ below a b h = grind (arith, nat_tests)
 not_below : (a b : ℕ) → b ≤ a → ltb a b ≡ false
 not_below a b h = grind (arith, nat_tests)
 
--- a number more
+-- one more number
 has_bit_added : (w : Width) (set k number : ℕ) → k < bits w → has_bit (bits w) (bit_or set (1 * 2 ^ k % 2 ^ bits w)) number ≡ (eqb number k || has_bit (bits w) set number)
 unfolding has_bit
 has_bit_added w set k number h =

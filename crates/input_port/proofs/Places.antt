@@ -1,4 +1,4 @@
--- The item at a place, and the first that isn't saved.
+-- The item at an index, and the first item that isn't saved.
 use Rattle.std.proofs.Common.{◌≡◌, ℕ, zero, suc, ◌+◌, Bool, true, false, cond, List, [], ◌∷◌, ◌++◌, take, drop, Option, Some, None, IfSome, refl, sym, ap, subst, ◌∙◌, arith, append_assoc}
 use Rattle.std.specs.List.{slice_get, remove}
 use Rattle.input_port.specs.declared.queue.Item.{Item}
@@ -11,7 +11,7 @@ one_more i = omega arith
 one_behind : (k : ℕ) → suc k + 1 ≡ suc (k + 1)
 one_behind k = omega arith
 
--- what stands from a place on, and what before the next one
+-- the items from an index on, and the items before the next index
 here : (items : List Item) (i : ℕ) (x : Item) → slice_get items i ≡ Some x → (drop i items ≡ x ∷ drop (suc i) items) × (take (i + 1) items ≡ take i items ++ x ∷ [])
 here items i x e = at items i x e
   where
@@ -20,7 +20,7 @@ here items i x e = at items i x e
     at (z ∷ xs) zero y h = (ap (λ v. v ∷ xs) (same_Some z y h), ap (λ v. v ∷ []) (same_Some z y h))
     at (z ∷ xs) (suc k) y h = let on = at xs k y h in (on.0, ap (λ n. take n (z ∷ xs)) (one_behind k) ∙ ap (λ ys. z ∷ ys) on.1)
 
--- an item at a place, where only saved items stand before it
+-- an item at an index after only saved items
 module _ (saved : Item → Bool) (items : List Item) (i : ℕ) (x : Item) (there : slice_get items i ≡ Some x) where
   -- it isn't saved, so it is the first
   pub first_here : saved x ≡ false → first_unsaved saved (drop i items) ≡ first_unsaved saved items → slice_get items i ≡ first_unsaved saved items
@@ -76,12 +76,12 @@ first_taken saved x items item later =
           }
     ] refl
 
--- what the first item and the list without it are
+-- the first item that isn't saved, and the list without it, satisfy `Takes`
 pub Takes-first : (saved : Item → Bool) (items : List Item) (item : Item) → first_unsaved saved items ≡ Some item → Takes saved items item (without_first saved items)
 Takes-first saved [] item e = absurd (cc)
 Takes-first saved (x ∷ items) item e = first_taken saved x items item (Takes-first saved items item) e
 
--- the same of what is taken
+-- the item taken and the items left satisfy `Takes`
 pub order_of : (saved : Item → Bool) (items left : List Item) (found : Option Item) → found ≡ first_unsaved saved items → left ≡ without_first saved items
     → IfSome found (λ item. Takes saved items item left)
 order_of saved items left None e same = tt

@@ -1,4 +1,4 @@
--- What holds of every port, through each change of its items.
+-- The invariant of every port holds through each change of its items.
 use Rattle.std.proofs.Common.{◌≡◌, ◌≢◌, ℕ, zero, suc, ◌+◌, ◌<◌, ◌≤◌, true, false, not, ◌||◌, cond, eqb, nat_eq, List, [], ◌∷◌, ◌++◌, length, refl, sym, ap, subst, ◌∙◌, inl, inr, arith}
 use Rattle.std.specs.List.{list_any, remove, IsDistinct, AllByRecursion}
 use Rattle.std.proofs.lemmas.Bool.Decides.{eqb_tells}
@@ -18,7 +18,7 @@ count_signal arrival items = sum_by-cons (λ x. cond (is_signal x) 1 0) (Signal 
 count_timer : (timer : TimerNumber) (items : List Item) → signal_count (Timer timer ∷ items) ≡ 0 + signal_count items
 count_timer timer items = sum_by-cons (λ x. cond (is_signal x) 1 0) (Timer timer) items
 
--- each item is a signal or a timer's
+-- each item is a signal or belongs to a timer
 length-items : (items : List Item) → length items ≡ signal_count items + length (timers_in items)
 length-items [] = refl
 length-items (Signal arrival ∷ items) = omega (arith, length-items items, count_signal arrival items)
@@ -43,7 +43,7 @@ below_limit (x ∷ xs) limit h q e = elim (eqb_tells q x) [
   | inr other ↦ below_limit xs limit h.1 q (ap (λ b. b || list_any (eqb q) xs) (sym other.0) ∙ e)
 ]
 
--- no port has more items than there are places
+-- a port has at most as many items as places
 pub length-IsQueue : {capacity : ℕ} {items : List Item} → IsQueue capacity items → length items ≤ capacity + 8
 length-IsQueue {capacity} {items} q =
     let timers : length (timers_in items) ≤ 8 = length-le_from_distinct_below (timers_in items) 8 q.once (below_limit (timers_in items) 8 q.numbers) in
@@ -53,7 +53,7 @@ pub IsQueue-none : (capacity : ℕ) → 1 ≤ capacity → capacity ≤ 64 → I
 unfolding IsDistinct
 IsQueue-none capacity least most = record { least = least; most = most; signals = omega arith; once = tt; numbers = tt }
 
--- another signal, where there is room for one
+-- one more signal, if there is room for it
 pub IsQueue-signal : {capacity : ℕ} {items : List Item} (arrival : Arrival) → IsQueue capacity items → signal_count items ≢ capacity → IsQueue capacity (items ++ Signal arrival ∷ [])
 IsQueue-signal {capacity} {items} arrival q room =
     let same = timers_in-append items (Signal arrival ∷ []) ∙ append_none (timers_in items) in
@@ -74,7 +74,7 @@ below_push : (xs : List ℕ) (x limit : ℕ) → AllByRecursion (λ n. n < limit
 below_push [] x limit h lt = (lt, tt)
 below_push (y ∷ xs) x limit h lt = (h.0, below_push xs x limit h.1 lt)
 
--- the item of a timer that has none
+-- the signal of a timer that has none waiting
 pub IsQueue-timer : {capacity : ℕ} {items : List Item} (timer : TimerNumber) → IsQueue capacity items → timer.0 < 8 → has_timer items timer.0 ≡ false → IsQueue capacity (items ++ Timer timer ∷ [])
 IsQueue-timer {capacity} {items} timer q number absent =
     let same = timers_in-append items (Timer timer ∷ []) in
@@ -116,7 +116,7 @@ IsQueue-remove {capacity} {items} i lt q = record {
   numbers = all_remove (λ n. n < 8) items i lt q.numbers;
 }
 
--- without the item of a timer
+-- the items without the signal of a timer
 signals_without : (items : List Item) (number : ℕ) → signal_count (without_timer items number) ≤ signal_count items
 signals_without [] number = omega arith
 signals_without (Signal arrival ∷ items) number = omega (arith, signals_without items number, count_signal arrival items, count_signal arrival (without_timer items number))

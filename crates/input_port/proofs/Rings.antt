@@ -1,4 +1,4 @@
--- How the items of a port lie in its ring, and what is left as they go round.
+-- The items of a port in its ring, and their order while they move from the front to the back.
 use Rattle.std.proofs.Common.{◌≡◌, ℕ, zero, suc, ◌+◌, ◌-◌, ◌<◌, ◌≤◌, Bool, true, false, not, ◌||◌, cond, List, [], ◌∷◌, ◌++◌, length, get_or, take, drop, filter, Some, None, refl, sym, ap, subst, ◌∙◌, arith, append_assoc, take-suc, drop-cons, length-append, length-take, length-drop, take_at, drop_at}
 use Rattle.std.specs.List.{slice_get, list_any, remove}
 use Rattle.std.proofs.lemmas.Option.{same_Some}
@@ -8,12 +8,12 @@ use Rattle.plain_laws.specs.Limits.{MOST_TIMERS_EACH}
 use Rattle.input_port.specs.declared.queue.Item.{Item}
 use Rattle.input_port.specs.Queue.{is_of_timer, IsQueue}
 
--- a ring that has a place for each item that may come
+-- a ring with a place for each item that may arrive
 pub held : {capacity : ℕ} {ring : Buffer Item} {items : List Item} {places : ℕ} → ring ≡ buffer items places → places ≡ capacity + MOST_TIMERS_EACH → IsQueue capacity items
     → IsQueue capacity ring.items × (ring.capacity ≡ capacity + MOST_TIMERS_EACH)
 held {capacity} e same q = (subst (λ (r : Buffer Item). IsQueue capacity r.items) (sym e) q, ap (λ (r : Buffer Item). r.capacity) e ∙ same)
 
--- whether an item stays where the timer of a number goes
+-- whether an item stays when the signal of this timer is removed
 abbrev pub stays_beside : ℕ → Item → Bool
 stays_beside number item = not (is_of_timer number item)
 
@@ -25,7 +25,7 @@ module _ {X : Type 0} where
   append_none [] = refl
   append_none (x ∷ xs) = ap (λ ys. x ∷ ys) (append_none xs)
 
-  -- the first of those that have not gone round yet; kept is what came to the back
+  -- the first item that has not moved yet; kept holds those moved to the back
   first_of : (xs kept : List X) (i : ℕ) (x : X) → i < length xs → slice_get (drop i xs ++ kept) 0 ≡ Some x → get_or xs i x ≡ x
   first_of xs kept i x lt e = same_Some (get_or xs i x) x (ap (λ ys. slice_get (ys ++ kept) 0) (sym (drop-cons xs i x lt)) ∙ e)
 
@@ -56,7 +56,7 @@ module _ {X : Type 0} where
     | false ↦ omega (arith, fewer p xs)
   ]
 
-  -- the first is out
+  -- the first item is removed
   popped_of : (xs kept : List X) (i places : ℕ) (before popped : Buffer X) → i < length xs → before ≡ buffer (drop i xs ++ kept) places
       → popped ≡ buffer (drop 1 before.items) before.capacity → popped ≡ buffer (drop (suc i) xs ++ kept) places
   popped_of xs kept i places before popped lt was pops =
@@ -73,7 +73,7 @@ module _ {X : Type 0} where
         length-drop (suc i) xs,
       )
 
-  -- Some go round: i of them did, and this is the next one.
+  -- Items move to the back: i of them have moved, and this is the next one.
   module _ (xs : List X) (i places : ℕ) (before popped : Buffer X) where
     -- all stay
     module _ (lt : i < length xs) (was : before ≡ buffer (drop i xs ++ take i xs) places) (pops : popped ≡ buffer (drop 1 before.items) before.capacity) where
@@ -96,7 +96,7 @@ module _ {X : Type 0} where
       pub turned_none : slice_get before.items 0 ≡ None → ⊥
       turned_none none = some_first xs (take i xs) i lt (sym (ap (λ (b : Buffer X). slice_get b.items 0) was) ∙ none)
 
-    -- those stay of which p holds
+    -- only the items for which p holds stay
     module _ (p : X → Bool) (lt : i < length xs) (was : before ≡ buffer (drop i xs ++ filter p (take i xs)) places) (pops : popped ≡ buffer (drop 1 before.items) before.capacity) where
       pub kept_room : length xs ≤ places → length popped.items < popped.capacity
       kept_room fits = room_of xs (filter p (take i xs)) i places popped lt fits (omega (arith, length-take i xs, fewer p (take i xs))) (popped_of xs (filter p (take i xs)) i places before popped lt was pops)
@@ -128,7 +128,7 @@ module _ {X : Type 0} where
       pub kept_none : slice_get before.items 0 ≡ None → ⊥
       kept_none none = some_first xs (filter p (take i xs)) i lt (sym (ap (λ (b : Buffer X). slice_get b.items 0) was) ∙ none)
 
-  -- all went round
+  -- all have moved
   pub all_kept : (p : X → Bool) (xs : List X) (i : ℕ) → length xs ≤ i → drop i xs ++ filter p (take i xs) ≡ filter p xs
   all_kept p xs i le = ap (λ ys. ys ++ filter p (take i xs)) (drop_all i xs le) ∙ ap (filter p) (taken_all xs i le)
     where
@@ -138,7 +138,7 @@ module _ {X : Type 0} where
       taken_all (y ∷ ys) zero h = absurd (omega arith)
       taken_all (y ∷ ys) (suc j) h = ap (λ zs. y ∷ zs) (taken_all ys j (omega arith))
 
-  -- where nothing goes, all stay
+  -- if none is removed, all stay
   pub all_stay : (p : X → Bool) (xs : List X) → list_any p xs ≡ false → filter (λ x. not (p x)) xs ≡ xs
   all_stay p [] e = refl
   all_stay p (x ∷ xs) e =
@@ -147,7 +147,7 @@ module _ {X : Type 0} where
         | false ↦ λ h. ap (λ ys. x ∷ ys) (all_stay p xs h)
       ] e
 
-  -- an item is taken from a place, and what was behind it goes round until the order is whole again
+  -- an item is removed at an index, and the items after it move until the order is whole again
   pub taken_out : (xs : List X) (i len places : ℕ) (turned popped after : Buffer X) → i < length xs → turned ≡ buffer (drop i xs ++ take i xs) places
       → popped ≡ buffer (drop 1 turned.items) turned.capacity → len ≡ length popped.items
       → after ≡ buffer (drop (len - i) popped.items ++ take (len - i) popped.items) popped.capacity → after ≡ buffer (remove xs i) places

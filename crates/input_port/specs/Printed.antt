@@ -1,4 +1,4 @@
--- Why a port takes no signal, as it is printed: a code and its name.
+-- The printed text of a port's refusal: a code and its name.
 use Rattle.std.specs.Prelude.{ℕ, List, codes}
 use Rattle.input_port.specs.declared.queue.PutError.{PutError}
 use Rattle.input_port.specs.declared.queue.PutError.TheVariants.{Full}

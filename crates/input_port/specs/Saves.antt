@@ -1,4 +1,4 @@
--- Which items a state saves (Z.100, save).
+-- The items that a state saves (Z.100, save).
 use Rattle.std.specs.Prelude.{ℕ, Bool, ◌&&◌, ◌==◌, nat_lt}
 use Rattle.std.specs.Int.{bit_at}
 use Rattle.plain_laws.specs.Limits.{MOST_SIGNALS, MOST_TIMERS_EACH}

@@ -16,16 +16,16 @@ use std::marker::Model;
 use thiserror::Error;
 use turn_code::{Address, SignalNumber, TimerNumber, Value};
 
-/// A signal that has come for a process.
+/// A signal that has arrived for a process.
 #[derive(Clone, Debug, Drop)]
 pub struct Arrival {
     pub signal: SignalNumber,
     pub parameters: ArrayVec<Value, 4>,
-    /// Who sent it.
+    /// The sender of the signal.
     pub sender: Address,
 }
 
-/// What waits in a port.
+/// An item that waits in a port.
 #[derive(Clone, Debug, Drop)]
 pub enum Item {
     /// A signal of another process or of the environment.
@@ -35,14 +35,14 @@ pub enum Item {
 }
 
 impl Item {
-    /// Whether it is a signal of another process or of the environment.
+    /// Whether the item is a signal of another process or of the environment.
     fn is_signal(&self) -> bool
         ensures { result ≡ is_signal self.now }
     {
         matches!(self, Item::Signal(_))
     }
 
-    /// Whether it is the signal of this timer.
+    /// Whether the item is the signal of this timer.
     fn is_of_timer(&self, timer: TimerNumber) -> bool
         ensures { result ≡ is_of_timer timer.0 self.now }
     {
@@ -56,7 +56,7 @@ impl Item {
 /// Why a port did not take a signal.
 #[derive(Clone, Copy, Debug, PartialEq, Eq, Error)]
 pub enum PutError {
-    /// As many signals as the port may have are there.
+    /// The port holds as many signals as its capacity.
     Full,
 }
 
@@ -73,10 +73,10 @@ impl fmt::Display for PutError {
     }
 }
 
-/// The items that wait for a process, in the order in which they came.
+/// The items that wait for a process, in order of arrival.
 ///
-/// The signals among them are as many as its capacity at most. Each timer has a place of its own beside these, so
-/// the ring that they lie in has a place for each item that may come. After `new` only `copy` can answer that memory is wanting.
+/// At most as many of them are signals as the capacity. Each timer has a place beside these, so the ring has a place
+/// for each item that may arrive. After `new` only `copy` can fail because memory runs out.
 #[derive(Debug, Drop)]
 pub struct Port {
     capacity: usize,
@@ -96,7 +96,7 @@ impl Model for Port {
 }
 
 impl Port {
-    /// An empty port for this many signals, from 1 to 64.
+    /// An empty port with this capacity, from 1 to 64 signals.
     pub fn new(alloc: Global, capacity: usize) -> Result<Self, AllocError>
         requires least { LEAST_PORT ≤ capacity }
         requires most { capacity ≤ MOST_PORT }
@@ -108,7 +108,7 @@ impl Port {
         })
     }
 
-    /// An equal port.
+    /// A copy of the port.
     pub fn copy(&self) -> Result<Self, AllocError>
         ensures { IfOk result (λ port. port ≡ self.now) }
     {
@@ -121,7 +121,7 @@ impl Port {
         })
     }
 
-    /// How many signals the port may have.
+    /// The capacity: how many signals the port may hold.
     pub fn capacity(&self) -> usize
         ensures value { result ≡ self.now.capacity }
         ensures least { LEAST_PORT ≤ result }
@@ -130,14 +130,14 @@ impl Port {
         self.capacity
     }
 
-    /// The item at a place: 0 is that of the one that came first.
+    /// The item at an index, the oldest at 0.
     pub fn get(&self, place: usize) -> Option<&Item>
         ensures { option_copied result ≡ slice_get self.now.items place }
     {
         self.items.get(place)
     }
 
-    /// How many items there are: 72 at most.
+    /// The number of items, at most 72.
     pub fn len(&self) -> usize
         ensures value { result ≡ length self.now.items }
         ensures in_range { result ≤ self.now.capacity + MOST_TIMERS_EACH }
@@ -153,7 +153,7 @@ impl Port {
         self.items.is_empty()
     }
 
-    /// How many of the items are signals.
+    /// The number of items that are signals.
     pub fn signals(&self) -> usize
         ensures value { result ≡ signal_count self.now.items }
         ensures in_range { result ≤ self.now.capacity }
@@ -161,16 +161,16 @@ impl Port {
         count_signals(&self.items)
     }
 
-    /// Whether a timer has an item here.
+    /// Whether the signal of a timer waits here.
     pub fn has_timer(&self, timer: TimerNumber) -> bool
         ensures { result ≡ has_timer self.now.items timer.0 }
     {
         any_of_timer(&self.items, timer)
     }
 
-    /// Puts a signal behind the other items.
+    /// Appends a signal.
     ///
-    /// `Q1 Full` where as many signals as the port may have are there. Then nothing changes.
+    /// `Q1 Full` if the port holds as many signals as its capacity. Then nothing changes.
     pub fn put(&mut self, arrival: Arrival) -> Result<(), PutError>
         ensures full { IsErrOf result PutError.Full ↔ (signal_count self.old.items ≡ self.old.capacity) }
         ensures ok { OnOk result (self.new ≡ record self.old { items = self.old.items ++ Item.Signal arrival ∷ [] }) }
@@ -183,7 +183,7 @@ impl Port {
         Ok(())
     }
 
-    /// Puts the signal of a timer, which has no item here, behind the other items.
+    /// Appends the signal of a timer that has none waiting here.
     pub fn put_timer(&mut self, timer: TimerNumber)
         requires number { timer.0 < MOST_TIMERS_EACH }
         requires absent { has_timer self.old.items timer.0 ≡ false }
@@ -199,19 +199,19 @@ impl Port {
         self.items.get(place_of_first(&self.items, saved)?)
     }
 
-    /// Takes the first item that isn't saved out of the port. The others stay, in their order.
+    /// Removes and returns the first item that isn't saved. The others stay, in their order.
     pub fn take(&mut self, saved: &Saved) -> Option<Item>
         ensures item { result ≡ first_unsaved (saves saved.now) self.old.items }
         ensures rest { self.new ≡ record self.old { items = without_first (saves saved.now) self.old.items } }
 
-        // The same, said by places: only saved items stood before it.
+        // Stated by places: only saved items were before it.
         ensures order { IfSome result (λ item. Takes (saves saved.now) self.old.items item self.new.items) }
     {
         let place = place_of_first(&self.items, saved)?;
         take_at(&mut self.items, place)
     }
 
-    /// Drops the item of a timer, if it has one here.
+    /// Removes the signal of a timer, if it waits here.
     pub fn drop_timer(&mut self, timer: TimerNumber)
         ensures { self.new ≡ record self.old { items = without_timer self.old.items timer.0 } }
     {
@@ -220,7 +220,7 @@ impl Port {
         }
     }
 
-    /// Drops all items, those of timers too.
+    /// Removes all items, including those of timers.
     pub fn clear(&mut self)
         ensures { self.new ≡ record self.old { items = [] } }
     {
@@ -228,21 +228,21 @@ impl Port {
     }
 }
 
-/// How many of the items are signals.
+/// The number of items that are signals.
 fn count_signals(items: &HeapCircularBuffer<Item>) -> usize
     ensures { result ≡ signal_count items.now.items }
 {
     items.iter().filter(|item| item.is_signal()).count()
 }
 
-/// Whether one of the items is that of a timer.
+/// Whether the signal of a timer is among the items.
 fn any_of_timer(items: &HeapCircularBuffer<Item>, timer: TimerNumber) -> bool
     ensures { result ≡ has_timer items.now.items timer.0 }
 {
     items.iter().any(|item| item.is_of_timer(timer))
 }
 
-/// The place of the first item that isn't saved.
+/// The index of the first item that isn't saved.
 fn place_of_first(items: &HeapCircularBuffer<Item>, saved: &Saved) -> Option<usize>
     ensures found { IfSome result (λ place. slice_get items.now.items place ≡ first_unsaved (saves saved.now) items.now.items) }
     ensures in_range { IfSome result (λ place. place < length items.now.items) }
@@ -259,7 +259,7 @@ fn place_of_first(items: &HeapCircularBuffer<Item>, saved: &Saved) -> Option<usi
     None
 }
 
-/// Puts an item behind the others where there is room.
+/// Appends an item. There must be room.
 fn push_in_room(items: &mut HeapCircularBuffer<Item>, item: Item)
     requires { length items.old.items < items.old.capacity }
     ensures { items.new ≡ buffer (items.old.items ++ item ∷ []) items.old.capacity }
@@ -267,7 +267,7 @@ fn push_in_room(items: &mut HeapCircularBuffer<Item>, item: Item)
     let _full = items.try_push_back(item).is_err();
 }
 
-/// Moves so many items from the front to the back, one after another.
+/// Moves `count` items from the front to the back, one after another.
 fn move_to_back(items: &mut HeapCircularBuffer<Item>, count: usize)
     requires { count ≤ length items.old.items }
     ensures { items.new ≡ buffer (drop count items.old.items ++ take count items.old.items) items.old.capacity }
@@ -280,8 +280,8 @@ fn move_to_back(items: &mut HeapCircularBuffer<Item>, count: usize)
     }
 }
 
-/// Takes the item at a place. Those before it go to the back, and then those behind it, so that all that stay are in
-/// their order again.
+/// Removes the item at an index. The items before it move to the back, and then those after it, so that all that stay
+/// are in their order again.
 fn take_at(items: &mut HeapCircularBuffer<Item>, place: usize) -> Option<Item>
     requires { place < length items.old.items }
     ensures item { result ≡ slice_get items.old.items place }
@@ -295,7 +295,7 @@ fn take_at(items: &mut HeapCircularBuffer<Item>, place: usize) -> Option<Item>
     item
 }
 
-/// An equal item.
+/// A copy of an item.
 fn copy_of(item: &Item) -> Result<Item, AllocError>
     ensures { IfOk result (λ copy. copy ≡ item.now) }
 {
@@ -309,7 +309,7 @@ fn copy_of(item: &Item) -> Result<Item, AllocError>
     }
 }
 
-/// Puts a copy of each item behind those that are there, where there is room for all.
+/// Appends a copy of each item. There must be room for all.
 fn copy_to(
     copies: &mut HeapCircularBuffer<Item>,
     items: &HeapCircularBuffer<Item>,
@@ -323,7 +323,7 @@ fn copy_to(
     Ok(())
 }
 
-/// Removes the item of a timer: each goes from the front to the back but this.
+/// Removes the item of a timer: every other item moves from the front to the back.
 fn remove_timer(items: &mut HeapCircularBuffer<Item>, timer: TimerNumber)
     ensures { items.new ≡ buffer (without_timer items.old.items timer.0) items.old.capacity }
 {

@@ -1,4 +1,4 @@
-//! What a state saves.
+//! The signals and timers that a state saves.
 
 ghost use Rattle.std.specs.Prelude.{◌≡◌, ℕ, ◌<◌, ◌||◌, ◌==◌, false};
 ghost use Rattle.input_port.specs.Saves.{saves_signal, saves_timer, saves};
@@ -22,7 +22,7 @@ pub struct Saved {
 
 #[tactic(auto, using(crate::proofs::Bits::has_bit_none, crate::proofs::Bits::has_bit_added_128, crate::proofs::Bits::has_bit_added_8, crate::proofs::Bits::has_bit_below, crate::proofs::Bits::has_bit_above))]
 impl Saved {
-    /// Nothing is saved.
+    /// A set without signals and timers.
     pub const fn nothing() -> Self
         ensures signals { (number : ℕ) → saves_signal result number ≡ false }
         ensures timers { (number : ℕ) → saves_timer result number ≡ false }
@@ -33,7 +33,7 @@ impl Saved {
         }
     }
 
-    /// A signal is saved from now on, besides what is.
+    /// Adds a signal to those that are saved.
     pub fn add_signal(&mut self, signal: SignalNumber)
         requires { signal.0 < MOST_SIGNALS }
         ensures signals { (number : ℕ) → saves_signal self.new number ≡ (number == signal.0 || saves_signal self.old number) }
@@ -42,7 +42,7 @@ impl Saved {
         self.signals |= 1 << signal.0;
     }
 
-    /// The signal of a timer is saved from now on, besides what is.
+    /// Adds the signal of a timer to those that are saved.
     pub fn add_timer(&mut self, timer: TimerNumber)
         requires { timer.0 < MOST_TIMERS_EACH }
         ensures signals { (number : ℕ) → saves_signal self.new number ≡ saves_signal self.old number }

@@ -1,11 +1,11 @@
--- What becomes of the lists as an item is taken out, and as one is put in front.
+-- The lists after an item is removed, and after one is inserted at the front.
 use Rattle.std.proofs.Common.{◌≡◌, ◌≢◌, ℕ, ◌<◌, true, false, cond, List, [], ◌∷◌, refl, sym, ap, subst, ◌∙◌, inl, inr, arith, ◌==◌, eqb}
 use Rattle.std.proofs.lemmas.Bool.Decides.{nat_tests, eqb_tells}
 use Rattle.std.proofs.lemmas.Bool.{true≢false}
 use Rattle.tick_wheel.specs.Lists.{without}
 use Rattle.tick_wheel.specs.Linked.{Chain, has}
 
--- links of which one leads elsewhere
+-- links of which one is changed
 abbrev pub led : (ℕ → ℕ) → ℕ → ℕ → ℕ → ℕ
 led next node to q = cond (node == q) to (next q)
 
@@ -15,11 +15,11 @@ led-there next node to q e = let t : eqb node q ≡ true = grind (arith, nat_tes
 pub led-other : (next : ℕ → ℕ) (node to q : ℕ) → node ≢ q → led next node to q ≡ next q
 led-other next node to q e = let t : eqb node q ≡ false = grind (arith, nat_tests) in ap (λ b. cond b to (next q)) t
 
--- the links as an item is joined with itself alone
+-- the links after an item is removed, which then links only to itself
 abbrev pub unlinked : (ℕ → ℕ) → (ℕ → ℕ) → ℕ → ℕ → ℕ
 unlinked next previous item = led (led next (previous item) (next item)) item item
 
--- ---- out
+-- ---- removal
 
 module _ (next previous : ℕ → ℕ) (forth : (q : ℕ) → previous (next q) ≡ q) (back : (q : ℕ) → next (previous q) ≡ q) (item : ℕ) where
   un-far : (q : ℕ) → q ≢ item → next q ≢ item → unlinked next previous item q ≡ next q
@@ -73,9 +73,9 @@ module _ (next previous : ℕ → ℕ) (forth : (q : ℕ) → previous (next q) 
     ]
   ]
 
--- ---- in
+-- ---- insertion
 
--- the links as an item that is next to itself alone comes behind a node
+-- the links after an item that links only to itself is inserted after a node
 abbrev pub joined : (ℕ → ℕ) → ℕ → ℕ → ℕ → ℕ
 joined next node item = led (led next item (next node)) node item
 
@@ -147,7 +147,7 @@ module _ (next previous : ℕ → ℕ) (forth : (q : ℕ) → previous (next q) 
     ],
   )
 
-  -- a chain that the node and the item are no part of
+  -- a chain that contains neither the node nor the item
   pub chain-apart : (from : ℕ) (items : List ℕ) (end : ℕ) → node ≢ from → item ≢ from → has node items ≡ false → has item items ≡ false → Chain next from items end → Chain (joined next node item) from items end
   chain-apart from [] end a b m n c = in-other from a b ∙ c
   chain-apart from (x ∷ items) end a b m n c = elim (eqb_tells node x) [
@@ -158,7 +158,7 @@ module _ (next previous : ℕ → ℕ) (forth : (q : ℕ) → previous (next q) 
     ]
   ]
 
-  -- the chain behind the node
+  -- the chain after the node
   pub chain-joined : (items : List ℕ) (end : ℕ) → has node items ≡ false → has item items ≡ false → Chain next node items end → Chain (joined next node item) node (item ∷ items) end
   chain-joined [] end m n c = (in-node, in-item ∙ c)
   chain-joined (x ∷ items) end m n c = elim (eqb_tells node x) [

@@ -1,4 +1,4 @@
--- What is due in a table is what is due in its map.
+-- The due timers of a table are those of its map.
 use Rattle.std.proofs.Common.{◌≡◌, ℕ, ◌≤◌, ◌+◌, Bool, true, false, ◌||◌, ◌&&◌, cond, T, List, [], ◌∷◌, get_or, map, is_some, Option, Some, None, refl, sym, ap, subst, ◌∙◌, inl, inr, arith, nat_le, ◌==◌, Decides, Ordering}
 use Rattle.std.specs.declared.cmp.Ordering.TheVariants.{Less, Equal, Greater}
 use Rattle.std.specs.Ordering.{eq_by_cmp, is_lt, is_eq, ordering_reverse, ordering_then, nat_cmp}
@@ -23,7 +23,7 @@ use Rattle.tick_wheel.proofs.Orders.{dues_total, exact_dues, exact_timers}
 use Rattle.tick_wheel.proofs.TableLemmas.{entries-deadlines_of, get-deadlines_of, not_found}
 use Rattle.plain_laws.proofs.Options.{is_Equal as tied}
 
--- what is due at a clock, in the order of the places
+-- the due timers, in the order of the places
 abbrev pub due_from : ℕ → ℕ → List (Option ℕ) → List Due
 due_from clock place [] = []
 due_from clock place (None ∷ table) = due_from clock (place + 1) table
@@ -35,7 +35,7 @@ due_from clock place (Some deadline ∷ table) =
 abbrev marked : List Due → List (Due × Unit {0})
 marked pairs = map (λ d. (d, tt {0})) pairs
 
--- in a strictly sorted list no pair is below the one in front
+-- in a strictly sorted list no pair is below the first one
 below_marked : (d : Due) (pairs : List Due) → AllByRecursion (λ e. due_cmp d e ≡ Less) pairs → below_all due_cmp d (marked pairs) ≡ true
 below_marked d [] h = refl
 below_marked d (e ∷ pairs) h = both _ _ (ap is_lt h.0) (below_marked d pairs h.1)
@@ -55,7 +55,7 @@ find_marked q (d ∷ pairs) = elim (eq_by_cmp due_cmp q d) as (λ b. cond b (Som
   | false ↦ find_marked q pairs
 ]
 
--- a strictly sorted list is in order
+-- a strictly sorted list is its own ordered list
 in_order-sorted : (pairs : List Due) → IsStrictlySortedBy due_cmp pairs → in_order pairs ≡ pairs
 unfolding in_order
 in_order-sorted pairs h =
@@ -63,7 +63,7 @@ in_order-sorted pairs h =
     let same : finite.from_entries {R = due_cmp} (marked pairs) ≡ finite.from_sorted (marked pairs) = same_map dues_total exact_dues _ _ (λ q. get-from_entries dues_total (marked pairs) q ∙ sym (get-from_sorted due_cmp (marked pairs) q sorted)) in
     ap finite.keys same ∙ ap (map (λ (e : Due × Unit {0}). e.0)) (entries-from_sorted due_cmp (marked pairs) sorted) ∙ unmarked pairs
 
--- the order doesn't depend on how the list stood
+-- the ordered list depends only on which elements a list has
 pub in_order-same : (xs ys : List Due) → ((d : Due) → list_any (eq_by_cmp due_cmp d) xs ≡ list_any (eq_by_cmp due_cmp d) ys) → in_order xs ≡ in_order ys
 unfolding in_order
 in_order-same xs ys same = ap finite.keys (same_map dues_total exact_dues _ _ (λ q.
@@ -74,7 +74,7 @@ in_order-same xs ys same = ap finite.keys (same_map dues_total exact_dues _ _ (�
 in_order-IsPermutation : (xs ys : List Due) → IsPermutation xs ys → in_order xs ≡ in_order ys
 in_order-IsPermutation xs ys p = in_order-same xs ys (λ q. list_any-IsPermutation (eq_by_cmp due_cmp q) xs ys p)
 
--- neighbours that don't fall and differ rise
+-- neighbours that are sorted and differ are in strict order
 rises : (r : Ordering) → is_lt (ordering_reverse r) ≡ false → is_eq r ≡ false → r ≡ Less
 rises Less h e = refl
 rises Equal h e = cc
@@ -87,19 +87,19 @@ IsStrictlySortedBy-from_distinct (x ∷ xs) s h = sorted_from_all_adjacent dues_
     let b = get_or (x ∷ xs) (k + 1) x in
     rises (due_cmp a b) (ap is_lt (sym (dues_total.antisymm b a)) ∙ s k x (omega arith) lt) (apart_from_distinct (eq_by_cmp due_cmp) (x ∷ xs) k (k + 1) x h (omega arith) lt))
 
--- a sorted permutation of pairs that differ is those in order
+-- a sorted permutation of distinct pairs is their ordered list
 pub in_order-from_sort : (xs ys : List Due) → IsDistinct (eq_by_cmp due_cmp) xs → IsPermutation xs ys → IsSorted due_cmp ys → ys ≡ in_order xs
 in_order-from_sort xs ys distinct moved sorted =
     sym (in_order-sorted ys (IsStrictlySortedBy-from_distinct ys sorted (IsDistinct-IsPermutation (eq_by_cmp due_cmp) (eq_by_cmp_equiv dues_total).symm xs ys moved distinct)))
     ∙ sym (in_order-IsPermutation xs ys moved)
 
--- the pairs of a map with a deadline that has come, in the order of the table
+-- the pairs of a map whose deadline has come, in the order of the table
 due_from-filter : (clock place : ℕ) (table : List (Option ℕ)) → filter (λ d. nat_le d.deadline clock) (map (λ (e : TimerId × ℕ). record { deadline = e.1; timer = e.0 }) (entries_from place table)) ≡ due_from clock place table
 due_from-filter clock place [] = refl
 due_from-filter clock place (None ∷ table) = due_from-filter clock (place + 1) table
 due_from-filter clock place (Some d ∷ table) = rw (due_from-filter clock (place + 1) table) refl
 
--- whether a deadline is the one of a pair, and has come by a clock
+-- whether a deadline is that of a pair, and has come by a clock
 abbrev pub is_that : Due → ℕ → Option ℕ → Bool
 is_that d clock None = false
 is_that d clock (Some deadline) = (d.deadline == deadline) && nat_le deadline clock
@@ -131,7 +131,7 @@ is_that-cond : (d : Due) (clock : ℕ) (b : Bool) (x y : Option ℕ) → is_that
 is_that-cond d clock true x y = refl
 is_that-cond d clock false x y = refl
 
--- a pair is among those of a table where its timer has its deadline there, and that has come
+-- a pair is due in a table exactly if its timer has its deadline there, and that has come
 due_from-has : (clock place : ℕ) (table : List (Option ℕ)) (d : Due) → list_any (eq_by_cmp due_cmp d) (due_from clock place table) ≡ is_that d clock (find timer_cmp d.timer (entries_from place table))
 due_from-has clock place [] d = refl
 due_from-has clock place (None ∷ table) d = due_from-has clock (place + 1) table d
@@ -146,7 +146,7 @@ due_from-has clock place (Some f ∷ table) d =
     ∙ ap (cond this ((d.deadline == f) && nat_le f clock)) rest
     ∙ sym (is_that-cond d clock this (Some f) (find timer_cmp d.timer (entries_from (place + 1) table)))
 
--- the pairs that are in a list where their timers have such deadlines in a table, and those have come, are in order what is due
+-- a list of exactly the pairs that a table has and whose deadlines have come: its ordered list is `due`
 pub due-from_has : (table : List (Option ℕ)) (clock : ℕ) (xs : List Due) → ((d : Due) → list_any (eq_by_cmp due_cmp d) xs ≡ is_that d clock (finite.get (deadlines_of table) d.timer)) → in_order xs ≡ due (deadlines_of table) clock
 unfolding due
 due-from_has table clock xs has =
@@ -180,7 +180,7 @@ less Less p = refl
 less Equal p = absurd p
 less Greater p = absurd p
 
--- a timer below each of a list isn't found there
+-- a timer below all of a list isn't found there
 not_below : (q : TimerId) (es : List (TimerId × ℕ)) → T (below_all timer_cmp q es) → find timer_cmp q es ≡ None
 not_below q [] h = refl
 not_below q (e ∷ es) h = ap (λ r. cond (is_eq r) (Some e.1) (find timer_cmp q es)) (less _ (first _ _ h)) ∙ not_below q es (second _ _ h)
@@ -188,7 +188,7 @@ not_below q (e ∷ es) h = ap (λ r. cond (is_eq r) (Some e.1) (find timer_cmp q
 not_later : (q x : TimerId) (es : List (TimerId × ℕ)) → eq_by_cmp timer_cmp q x ≡ true → T (below_all timer_cmp x es) → find timer_cmp q es ≡ None
 not_later q x es t h = not_below q es (subst (λ y. T (below_all timer_cmp y es)) (sym (exact_timers q x (tied _ t))) h)
 
--- the pairs among some entries with a deadline that has come
+-- the pairs among some entries whose deadline has come
 abbrev due_among : ℕ → List (TimerId × ℕ) → List Due
 due_among clock es = filter (λ d. nat_le d.deadline clock) (map (λ (e : TimerId × ℕ). record { deadline = e.1; timer = e.0 }) es)
 
@@ -230,7 +230,7 @@ in_order-rises xs =
     let m = finite.from_entries {R = due_cmp} (marked xs) in
     keys_rise (finite.entries m) (entries_sorted m)
 
--- a pair is among what is due where its timer has its deadline, and that has come
+-- a pair is due exactly if its timer has its deadline, and that has come
 pub due-has : (deadlines : Deadlines) (clock : ℕ) (d : Due) → list_any (eq_by_cmp due_cmp d) (due deadlines clock) ≡ is_that d clock (finite.get deadlines d.timer)
 unfolding due
 due-has deadlines clock d =
@@ -241,7 +241,7 @@ pub due-rises : (deadlines : Deadlines) (clock : ℕ) → IsStrictlySortedBy due
 unfolding due
 due-rises deadlines clock = in_order-rises (due_among clock (finite.entries deadlines))
 
--- in each map at each clock
+-- in each map, at each clock
 pub all_due : (deadlines : Deadlines) (clock : ℕ) → IsDue deadlines clock (due deadlines clock)
 all_due deadlines clock = record {
   exactly = λ d.

@@ -1,4 +1,4 @@
--- What is due of the timers in the lists that are visited is what is due of all; and how many stand there.
+-- The due timers in the visited lists are all due timers, and the number of timers in these lists.
 use Rattle.std.proofs.Common.{◌≡◌, ℕ, zero, suc, ◌<◌, ◌≤◌, ◌+◌, ◌-◌, ◌*◌, ◌/◌, ◌%◌, min, Bool, true, false, cond, ◌||◌, ◌&&◌, ◌==◌, List, [], ◌∷◌, ◌++◌, length, get_or, map, map-id, take, length-take-le, length-append, append_assoc, take_all, refl, sym, ap, ◌∙◌, inl, inr, arith, eqb, nat_le, Option, Some, None}
 use Rattle.std.specs.List.{list_any, filter, IsDistinct, AllByRecursion, range_with_len, slice_get}
 use Rattle.std.specs.Ordering.{eq_by_cmp, is_eq}
@@ -63,7 +63,7 @@ any-place table p = elim (leb_tells (length table) p) [
   | inr within ↦ deadlines_of-at table p None within.1
 ]
 
--- ---- what is due of some places
+-- ---- the due timers at some places
 
 -- by cases on: the pair has this deadline, this timer; the deadline has come
 before_is : (deadline timer come later : Bool) → cond come ((deadline && timer) || later) later ≡ ((timer && (deadline && come)) || later)
@@ -234,7 +234,7 @@ near_place-min clock n None = refl
 near_place-min clock n (Some d) = near-min clock n d
 
 module _ (clock : ℕ) (table : List (Option ℕ)) (lists : List (List ℕ)) (w : IsWheel clock table lists) where
-  -- so many are looked at
+  -- the number of timers looked at
   pub visited-count : (ticks : ℕ) → length (visited lists clock (min ticks SLOTS)) ≡ near_count (deadlines_of table) clock ticks
   unfolding near_count
   visited-count ticks =
@@ -275,7 +275,7 @@ module _ (clock : ℕ) (table : List (Option ℕ)) (lists : List (List ℕ)) (w 
 
 -- ---- step by step
 
--- room is left for one more
+-- there is room for one more
 pub room-left : (old new : List Due) (clock : ℕ) (table : List (Option ℕ)) (places : List ℕ) (k room : ℕ) → new ≡ old ++ due_of clock table (take k places) → k < length places → length old + length places ≤ room → length new < room
 room-left old new clock table places k room e h g =
     let few = due_of-few clock table (take k places) in

@@ -1,4 +1,4 @@
--- A wheel stays one as a timer is set, as one is reset, and as the clock goes on over nothing that is due.
+-- The invariant of a wheel holds after a timer is set or reset, and after the clock advances while nothing is due.
 use Rattle.std.proofs.Common.{◌≡◌, ◌≢◌, ℕ, zero, suc, ◌<◌, ◌≤◌, ◌%◌, Bool, true, false, not, cond, ◌||◌, ◌&&◌, ◌==◌, List, [], ◌∷◌, length, get_or, set, map, replicate, refl, sym, ap, subst, ◌∙◌, inl, inr, arith, eqb, nat_le, Option, Some, None}
 use Rattle.std.specs.List.{list_any, IsDistinct}
 use Rattle.std.specs.Ordering.{eq_by_cmp}
@@ -83,7 +83,7 @@ module _ (clock : ℕ) (table : List (Option ℕ)) (lists : List (List ℕ)) (w 
         ];
       }
 
--- nothing is due where what isn't due is all
+-- nothing is due if the timers that aren't due are all timers
 pub IsWheel-pass : (clock later : ℕ) (table : List (Option ℕ)) (lists : List (List ℕ)) → IsWheel clock table lists → later ≤ LAST_TICK → not_due (deadlines_of table) later ≡ deadlines_of table → IsWheel later table lists
 IsWheel-pass clock later table lists w h none = record {
   len = w.len;
@@ -112,7 +112,7 @@ IsWheel-new table lists e f =
     no_deadline (suc n) zero = refl
     no_deadline (suc n) (suc q) = no_deadline n q
 
--- ---- without what is due
+-- ---- the map without the due timers
 
 without_all-get : (ds : List Due) (deadlines : Deadlines) (q : TimerId) → finite.get (without_all ds deadlines) q ≡ cond (list_any (λ d. eq_by_cmp timer_cmp q d.timer) ds) None (finite.get deadlines q)
 without_all-get [] deadlines q = refl
@@ -131,7 +131,7 @@ right : (a b : Bool) → (a && b) ≡ true → b ≡ true
 right true b h = h
 right false b h = absurd (true≢false (sym h))
 
--- a pair of the list has the timer
+-- a pair of the list has this timer
 timer-pair : (q : TimerId) (ds : List Due) → list_any (λ d. eq_by_cmp timer_cmp q d.timer) ds ≡ true → (f : ℕ) × (list_any (eq_by_cmp due_cmp (record { deadline = f; timer = q })) ds ≡ true)
 timer-pair q [] h = absurd (true≢false (sym h))
 timer-pair q (d ∷ ds) h = elim (or_cases (eq_by_cmp timer_cmp q d.timer) (list_any (λ d. eq_by_cmp timer_cmp q d.timer) ds) h) [
@@ -171,7 +171,7 @@ due-timer_by deadlines clock q false h (Some f) e = elim (nat_le f clock) as (λ
 due-timer : (deadlines : Deadlines) (clock : ℕ) (q : TimerId) → list_any (λ d. eq_by_cmp timer_cmp q d.timer) (due deadlines clock) ≡ is_due deadlines clock q
 due-timer deadlines clock q = due-timer_by deadlines clock q (list_any (λ d. eq_by_cmp timer_cmp q d.timer) (due deadlines clock)) refl (finite.get deadlines q) refl
 
--- without each that is due the map has what isn't due
+-- the map without each due timer has the timers that aren't due
 pub without_due : (deadlines : Deadlines) (clock : ℕ) → without_all (due deadlines clock) deadlines ≡ not_due deadlines clock
 unfolding not_due
 without_due deadlines clock = same_map timers_total exact_timers _ _ (λ q.
@@ -186,7 +186,7 @@ not_due-get deadlines clock q =
     get-retain_keys deadlines (λ t. not (is_due deadlines clock t)) q (λ x e. ap (λ o. not (option_map_or (λ d. nat_le d clock) o false)) (get_tied timers_total deadlines q x e))
     ∙ sym (kept_is clock (finite.get deadlines q))
 
--- what isn't due isn't due the second time
+-- removing the due timers twice is the same as once
 pub not_due-twice : (deadlines : Deadlines) (clock : ℕ) → not_due (not_due deadlines clock) clock ≡ not_due deadlines clock
 not_due-twice deadlines clock = same_map timers_total exact_timers _ _ (λ q.
     not_due-get (not_due deadlines clock) clock q ∙ ap (kept clock) (not_due-get deadlines clock q) ∙ kept-kept clock (finite.get deadlines q) ∙ sym (not_due-get deadlines clock q))

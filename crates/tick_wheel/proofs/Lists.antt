@@ -1,4 +1,4 @@
--- Lists of numbers with no two equal.
+-- Lists of distinct numbers.
 use Rattle.std.proofs.Common.{◌≡◌, ℕ, ◌<◌, ◌≤◌, ◌+◌, zero, suc, length, take, Some, None, true, false, ◌||◌, List, [], ◌∷◌, ◌++◌, refl, sym, ap, ◌∙◌, arith, eqb}
 use Rattle.std.specs.List.{list_any, IsDistinct, AllByRecursion, slice_get}
 use Rattle.std.proofs.lemmas.Bool.{true≢false}
@@ -24,7 +24,7 @@ apart-append x (y ∷ xs) ys h g = (h.0, apart-append x xs ys h.1 g)
 front : (x : ℕ) (xs : List ℕ) → list_any (eqb x) (x ∷ xs) ≡ true
 front x xs = let t : eqb x x ≡ true = grind (arith, nat_tests) in rw t refl
 
--- two such lists without a number in both, one behind the other
+-- two such lists without a common number, one after the other
 pub distinct-append : (xs ys : List ℕ) → IsDistinct eqb xs → IsDistinct eqb ys → ((q : ℕ) → list_any (eqb q) xs ≡ true → list_any (eqb q) ys ≡ false) → IsDistinct eqb (xs ++ ys)
 unfolding IsDistinct
 distinct-append [] ys d e apart = e
@@ -37,7 +37,7 @@ pub distinct-more : (x : ℕ) (xs : List ℕ) → list_any (eqb x) xs ≡ false 
 unfolding IsDistinct
 distinct-more x xs h d = (apart-absent x xs h, d)
 
--- ---- the element at a place
+-- ---- the element at an index
 
 pub held : (xs : List ℕ) (k x : ℕ) → slice_get xs k ≡ Some x → list_any (eqb x) xs ≡ true
 held [] k x h = cc

@@ -25,11 +25,11 @@ dues_total = then_total (on_total (λ (d : Due). d.deadline) nat_cmp_total) (on_
 pub exact_dues : IsAntisymmetric due_cmp
 exact_dues a b h = ap (λ (p : ℕ × TimerId). record { deadline = p.0; timer = p.1 }) (exact_pairs nat_cmp timer_cmp exact_unsigned exact_timers (a.deadline, a.timer) (b.deadline, b.timer) h)
 
--- a timer of a later place comes later
+-- a timer at a later place is greater
 pub timer_at-rises : (i j : ℕ) → i < j → timer_cmp (timer_at i) (timer_at j) ≡ Less
 timer_at-rises i j h = grind (arith, nat_tests)
 
--- a timer is that of one place at most
+-- a timer is that of at most one place
 pub one_place : (q : TimerId) (i j : ℕ) → eq_by_cmp timer_cmp q (timer_at i) ≡ true → i < j → eq_by_cmp timer_cmp q (timer_at j) ≡ false
 one_place q i j e h = rw (exact_timers q (timer_at i) (is_Equal _ e)) (ap is_eq (timer_at-rises i j h))
 

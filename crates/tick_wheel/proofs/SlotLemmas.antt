@@ -1,4 +1,4 @@
--- What stands in the lists of slots, and what of that is due.
+-- The timers in the lists of slots, and the due ones among them.
 use Rattle.std.proofs.Common.{◌≡◌, ℕ, zero, suc, ◌<◌, ◌≤◌, ◌+◌, ◌-◌, ◌%◌, min, Bool, true, false, ◌||◌, List, [], length, get_or, refl, sym, ap, ◌∙◌, inl, inr, arith, eqb, Option, Some, None}
 use Rattle.std.specs.List.{list_any, IsDistinct}
 use Rattle.std.proofs.lemmas.Bool.Decides.{nat_tests, eqb_tells, leb_tells}
@@ -14,7 +14,7 @@ use Rattle.tick_wheel.proofs.Lists.{distinct-none, distinct-append}
 
 -- ---- the deadlines of the next clocks' slots
 
--- whether a deadline is congruent to one of the next clocks, the last one asked last
+-- whether a deadline is congruent to one of the next clocks, the last of which is tested last
 abbrev pub near : ℕ → ℕ → ℕ → Bool
 near clock zero d = false
 near clock (suc n) d = near clock n d || eqb (d % SLOTS) ((clock + suc n) % SLOTS)
@@ -60,7 +60,7 @@ near-min clock n d = elim (leb_tells n SLOTS) [
   | inr many ↦ near-all clock (min n SLOTS) d (omega (arith, many.1)) ∙ sym (near-all clock n d (omega (arith, many.1)))
 ]
 
--- ---- what is visited
+-- ---- the visited lists
 
 module _ (clock : ℕ) (table : List (Option ℕ)) (lists : List (List ℕ)) (w : IsWheel clock table lists) where
   pub visited-has : (n q : ℕ) → list_any (eqb q) (visited lists clock n) ≡ near_place clock n (get_or table q None)

@@ -1,4 +1,4 @@
--- What a table stands for, and what a change of one place or of all does to that.
+-- The map that a table represents, and its changes as one place or all places change.
 use Rattle.std.proofs.Common.{◌≡◌, ℕ, zero, suc, ◌<◌, ◌+◌, Bool, true, false, not, cond, T, List, [], ◌∷◌, length, get_or, set, map, replicate, Option, Some, None, IfSome, refl, sym, ap, subst, ◌∙◌, inl, inr, arith, nat_le}
 use Rattle.std.specs.Ordering.{eq_by_cmp, is_lt}
 use Rattle.std.specs.Option.{option_map_or}
@@ -12,7 +12,7 @@ use Rattle.tick_wheel.specs.Timers.{not_due, is_due}
 use Rattle.tick_wheel.proofs.Orders.{timers_total, exact_timers, timer_at-rises, one_place, same_place, earlier_place}
 use Rattle.std.proofs.lemmas.Bool.{and_from as both}
 
--- the deadline that the entries of a table give a timer
+-- the deadline of a timer in the entries of a table
 abbrev found : TimerId → ℕ → List (Option ℕ) → Option ℕ
 found timer place table = find timer_cmp timer (entries_from place table)
 
@@ -33,7 +33,7 @@ not_found q i place [] e h = refl
 not_found q i place (None ∷ table) e h = not_found q i (place + 1) table e (omega arith)
 not_found q i place (Some d ∷ table) e h = rw (one_place q i place e h) (not_found q i (place + 1) table e (omega arith))
 
--- a test on the timer in front and a test on a later one don't both hold
+-- a test on the first timer and a test on a later one don't both hold
 in_either_order : (a b : Bool) (x y z : Option ℕ) → (a ≡ true → b ≡ false) → cond a x (cond b y z) ≡ cond b y (cond a x z)
 in_either_order true b x y z apart = rw (apart refl) refl
 in_either_order false b x y z apart = refl
@@ -50,7 +50,7 @@ gone : (b : Bool) (x y : Option ℕ) → (b ≡ true → x ≡ None) → x ≡ c
 gone true x y none = none refl
 gone false x y none = refl
 
--- a place j, k after the first of the table, gets another deadline
+-- place j, k after the first of the table, gets another deadline
 found-set : (q : TimerId) (place : ℕ) (table : List (Option ℕ)) (k j d : ℕ) → k < length table → j ≡ place + k → found q place (set table k (Some d)) ≡ cond (eq_by_cmp timer_cmp q (timer_at j)) (Some d) (found q place table)
 found-set q place [] k j d h e = absurd (omega arith)
 found-set q place (None ∷ table) zero j d h e = ap (λ i. cond (eq_by_cmp timer_cmp q (timer_at i)) (Some d) (found q (place + 1) table)) (omega arith)
@@ -62,7 +62,7 @@ found-set q place (Some f ∷ table) (suc k) j d h e =
     ap (cond (eq_by_cmp timer_cmp q (timer_at place)) (Some f)) (found-set q (place + 1) table k j d (omega arith) (omega arith))
     ∙ in_either_order _ _ (Some f) (Some d) _ (λ t. one_place q place j t (omega arith))
 
--- it loses its deadline
+-- place j loses its deadline
 found-clear : (q : TimerId) (place : ℕ) (table : List (Option ℕ)) (k j : ℕ) → k < length table → j ≡ place + k → found q place (set table k None) ≡ cond (eq_by_cmp timer_cmp q (timer_at j)) None (found q place table)
 found-clear q place [] k j h e = absurd (omega arith)
 found-clear q place (None ∷ table) zero j h e = none_there _ _ (λ t. not_found q j (place + 1) table t (omega arith))
@@ -74,7 +74,7 @@ found-clear q place (Some f ∷ table) (suc k) j h e =
     ap (cond (eq_by_cmp timer_cmp q (timer_at place)) (Some f)) (found-clear q (place + 1) table k j (omega arith) (omega arith))
     ∙ in_either_order _ _ (Some f) None _ (λ t. one_place q place j t (omega arith))
 
--- every place loses a deadline that is due
+-- every place loses its deadline if that is due
 found-kept : (clock : ℕ) (q : TimerId) (place : ℕ) (table : List (Option ℕ)) → found q place (map (kept clock) table) ≡ kept clock (found q place table)
 found-kept clock q place [] = refl
 found-kept clock q place (None ∷ table) = found-kept clock q (place + 1) table
@@ -93,7 +93,7 @@ found-kept clock q place (Some d ∷ table) =
       ]
     ] refl
 
--- what stands at a place is the deadline of its timer
+-- the value of a place is the deadline of its timer
 found-at : (place : ℕ) (table : List (Option ℕ)) (k j : ℕ) (d : Option ℕ) → k < length table → j ≡ place + k → found (timer_at j) place table ≡ get_or table k d
 found-at place [] k j d h e = absurd (omega arith)
 found-at place (None ∷ table) zero j d h e = not_found (timer_at j) j (place + 1) table (same_place j j refl) (omega arith)
@@ -103,7 +103,7 @@ found-at place (Some f ∷ table) (suc k) j d h e =
     ap (λ b. cond b (Some f) (found (timer_at j) (place + 1) table)) (earlier_place place j (omega arith))
     ∙ found-at (place + 1) table k j d (omega arith) (omega arith)
 
--- the map of a table has what the entries have
+-- the map of a table has the deadlines of its entries
 pub get-deadlines_of : (table : List (Option ℕ)) (q : TimerId) → finite.get (deadlines_of table) q ≡ found q 0 table
 unfolding deadlines_of
 get-deadlines_of table q = get-from_sorted timer_cmp (entries_from 0 table) q (subst T (sym (entries_from-sorted 0 table)) tt)
@@ -159,7 +159,7 @@ same_head x y xs ys e = cc
 same_tail : (x y : Option ℕ) (xs ys : List (Option ℕ)) → x ∷ xs ≡ y ∷ ys → xs ≡ ys
 same_tail x y xs ys e = cc
 
--- a place gets what has not come
+-- a place gets a deadline that has not come
 pub NoneDue-set : (clock : ℕ) (table : List (Option ℕ)) (k : ℕ) (d : Option ℕ) → kept clock d ≡ d → NoneDue clock table → NoneDue clock (set table k d)
 NoneDue-set clock [] k d e h = refl
 NoneDue-set clock (x ∷ table) zero d e h = λ i. e i ∷ same_tail _ _ _ _ h i

@@ -1,4 +1,4 @@
--- Two tables of links, the lists that they make, and what a change of them makes of those.
+-- Two tables of links, the lists that they make, and the effect of a change on these lists.
 use Rattle.std.proofs.Common.{◌≡◌, ◌≢◌, ◌⊎◌, ℕ, zero, suc, ◌<◌, ◌≤◌, ◌+◌, true, false, not, cond, ◌||◌, List, [], ◌∷◌, ◌++◌, length, get_or, set, map, map-id, replicate, ltb, lt-ltb, le-ltb, refl, sym, ap, subst, ◌∙◌, inl, inr, arith, eqb, Some, None}
 use Rattle.std.specs.List.{IsDistinct, AllByRecursion, slice_get, range_with_len}
 use Rattle.std.proofs.lemmas.Bool.Decides.{nat_tests, eqb_tells, leb_tells}
@@ -14,7 +14,7 @@ use Rattle.tick_wheel.specs.Lists.{without}
 use Rattle.tick_wheel.specs.Linked.{at, Chain, has, Linked, IsLinked, walk, list_of, lists_of, item_of, out_of, in_front, in_front_back}
 use Rattle.tick_wheel.proofs.Chains.{led, unlinked, joined, joined_back, un-itself, chain-unlinked, unlinked-forth, unlinked-below, joined-forth, joined-back, joined-below, chain-apart, chain-joined}
 
--- ---- a walk along the links gives the list
+-- ---- a walk along the links returns the list
 
 item-small : (node : ℕ) → node < ITEMS → item_of node ≡ Some node
 item-small node h = let t : ltb node ITEMS ≡ true = lt-ltb node ITEMS h in rw t refl
@@ -56,7 +56,7 @@ same_lists next previous lists others same l = record {
   apart = λ s o q h g m n. l.apart s o q h g (ap (has q) (same s h) ∙ m) (ap (has q) (same o g) ∙ n);
 }
 
--- ---- without an item
+-- ---- lists without an item
 
 pub has-without : (q item : ℕ) (items : List ℕ) → has q (without item items) ≡ true → has q items ≡ true
 has-without q item [] h = h
@@ -101,7 +101,7 @@ pub distinct-more : (x : ℕ) (items : List ℕ) → has x items ≡ false → I
 unfolding IsDistinct
 distinct-more x items h d = (apart-absent x items h, d)
 
--- ---- the links stay in order
+-- ---- the links keep their invariant
 
 pub Linked-unlinked : (next previous : ℕ → ℕ) (lists : ℕ → List ℕ) (item : ℕ) → item < ITEMS → Linked next previous lists → Linked (unlinked next previous item) (unlinked previous next item) (λ s. without item (lists s))
 Linked-unlinked next previous lists item small l = record {
@@ -115,7 +115,7 @@ Linked-unlinked next previous lists item small l = record {
   apart = λ s o q h g m n. l.apart s o q h g (has-without q item (lists s) m) (has-without q item (lists o) n);
 }
 
--- the lists with an item more in front of one
+-- the lists with one more item at the front of one
 abbrev pub more : (ℕ → List ℕ) → ℕ → ℕ → ℕ → List ℕ
 more lists slot item s = cond (eqb s slot) (item ∷ lists s) (lists s)
 
@@ -202,7 +202,7 @@ made next previous n p lists a b e f l =
 made-lists : (next : List ℕ) (n p : ℕ → ℕ) (lists : ℕ → List ℕ) → at next ≡ n → Linked n p lists → (slot : ℕ) → slot < SLOTS → list_of (at next) slot ≡ lists slot
 made-lists next n p lists e l s h = ap (λ m. list_of m s) e ∙ list_of-is n p lists l s h
 
--- ---- a table in which each node leads to itself
+-- ---- a table in which each node links to itself
 
 pub range-more : (n : ℕ) → range_with_len 0 (n + 1) ≡ range_with_len 0 n ++ n ∷ []
 range-more n = sym (map-id _) ∙ map-range_with_len_more (λ x. x) 0 n n (omega arith) ∙ ap (λ xs. xs ++ n ∷ []) (map-id _)
@@ -235,7 +235,7 @@ pub lists_of-range : (next : List ℕ) → next ≡ range_with_len 0 NODES → l
 lists_of-range next e = lists_of-is (at next) (replicate SLOTS []) (length-replicate {A = List ℕ} SLOTS []) (λ s h.
     made-lists next (λ q. q) (λ q. q) (λ _. []) (ap at e ∙ (λ i q. at-range NODES q i)) Linked-none s h ∙ sym (get_or-replicate SLOTS s [] [] h))
 
--- ---- an item is taken out
+-- ---- an item is removed
 
 module _ (next previous : List ℕ) (item : ℕ) (small : item < ITEMS) (l : IsLinked next previous) where
   before_in : at previous item < NODES
@@ -267,7 +267,7 @@ module _ (next previous : List ℕ) (item : ℕ) (small : item < ITEMS) (l : IsL
       made-lists _ _ _ _ out-at out-linked s h ∙ ap (without item) (sym (lists_of-at (at next) s h))
       ∙ sym (get_or-map (without item) (lists_of (at next)) s [] [] (omega (arith, h, lists_of-length (at next)))))
 
--- ---- and put in front of a list
+-- ---- an item is inserted at the front of a list
 
 module _ (next previous : List ℕ) (slot item : ℕ) (within : slot < SLOTS) (small : item < ITEMS) (l : IsLinked next previous) (alone : at next item ≡ item) (absent : (s : ℕ) → s < SLOTS → has item (list_of (at next) s) ≡ false) where
   node_in : ITEMS + slot < NODES
@@ -303,7 +303,7 @@ module _ (next previous : List ℕ) (slot item : ℕ) (within : slot < SLOTS) (s
         | inr other ↦ rw other.0 (sym (lists_of-at (at next) s h) ∙ sym (get_or-set_other old slot s (item ∷ get_or old slot []) [] other.1))
       ])
 
--- what is out is next to itself alone, and in no list
+-- a removed item links only to itself, and is in no list
 module _ (next previous : List ℕ) (item : ℕ) (small : item < ITEMS) (l : IsLinked next previous) where
   pub out-alone : at (out_of next previous item) item ≡ item
   out-alone = ap (λ f. f item) (out-at next previous item small l) ∙ un-itself (at next) (at previous) l.linked.forth l.linked.back item
@@ -311,7 +311,7 @@ module _ (next previous : List ℕ) (item : ℕ) (small : item < ITEMS) (l : IsL
   pub out-absent : (s : ℕ) → s < SLOTS → has item (list_of (at (out_of next previous item)) s) ≡ false
   out-absent s h = ap (has item) (made-lists _ _ _ _ (out-at next previous item small l) (out-linked next previous item small l) s h) ∙ without-gone item (list_of (at next) s)
 
--- ---- the item behind
+-- ---- the next item
 
 chain-place : (next : ℕ → ℕ) (from : ℕ) (items : List ℕ) (end k x : ℕ) → Chain next from items end → ((q : ℕ) → has q items ≡ true → q < ITEMS) → ITEMS ≤ end → slice_get items k ≡ Some x → slice_get items (suc k) ≡ item_of (next x)
 chain-place next from [] end k x c small e h = cc
@@ -339,7 +339,7 @@ module _ (next previous : List ℕ) (l : IsLinked next previous) where
         ∙ chain-place (at next) (ITEMS + s) (list_of (at next) s) (ITEMS + s) k x (l.linked.chains s within.1) (λ q. l.linked.items s q within.1) (omega arith) (ap (λ xs. slice_get xs k) (sym at_slot) ∙ g)))
   ]
 
--- ---- both, one after the other
+-- ---- removal and then insertion
 
 module _ (next previous : List ℕ) (slot item : ℕ) (within : slot < SLOTS) (small : item < ITEMS) (l : IsLinked next previous) where
   pub IsLinked-put : IsLinked (in_front (out_of next previous item) (ITEMS + slot) item) (in_front_back (out_of next previous item) (out_of previous next item) (ITEMS + slot) item)

@@ -1,24 +1,23 @@
--- Lists by links: the node of a slot is the last item's next one, so each list with its slot is a
--- ring.
+-- Linked lists. The node of a slot follows its last item, so each list with its slot is a ring.
 use Rattle.std.specs.Prelude.{◌≡◌, ℕ, zero, suc, ◌+◌, ◌<◌, nat_eq, Bool, true, List, [], ◌∷◌}
 use Rattle.std.specs.Prelude.{Option, Some, None, length, get_or, set, map, nat_lt, if◌then◌else◌}
 use Rattle.std.specs.List.{IsDistinct, list_any, range_with_len}
 use Rattle.tick_wheel.specs.Sizes.{ITEMS, SLOTS, NODES}
 
--- where the links of a table lead from a node; one that isn't in the table leads to itself
+-- the node to which a table links a node; a node outside the table links to itself
 abbrev pub at : List ℕ → ℕ → ℕ
 at links node = get_or links node node
 
--- the item of a node, if it is that of one
+-- the item of a node, if the node is an item's
 abbrev pub item_of : ℕ → Option ℕ
 item_of node = if nat_lt node ITEMS then Some node else None
 
--- the items from a node on, until one comes that is a slot's: so many at most
+-- at most n items from a node on, until the node of a slot
 unfoldable pub walk : (ℕ → ℕ) → ℕ → ℕ → List ℕ
 walk next zero node = []
 walk next (suc n) node = if nat_lt node ITEMS then node ∷ walk next n (next node) else []
 
--- the items behind the node of a slot
+-- the items after the node of a slot
 unfoldable pub list_of : (ℕ → ℕ) → ℕ → List ℕ
 list_of next slot = walk next ITEMS (next (ITEMS + slot))
 
@@ -26,7 +25,7 @@ list_of next slot = walk next ITEMS (next (ITEMS + slot))
 unfoldable pub lists_of : (ℕ → ℕ) → List (List ℕ)
 lists_of next = map (list_of next) (range_with_len 0 SLOTS)
 
--- each link leads from one of these nodes to the one behind it, and from the last one to the end
+-- links lead from a node through these items in turn, and from the last one to the end
 abbrev pub Chain : (ℕ → ℕ) → ℕ → List ℕ → ℕ → Type 0
 Chain next from [] end = next from ≡ end
 Chain next from (item ∷ items) end = (next from ≡ item) × Chain next item items end
@@ -35,8 +34,8 @@ Chain next from (item ∷ items) end = (next from ≡ item) × Chain next item i
 abbrev pub has : ℕ → List ℕ → Bool
 has item items = list_any (nat_eq item) items
 
--- two links, each of which undoes the other, make these lists: an item is in one of them at most,
--- and there once
+-- two links that undo each other make these lists: an item is in at most one of them, and there
+-- once
 pub record Linked (next previous : ℕ → ℕ) (lists : ℕ → List ℕ) : Type 0 where
   pub forth : (node : ℕ) → previous (next node) ≡ node
   pub back : (node : ℕ) → next (previous node) ≡ node
@@ -48,17 +47,17 @@ pub record Linked (next previous : ℕ → ℕ) (lists : ℕ → List ℕ) : Typ
       (slot other item : ℕ) → slot < SLOTS → other < SLOTS → has item (lists slot) ≡ true
       → has item (lists other) ≡ true → slot ≡ other
 
--- two tables of links make lists
+-- two tables of links that make lists
 pub record IsLinked (next previous : List ℕ) : Type 0 where
   pub lengths : (length next ≡ NODES) × (length previous ≡ NODES)
   pub linked : Linked (at next) (at previous) (list_of (at next))
 
--- a table in which what an item stands between is joined: first with links forth and back, then the
--- other way round
+-- a table in which the neighbours of an item are linked to each other; for the other table the two
+-- arguments are exchanged
 abbrev pub out_of : List ℕ → List ℕ → ℕ → List ℕ
 out_of next previous item = set (set next (at previous item) (at next item)) item item
 
--- the two tables as an item comes behind a node
+-- the two tables after an item is inserted after a node
 abbrev pub in_front : List ℕ → ℕ → ℕ → List ℕ
 in_front next node item = set (set next item (at next node)) node item
 

@@ -1,4 +1,4 @@
--- Why a wheel refuses to go on, as it is printed: a code and its name.
+-- The printed text of a wheel's refusals: a code and its name.
 use Rattle.std.specs.Prelude.{ℕ, List, codes}
 use Rattle.tick_wheel.specs.declared.AdvanceError.{AdvanceError}
 use Rattle.tick_wheel.specs.declared.AdvanceError.TheVariants.{TooFar, ClockFull}

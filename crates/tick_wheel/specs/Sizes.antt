@@ -1,14 +1,14 @@
--- How many items and slots there are.
+-- The numbers of items and slots.
 use Rattle.std.specs.Prelude.{ℕ}
 
--- how many items there are
+-- the number of items
 abbrev pub ITEMS : ℕ
 ITEMS = 1024
 
--- how many slots there are, each with its list
+-- the number of slots, each with its list
 abbrev pub SLOTS : ℕ
 SLOTS = 256
 
--- how many nodes there are: one for each item, then one for each slot
+-- the number of nodes: one for each item, then one for each slot
 abbrev pub NODES : ℕ
 NODES = 1280

@@ -1,5 +1,5 @@
--- Timers in the lists of slots, by their deadlines' remainders; what stands in the lists of the
--- next clocks' slots.
+-- Timers in the lists of slots, by their deadlines' remainders, and the lists of the next clocks'
+-- slots.
 use Rattle.std.specs.Prelude.{◌≡◌, ℕ, zero, suc, ◌+◌, ◌%◌, ◌<◌, ◌≤◌, Bool, false, nat_eq, nat_le}
 use Rattle.std.specs.Prelude.{if◌then◌else◌, List, [], ◌∷◌, ◌++◌, length, get_or, Option, None}
 use Rattle.std.specs.Prelude.{Some}
@@ -11,13 +11,13 @@ use Rattle.tick_wheel.specs.Table.{NoneDue, timer_at, PLACES}
 use Rattle.tick_wheel.specs.Timers.{Deadlines}
 use Rattle.tick_wheel.specs.declared.Due.{Due}
 
--- whether a deadline stands in a slot's list
+-- whether a deadline belongs to a slot's list
 abbrev pub in_slot : ℕ → Option ℕ → Bool
 in_slot slot None = false
 in_slot slot (Some deadline) = nat_eq (deadline % SLOTS) slot
 
--- the lists of a table of deadlines, none of which has come: each place with a deadline stands in
--- one, once
+-- the lists of a table of deadlines, none of which has come: each place with a deadline is in one
+-- list, once
 pub record IsWheel (clock : ℕ) (table : List (Option ℕ)) (lists : List (List ℕ)) : Type 0 where
   pub len : length table ≡ PLACES
   pub within : clock ≤ LAST_TICK
@@ -27,14 +27,14 @@ pub record IsWheel (clock : ℕ) (table : List (Option ℕ)) (lists : List (List
       → list_any (nat_eq place) (get_or lists slot []) ≡ in_slot slot (get_or table place None)
   pub once : (slot : ℕ) → slot < SLOTS → IsDistinct nat_eq (get_or lists slot [])
 
--- a timer before others that are due, if its deadline has come
+-- a timer, if its deadline has come, and then later due timers
 abbrev pub due_before : ℕ → ℕ → Option ℕ → List Due → List Due
 due_before clock place None later = later
 due_before clock place (Some deadline) later =
     if nat_le deadline clock then record { deadline = deadline; timer = timer_at place } ∷ later
     else later
 
--- what is due of the timers of some places
+-- the due timers among those at some places
 abbrev pub due_of : ℕ → List (Option ℕ) → List ℕ → List Due
 due_of clock table [] = []
 due_of clock table (place ∷ places) =

@@ -18,7 +18,7 @@ pub record Timers : Type 0 where
   pub clock : ℕ
   pub deadlines : Deadlines
 
--- as the pair of its parts, a timer as the pair of its numbers
+-- encoded as the pair of its parts, a timer as the pair of its numbers
 abbrev pub timer_id_code : Coded TimerId
 timer_id_code =
     code_by (ℕ
@@ -31,7 +31,7 @@ timers_code =
     × Deadlines) (coded× coded_ℕ (finite.code timer_id_code coded_ℕ))
     (λ t. (t.clock, t.deadlines)) (λ p. record { clock = p.0; deadlines = p.1 }) (λ _. refl)
 
--- by deadline, then by actor, then by number
+-- ordered by deadline, then by actor, then by number
 abbrev pub due_cmp : Due → Due → Ordering
 due_cmp a b = ordering_then (nat_cmp a.deadline b.deadline) (timer_cmp a.timer b.timer)
 
@@ -43,8 +43,8 @@ pairs deadlines = map (λ e. record { deadline = e.1; timer = e.0 }) (finite.ent
 unfoldable pub in_order : List Due → List Due
 in_order pairs = finite.keys (finite.from_entries {R = due_cmp} (map (λ d. (d, tt {0})) pairs))
 
--- what is due at a clock: the pairs with a deadline at most the clock, in order; IsDue says the
--- same without a map
+-- the timers due at a clock: the pairs with a deadline of at most the clock, in order; IsDue states
+-- this without a map
 unfoldable pub due : Deadlines → ℕ → List Due
 due deadlines clock = in_order (filter (λ d. nat_le d.deadline clock) (pairs deadlines))
 
@@ -53,11 +53,11 @@ abbrev pub is_due : Deadlines → ℕ → TimerId → Bool
 is_due deadlines clock timer =
     option_map_or (λ d. nat_le d clock) (finite.get deadlines timer) false
 
--- the map without what is due
+-- the map without the due timers
 unfoldable pub not_due : Deadlines → ℕ → Deadlines
 not_due deadlines clock = finite.retain_keys deadlines (λ timer. not (is_due deadlines clock timer))
 
--- the pairs are those that are due at a clock, each once, in order
+-- the answer is the pairs that are due at a clock, each once, in order
 pub record IsDue (deadlines : Deadlines) (clock : ℕ) (answer : List Due) : Type 0 where
   pub exactly :
       (d : Due)
@@ -65,6 +65,6 @@ pub record IsDue (deadlines : Deadlines) (clock : ℕ) (answer : List Due) : Typ
       ↔ ((finite.get deadlines d.timer ≡ Some d.deadline) × (d.deadline ≤ clock))
   pub in_order : IsStrictlySortedBy due_cmp answer
 
--- so at each clock, in each map
+-- this holds at each clock, in each map
 abbrev pub DueLaw : Type 0
 DueLaw = (deadlines : Deadlines) (clock : ℕ) → IsDue deadlines clock (due deadlines clock)

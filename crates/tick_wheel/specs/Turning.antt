@@ -1,4 +1,4 @@
--- A wheel: timers that turn, what was due last, and how many timers it has looked at.
+-- A wheel: its timers, the timers due last, and the number of timers it has looked at.
 use Rattle.std.specs.Prelude.{ℕ, ◌+◌, ◌-◌, ◌%◌, ◌^◌, Bool, nat_eq, List, count_by, refl}
 use Rattle.std.specs.List.{list_any, range_with_len}
 use Rattle.std.specs.Coded.{Coded, code_by, coded×, coded_ℕ, coded_list}
@@ -8,7 +8,7 @@ use Rattle.tick_wheel.specs.TimerId.{TimerId}
 use Rattle.tick_wheel.specs.Timers.{Deadlines, Timers, timer_id_code, pairs}
 use Rattle.tick_wheel.specs.declared.Due.{Due}
 
--- the clock with the deadlines, what the last accepted call of `advance` found due, and how many
+-- the clock and the deadlines, the timers that the last accepted `advance` found due, and how many
 -- timers all calls looked at
 pub record Turning : Type 0 where
   pub clock : ℕ
@@ -16,17 +16,17 @@ pub record Turning : Type 0 where
   pub due : List Due
   pub looked : ℕ
 
--- the timers alone
+-- only the timers
 abbrev pub timers_of : Turning → Timers
 timers_of t = record { clock = t.clock; deadlines = t.deadlines }
 
--- a due timer as the pair of its parts
+-- a due timer encoded as the pair of its parts
 abbrev pub due_code : Coded Due
 due_code = code_by (ℕ
     × TimerId) (coded× coded_ℕ timer_id_code) (λ d. (d.deadline, d.timer))
     (λ p. record { deadline = p.0; timer = p.1 }) (λ _. refl)
 
--- as its parts
+-- encoded as its parts
 abbrev pub turning_code : Coded Turning
 turning_code =
     code_by ((ℕ × Deadlines)
@@ -35,12 +35,12 @@ turning_code =
     (coded× (coded_list due_code) coded_ℕ)) (λ t. ((t.clock, t.deadlines), (t.due, t.looked)))
     (λ p. record { clock = p.0.0; deadlines = p.0.1; due = p.1.0; looked = p.1.1 }) (λ _. refl)
 
--- the greatest number to which a wheel counts
+-- the greatest value of `looked`
 abbrev pub MOST_LOOKED : ℕ
 MOST_LOOKED = 2 ^ 64 - 1
 
--- whether a deadline is congruent, modulo the number of slots, to one of the next clocks, so many
--- from a clock on
+-- whether a deadline is congruent, modulo the number of slots, to one of the next clocks, as many
+-- as the ticks
 unfoldable pub is_near : ℕ → ℕ → ℕ → Bool
 is_near clock ticks deadline =
     list_any (λ step. nat_eq (deadline % SLOTS) ((clock + step) % SLOTS)) (range_with_len 1 ticks)

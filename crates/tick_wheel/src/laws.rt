@@ -1,9 +1,9 @@
-//! What follows from the definitions alone. Each call costs nothing.
+//! Laws that follow from the definitions. Each is a function without code.
 
 ghost use Rattle.tick_wheel.specs.Timers.{DueLaw};
 
-/// What is due at a clock, in any map, is each timer whose deadline is at most the clock, once, by deadline, then by
-/// actor, then by number.
+/// The timers due at a clock, in any map, are those whose deadline is at most the clock, each once, by deadline, then
+/// by actor, then by number.
 pub fn due_law()
     ensures { DueLaw }
 {}

@@ -1,4 +1,4 @@
-//! The timers of a link: which are active, until when, and which are due as the clock goes on.
+//! The timers of a link: the active timers, their deadlines, and the timers due as the clock advances.
 #![tactic(auto)]
 
 ghost use Rattle.std.specs.Prelude.{◌≡◌, ◌+◌, ◌<◌, ◌≤◌, ◌↔◌, [], min, length, IfOk, IfSome, OnOk, OnErr, IsErrOf};
@@ -22,7 +22,7 @@ use std::fmt;
 use std::marker::Model;
 use thiserror::Error;
 
-/// How many timers there may be: 8 for each of 128 actors.
+/// The greatest number of timers: 8 for each of 128 actors.
 pub const TIMERS: usize = 1024;
 
 /// The most ticks that one call may add to the clock.
@@ -33,7 +33,7 @@ pub const LAST_CLOCK: u64 = 1 << 62;
 
 /// A timer: the number of its actor, below 128, and its own number there, below 8.
 ///
-/// Timers are in the order of the actor, then of the number.
+/// Timers are ordered by actor, then by number.
 #[derive(Clone, Copy, Debug, PartialEq, Eq, PartialOrd, Ord)]
 pub struct Timer {
     actor: u8,
@@ -72,7 +72,7 @@ impl Timer {
         self.actor
     }
 
-    /// The timer's own number there.
+    /// The timer's number within its actor.
     pub const fn number(self) -> u8
         ensures value { result ≡ self.number }
         ensures in_range { result < MOST_TIMERS_EACH }
@@ -80,7 +80,7 @@ impl Timer {
         self.number
     }
 
-    /// The timer of a place in a table with eight places for each actor.
+    /// The timer at a place in a table with eight places for each actor.
     fn at(place: u16) -> Self
         requires { place < PLACES }
         ensures { result ≡ timer_at place }
@@ -110,14 +110,14 @@ impl Default for Timer {
 
 /// A timer that is due, with the deadline that it was set to.
 ///
-/// These are in the order of the deadline, then of the actor, then of the timer's number.
+/// Due timers are ordered by deadline, then by actor, then by the timer's number.
 #[derive(Clone, Copy, Debug, Default, PartialEq, Eq, PartialOrd, Ord)]
 pub struct Due {
     pub deadline: u64,
     pub timer: Timer,
 }
 
-/// Why `advance` left all as it was.
+/// Why `advance` was refused. Then nothing changed.
 #[derive(Clone, Copy, Debug, PartialEq, Eq, Error)]
 pub enum AdvanceError {
     /// More than 65,535 ticks in one call.
@@ -142,7 +142,7 @@ impl fmt::Display for AdvanceError {
 
 /// The timers of a link and its clock, which counts ticks from 0.
 ///
-/// An active timer has a deadline above the clock. After `new` only `copy` can answer that memory is wanting.
+/// An active timer has a deadline above the clock. After `new` only `copy` can fail because memory runs out.
 #[derive(Debug, Drop)]
 pub struct Wheel {
     clock: u64,
@@ -175,7 +175,7 @@ impl Model for Wheel {
 impl Wheel {
     ghost use Rattle.tick_wheel.specs.Timers.{due, due_cmp, in_order, not_due, IsDue};
 
-    /// No timer is active, and the clock shows 0.
+    /// A wheel without active timers, whose clock shows 0.
     pub fn new(alloc: Global) -> Result<Self, AllocError>
         ensures clock { IfOk result (λ wheel. wheel.clock ≡ 0) }
         ensures deadlines { IfOk result (λ wheel. wheel.deadlines ≡ map.empty) }
@@ -194,7 +194,7 @@ impl Wheel {
         })
     }
 
-    /// An equal wheel.
+    /// A copy of the wheel.
     pub fn copy(&self) -> Result<Self, AllocError>
         ensures { IfOk result (λ wheel. wheel ≡ self.now) }
     {
@@ -211,7 +211,7 @@ impl Wheel {
         })
     }
 
-    /// The clock, in ticks. It is 2^62 at most.
+    /// The clock, in ticks, at most 2^62.
     pub fn clock(&self) -> u64
         ensures value { result ≡ self.now.clock }
         ensures in_range { result ≤ LAST_TICK }
@@ -219,14 +219,14 @@ impl Wheel {
         self.clock
     }
 
-    /// What the last call of `advance` that wasn't refused found due, in order.
+    /// The timers that the last accepted call of `advance` found due, in order.
     pub fn due(&self) -> &[Due]
         ensures { result.now ≡ self.now.due }
     {
         self.due.as_slice()
     }
 
-    /// How many timers all calls of `advance` have looked at. It stays at 2^64 - 1 once it is there.
+    /// The number of timers that all calls of `advance` have looked at. It stays at 2^64 - 1 once it is there.
     pub fn looked(&self) -> u64
         ensures { result ≡ self.now.looked }
     {
@@ -241,15 +241,15 @@ impl Wheel {
         self.deadlines[usize::from(timer.place())]
     }
 
-    /// Whether a timer is active here, so has a deadline: it was set, and since then it was neither reset nor due. (By Z.100 it stays
-    /// active until its signal is taken: whether that waits, the port of its actor tells.)
+    /// Whether a timer is active here and so has a deadline: it was set, and since then neither reset nor due. (In
+    /// Z.100 it stays active until its signal is consumed: the port of its actor knows whether that waits.)
     pub fn is_active(&self, timer: Timer) -> bool
         ensures { result ≡ map.contains_key self.now.deadlines timer }
     {
         self.deadline_of(timer).is_some()
     }
 
-    /// Makes a timer active until a deadline above the clock. An active one loses the deadline that it had.
+    /// Makes a timer active until a deadline above the clock. An active timer loses its earlier deadline.
     pub fn set(&mut self, timer: Timer, deadline: u64)
         requires { self.old.clock < deadline }
         ensures clock { self.new.clock ≡ self.old.clock }
@@ -272,11 +272,11 @@ impl Wheel {
         self.lists.take_out(place);
     }
 
-    /// Lets `ticks` pass, and answers how many timers are due then. These are no longer active; `due` has them, in their order.
+    /// Lets `ticks` pass and returns how many timers are due. These are no longer active; `due` lists them in order.
     ///
-    /// `W1 TooFar` for more than 65,535 ticks, else `W2 ClockFull` where the clock would pass 2^62. Then nothing changes.
+    /// `W1 TooFar` for more than 65,535 ticks, else `W2 ClockFull` if the clock would pass 2^62. Then nothing changes.
     ///
-    /// It looks at the timers alone whose deadline is congruent, modulo 256, to one of the clocks that pass.
+    /// It looks only at timers whose deadline is congruent, modulo 256, to one of the clocks that pass.
     pub fn advance(&mut self, ticks: u64) -> Result<usize, AdvanceError>
         ensures too_far { IsErrOf result AdvanceError.TooFar ↔ (MOST_TICKS < ticks) }
         ensures clock_full { IsErrOf result AdvanceError.ClockFull ↔ (ticks ≤ MOST_TICKS) × (LAST_TICK < self.old.clock + ticks) }
@@ -302,7 +302,7 @@ impl Wheel {
         Ok(self.due.len())
     }
 
-    /// Lists the timers that will be due once so many ticks have passed, in any order, and counts those that it looks at.
+    /// Lists the timers that will be due after `ticks`, in any order, and counts the timers that it looks at.
     fn look(&mut self, ticks: u64)
         requires near { ticks ≤ MOST_TICKS }
         requires clock { self.old.clock + ticks ≤ LAST_TICK }
@@ -323,7 +323,7 @@ impl Wheel {
         self.looked = self.looked.saturating_add(count);
     }
 
-    /// Puts what is due in order.
+    /// Sorts the due timers.
     fn sort_due(&mut self)
         ensures permutation { IsPermutation self.old.due self.new.due }
         ensures sorted { IsSorted due_cmp self.new.due }
@@ -332,7 +332,7 @@ impl Wheel {
         self.due.sort_unstable();
     }
 
-    /// Makes inactive what is due.
+    /// Makes the due timers inactive.
     fn reset_due(&mut self)
         ensures { self.new ≡ record self.old { deadlines = without_all self.old.due self.old.deadlines } }
     {
@@ -342,7 +342,7 @@ impl Wheel {
         }
     }
 
-    /// So many ticks pass, after which nothing is due.
+    /// Lets `ticks` pass, after which nothing is due.
     fn pass(&mut self, ticks: u64)
         requires clock { self.old.clock + ticks ≤ LAST_TICK }
         requires none { not_due self.old.deadlines (self.old.clock + ticks) ≡ self.old.deadlines }

@@ -1,4 +1,4 @@
-//! What a wheel looks at as ticks pass.
+//! The timers that a wheel looks at as ticks pass.
 
 ghost use Rattle.std.specs.Prelude.{◌≡◌, ℕ, ◌+◌, ◌%◌, ◌<◌, ◌≤◌, [], ◌++◌, min, nat_eq, true, IfOk, length, get_or, vec_capacity};
 ghost use Rattle.std.specs.List.{list_any};
@@ -11,7 +11,7 @@ use crate::slots::SlotLists;
 use crate::{Due, TIMERS, Timer};
 use std::alloc::{AllocError, Global};
 
-/// The slot in whose list a timer with that deadline stands.
+/// The slot whose list holds the timers with this deadline.
 pub(crate) fn slot_of(deadline: u64) -> u16
     ensures value { result ≡ deadline % SLOTS }
     ensures in_range { result < SLOTS }
@@ -19,7 +19,7 @@ pub(crate) fn slot_of(deadline: u64) -> u16
     (deadline % 256) as u16
 }
 
-/// Appends what is due at a clock of the timers in the lists of the next clocks' slots. How many stand there.
+/// Appends the due timers in the lists of the next clocks' slots. Returns how many timers these lists hold.
 pub(crate) fn gather_near(
     lists: &SlotLists,
     table: &[Option<u64>],
@@ -42,7 +42,7 @@ pub(crate) fn gather_near(
     count
 }
 
-/// Appends what is due at a clock of the timers in a slot's list. How many stand there.
+/// Appends the due timers in a slot's list. Returns how many timers the list holds.
 fn gather(
     lists: &SlotLists,
     table: &[Option<u64>],
@@ -69,7 +69,7 @@ fn gather(
     count
 }
 
-/// Appends the timer of a place, where there is room, if its deadline has come.
+/// Appends the timer at a place if its deadline has come. There must be room.
 fn append_due(due: &mut Vec<Due>, place: u16, deadline: Option<u64>, clock: u64)
     requires place { place < PLACES }
     requires room { length due.old.items < vec_capacity due.old }
@@ -84,7 +84,7 @@ fn append_due(due: &mut Vec<Due>, place: u16, deadline: Option<u64>, clock: u64)
     }
 }
 
-/// What is due once more, with room for all timers.
+/// A copy of the due timers, with room for all timers.
 pub(crate) fn copied_due(alloc: Global, due: &[Due]) -> Result<Vec<Due>, AllocError>
     ensures items { IfOk result (λ copy. copy.items ≡ due.now) }
     ensures room { IfOk result (λ copy. PLACES ≤ vec_capacity copy) }

@@ -1,4 +1,4 @@
-//! Items in lists, one list for each slot, by links between them: putting and taking one is a step, however many there are.
+//! Lists of items, one for each slot, linked both ways: adding or removing an item is one step, however many there are.
 ghost use Rattle.std.specs.Prelude.{◌≡◌, ℕ, ◌<◌, ◌+◌, Some, [], ◌∷◌, IfOk, length, map, set, get_or, replicate, slice_get};
 ghost use Rattle.std.specs.List.{range_with_len};
 ghost use Rattle.tick_wheel.specs.Sizes.{ITEMS, SLOTS, NODES};
@@ -8,25 +8,25 @@ ghost use Rattle.tick_wheel.specs.Linked.{at, item_of, out_of, in_front, in_fron
 use std::alloc::{AllocError, Global};
 use std::marker::Model;
 
-/// How many items there are.
+/// The number of items.
 pub const ITEMS: u16 = 1024;
 
-/// How many slots there are.
+/// The number of slots.
 pub const SLOTS: u16 = 256;
 
-/// How many nodes there are: one for each item, then one for each slot.
+/// The number of nodes: one for each item, then one for each slot.
 const NODES: u16 = ITEMS + SLOTS;
 
-/// Two tables by node: the node behind each, and the one before it.
+/// Two tables by node: its next node and its previous node.
 #[derive(Debug, Drop)]
 struct Links {
     next: Vec<u16>,
     previous: Vec<u16>,
 }
 
-/// A list for each of 256 slots. The items are the numbers below 1,024; each is in one list at most, and there once.
+/// A list for each of 256 slots. The items are the numbers below 1,024; each is in at most one list, and there once.
 ///
-/// After `new` only `copy` can answer that memory is wanting.
+/// After `new` only `copy` can fail because memory runs out.
 #[derive(Debug, Drop)]
 pub struct SlotLists {
     links: Links,
@@ -44,7 +44,7 @@ impl Model for SlotLists {
 }
 
 impl SlotLists {
-    /// Each list is empty.
+    /// Lists that are all empty.
     pub fn new(alloc: Global) -> Result<Self, AllocError>
         ensures { IfOk result (λ lists. lists ≡ replicate SLOTS []) }
     {
@@ -54,7 +54,7 @@ impl SlotLists {
         Ok(SlotLists { links })
     }
 
-    /// Equal lists.
+    /// A copy of the lists.
     pub fn copy(&self) -> Result<Self, AllocError>
         ensures { IfOk result (λ lists. lists ≡ self.now) }
     {
@@ -64,7 +64,7 @@ impl SlotLists {
         Ok(SlotLists { links })
     }
 
-    /// Puts an item in front of a slot's list, out of the one in which it was.
+    /// Moves an item to the front of a slot's list.
     pub fn put(&mut self, slot: u16, item: u16)
         requires slot { slot < SLOTS }
         requires item { item < ITEMS }
@@ -74,7 +74,7 @@ impl SlotLists {
         self.links.link(ITEMS + slot, item);
     }
 
-    /// Takes an item out of the list in which it is, if it is in one.
+    /// Removes an item from its list, if it is in one.
     pub fn take_out(&mut self, item: u16)
         requires { item < ITEMS }
         ensures { self.new ≡ map (without item) self.old }
@@ -82,7 +82,7 @@ impl SlotLists {
         self.links.unlink(item);
     }
 
-    /// The item in front of a slot's list.
+    /// The first item of a slot's list.
     pub fn first(&self, slot: u16) -> Option<u16>
         requires { slot < SLOTS }
         ensures { result ≡ slice_get (get_or self.now slot []) 0 }
@@ -90,7 +90,7 @@ impl SlotLists {
         self.links.item_behind(ITEMS + slot)
     }
 
-    /// The item behind another in its list.
+    /// The next item after another in its list.
     pub fn after(&self, item: u16) -> Option<u16>
         requires { item < ITEMS }
         ensures { (slot place : ℕ) → slice_get (get_or self.now slot []) place ≡ Some item → result ≡ slice_get (get_or self.now slot []) (place + 1) }
@@ -99,7 +99,7 @@ impl SlotLists {
     }
 }
 
-/// A table in which each node leads to itself.
+/// A table in which each node links to itself.
 fn each_itself(alloc: Global) -> Result<Vec<u16>, AllocError>
     ensures { IfOk result (λ links. links.items ≡ range_with_len 0 NODES) }
 {
@@ -111,7 +111,7 @@ fn each_itself(alloc: Global) -> Result<Vec<u16>, AllocError>
 }
 
 impl Links {
-    /// Joins what an item stands between. It is then next to itself alone.
+    /// Links the neighbours of an item to each other, and the item to itself.
     fn unlink(&mut self, item: u16)
         requires lengths { (length self.old.next.items ≡ NODES) × (length self.old.previous.items ≡ NODES) }
         requires item { item < NODES }
@@ -128,7 +128,7 @@ impl Links {
         self.previous[usize::from(item)] = item;
     }
 
-    /// Puts an item that is next to itself alone behind a node.
+    /// Inserts an item, which links only to itself, after a node.
     fn link(&mut self, node: u16, item: u16)
         requires lengths { (length self.old.next.items ≡ NODES) × (length self.old.previous.items ≡ NODES) }
         requires node { node < NODES }
@@ -144,7 +144,7 @@ impl Links {
         self.previous[usize::from(behind)] = item;
     }
 
-    /// What is behind a node, if that is an item.
+    /// The next node after a node, if it is an item.
     fn item_behind(&self, node: u16) -> Option<u16>
         requires { node < length self.now.next.items }
         ensures { result ≡ item_of (at self.now.next.items node) }
