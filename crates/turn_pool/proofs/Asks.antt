@@ -1,4 +1,4 @@
--- What an event makes of a book's journal.
+-- How an event changes a book's journal.
 use Rattle.std.proofs.Common.{◌≡◌, ℕ, ◌+◌, ◌-◌, Bool, if◌then◌else◌, [], ◌∷◌, ◌++◌, length, slice_get, Option, Some, None, refl, ap, ◌∙◌, arith}
 use Rattle.std.proofs.lemmas.Bool.{le-ltb}
 use Rattle.actor_machine.specs.Step.{Says, Stepped, step}
@@ -13,7 +13,7 @@ offered_by : (b : Ledger) (e : Event) (s : Stepped) (o : Option Refusal) → Say
 offered_by b e s None is = refl
 offered_by b e s (Some r) is = cc
 
--- an event that is answered as a signal that was offered is the last of the journal
+-- an event whose answer is `Offered` is the last event of the journal
 pub offered : (b : Ledger) (e : Event) → Says reply.Offered ≡ (ask b e).answer → (ask b e).book.journal ≡ b.journal ++ e ∷ []
 unfolding ask_by
 offered b e is = offered_by b e (step b.set (runs b.set) (state_of b) e) (refusal_by (runs b.set) b e) is
@@ -26,7 +26,7 @@ stands_by b e s None more =
     ∙ last_at b.journal e
 stands_by b e s (Some r) more = absurd (omega arith)
 
--- an event by which the next place rises stands at the place that was the next
+-- an event that raises the next place is at the place that was the next
 pub stands : (b : Ledger) (e : Event) → next (ask b e).book ≡ next b + 1 → event_at (ask b e).book (next b) ≡ Some e
 unfolding ask_by
 stands b e more = stands_by b e (step b.set (runs b.set) (state_of b) e) (refusal_by (runs b.set) b e) more

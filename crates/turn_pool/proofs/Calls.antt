@@ -1,4 +1,4 @@
--- What a client's call is answered.
+-- The answer to a client's call.
 use Rattle.std.proofs.Common.{◌≡◌, ℕ, sym, ap, ◌∙◌}
 use Rattle.actor_machine.specs.Step.{Says}
 use Rattle.actor_machine.specs.Kept.{IsKept}
@@ -13,7 +13,7 @@ use Rattle.turn_pool.specs.Receipts.{IsOwn, IsTaken, IsRefusal, IsRebaseRefusal}
 abbrev of_link : ℕ → Receipt → Receipt
 of_link link r = record { link = link; place = r.place; event = r.event }
 
--- the receipt of a book that took the event, made out for the link that the client named
+-- the receipt of an event that a book took, for the link that the client named
 pub taken_by : (link number : ℕ) (e : Event) (says : Reply) (b : Ledger) (given r : Receipt) → IsKept b → Says says ≡ (ask b e).answer
     → given ≡ record { link = number; place = next b; event = e }
     → r ≡ record { link = link; place = given.place; event = given.event } → IsTaken link e says r

@@ -1,4 +1,4 @@
--- What a step, and the end of the turn that it began, count together; and how many turns and skips a step makes.
+-- The count of a step together with the end of its turn, and the numbers of turns and skips of a step.
 use Rattle.std.proofs.Common.{ℕ, ◌≤◌, Result, Ok, Err, arith}
 use Rattle.turn_machine.specs.Rooms.{Lying}
 use Rattle.actor_machine.specs.Ledger.{Ledger}
@@ -23,7 +23,7 @@ one_at_most : {A E : Type 0} (r : Result A E) → made r 1 ≤ 1
 one_at_most (Ok x) = omega arith
 one_at_most (Err x) = omega arith
 
--- a step makes no more turns and skips than it may
+-- a step makes at most as many turns and skips as it may
 pub few : (b c : Ledger) (r l : Lying) (s : Move) (m : Moved) → Moves b r s m c l → steps_of m ≤ most_of s
 few b c r l (move.Begin n) (Begun answer) moves = one_at_most answer
 few b c r l (move.Begin n) (Skipped answer) moves = absurd moves

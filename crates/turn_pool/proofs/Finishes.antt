@@ -1,4 +1,4 @@
--- What holds of each book, and of one more.
+-- A property of each book, with one more book.
 use Rattle.std.proofs.Common.{List, [], ◌∷◌, ◌++◌, All}
 use Rattle.std.proofs.lemmas.List.Elements.{All-append, All-cons, All-nil}
 use Rattle.actor_machine.specs.Ledger.{Ledger}

@@ -1,4 +1,4 @@
--- What turns of a rest add to a journal.
+-- The events that whole turns add to a journal.
 use Rattle.std.proofs.Common.{◌≡◌, ℕ, ◌+◌, ◌<◌, ◌≤◌, zero, suc, [], ◌∷◌, length-append, Option, Some, None, refl, sym, arith}
 use Rattle.std.proofs.lemmas.Option.{none-some}
 use Rattle.actor_machine.specs.Step.{Stepped, step}
@@ -12,7 +12,7 @@ use Rattle.actor_book.specs.declared.turn.Turn.TheVariants.{Made, Blocked, Idle}
 use Rattle.actor_book.specs.Turns.{Tried, turn_refused, refusal_in, skips_by, by_refusal, begins_by, tried, actors_in, first_that, first_from, least_turn, Rested, goes_on, rests}
 use Rattle.turn_pool.specs.Steps.{HasCounted}
 
--- one event or two where there was a turn, and else none
+-- one or two events if there was a turn, and none otherwise
 Adds : Turn → ℕ → ℕ → Type 0
 Adds Made before after = (before < after) × (after ≤ before + 2)
 Adds Blocked before after = after ≡ before
@@ -32,7 +32,7 @@ taken_by : (b : Ledger) (e : Event) (s : Stepped) (o : Option Refusal) → refus
 taken_by b e s None is = omega (arith, length-append b.journal (e ∷ []))
 taken_by b e s (Some r) is = absurd (none-some r (sym is))
 
--- an event that isn't refused is one more
+-- an event that isn't refused raises the next place by one
 taken : (b : Ledger) (e : Event) → refusal_in (ask b e).answer ≡ None → next (ask b e).book ≡ next b + 1
 unfolding ask_by
 taken b e is = taken_by b e (step b.set (runs b.set) (state_of b) e) (refusal_by (runs b.set) b e) is
@@ -89,7 +89,7 @@ goes_on_counts b c r Made one more = (omega (arith, one.0, more.0), omega (arith
 goes_on_counts b c r Blocked one more = (omega arith, omega arith)
 goes_on_counts b c r Idle one more = (omega arith, omega arith)
 
--- each turn of a rest is one event or two of the journal
+-- each turn of a sequence of turns is one or two events of the journal
 pub rests_count : (k : ℕ) (b : Ledger) → HasCounted (rests k b).turns (next b) (next (rests k b).book)
 unfolding rests
 rests_count zero b = (omega arith, omega arith)

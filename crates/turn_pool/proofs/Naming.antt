@@ -19,7 +19,7 @@ use Rattle.turn_pool.specs.declared.moves.Move.TheVariants as move
 use Rattle.turn_pool.specs.declared.moves.Moved.{Moved}
 use Rattle.turn_pool.specs.declared.moves.Moved.TheVariants as moved
 
--- whoever has a turn out is there
+-- an actor that has a turn out exists
 actor_there : (b : Ledger) (n : ℕ) (t : Turn) (o : Option Actor) → slice_get (state_of b).actors n ≡ o → turn_at b.set n o ≡ Some t
     → (a : Actor) × (slice_get (state_of b).actors n ≡ Some a)
 actor_there b n t None at h = absurd (none-some t h)

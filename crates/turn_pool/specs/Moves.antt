@@ -17,13 +17,13 @@ use Rattle.turn_pool.specs.declared.moves.Move.TheVariants as move
 use Rattle.turn_pool.specs.declared.moves.Moved.{Moved}
 use Rattle.turn_pool.specs.declared.moves.Moved.TheVariants as moved
 
--- an actor begins a turn into a free room, and the job that lies there is what it then has out
+-- an actor begins a turn in an empty room; the room then holds the job that the actor has out
 pub record Begins (b : Ledger) (r : Lying) (actor : ℕ) (c : Ledger) (s : Lying) : Type 0 where
   pub free : r ≡ Free
   pub book : c ≡ (ask b (Begin actor)).book
   pub began : BeginsThere b actor c s
 
--- it begins none for this reason, and nothing changes
+-- the actor doesn't begin a turn, for this reason, and nothing changes
 pub record Refuses (b : Ledger) (r : Lying) (actor : ℕ) (x : RoomRefusal) (c : Ledger)
     (s : Lying) : Type 0 where
   pub refused : BeginsNone b actor r x
@@ -35,7 +35,7 @@ abbrev pub BeginsIn : {A : Type 0} → Ledger → Lying → ℕ → Result A Roo
 BeginsIn b r actor (Ok x) c s = Begins b r actor c s
 BeginsIn b r actor (Err x) c s = Refuses b r actor x c s
 
--- an actor throws an item away
+-- an actor discards an item
 pub record Skips (b : Ledger) (actor : ℕ) (answer : Result Trigger Refusal) (c : Ledger) :
     Type 0 where
   pub book : c ≡ (ask b (Skip actor)).book
@@ -45,20 +45,20 @@ abbrev pub EndsIn : Ledger → Lying → Result Report Refusal → Ledger → Ly
 EndsIn b r (Ok report) c s = EndsThere b r report c × (s ≡ Free)
 EndsIn b r (Err x) c s = (x ≡ Stranger) × (c ≡ b) × (s ≡ r)
 
--- what ran in the room is taken where its actor has it out, and there alone: the room is free then;
--- else it stays, and nothing changes
+-- the turn that ran in the room is accepted exactly if its actor has it out; then the room is
+-- empty, otherwise nothing changes
 pub record FinishesIn (b : Ledger) (r : Lying) (answer : Result Report Refusal) (c : Ledger)
     (s : Lying) : Type 0 where
   pub taken : IsOk answer ↔ IsOutThere b r
   pub ends : EndsIn b r answer c s
 
--- actors have whole turns or throw items away, one after another, at most so many: those of a rest,
--- each the least actor's that can, and fewer only where a rest ends early
+-- actors take whole turns or discard items, one after another, at most `most`: those of `rests`,
+-- each by the first actor that can, and fewer only if `rests` ends early
 pub record HasTurns (b : Ledger) (most n : ℕ) (c : Ledger) : Type 0 where
   pub turns : n ≡ (rests most b).turns
   pub book : c ≡ (rests most b).book
 
--- one step of a worker on a book with its room, and what it gives
+-- one step of a worker on a book with its room, and the result
 abbrev pub Moves : Ledger → Lying → Move → Moved → Ledger → Lying → Type 0
 Moves b r (move.Begin actor) (moved.Begun answer) c s = BeginsIn b r actor answer c s
 Moves b r (move.Begin actor) (moved.Skipped answer) c s = ⊥

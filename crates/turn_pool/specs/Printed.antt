@@ -1,4 +1,4 @@
--- The names of what a pool refuses, as they are printed.
+-- How the refusals and faults of a pool are printed.
 use Rattle.std.specs.Prelude.{ℕ, List, ◌++◌, codes}
 use Rattle.std.specs.Fmt.{decimal}
 use Rattle.actor_machine.specs.Printed.{refusal_text}
@@ -12,7 +12,7 @@ abbrev pub fault_text : PoolFault → List ℕ
 fault_text (NoWorkers books) = codes "G1 NoWorkers"
 fault_text (NoMemory books) = codes "NoMemory"
 
--- a book's own refusals are printed by their own names, as in a script's answers
+-- a book's refusals are printed by their own names, as in a script's answers
 abbrev pub pool_refusal_text : PoolRefusal → List ℕ
 pool_refusal_text refusal.NoLink = codes "B10 NoActor"
 pool_refusal_text refusal.Closing = codes "G2 Closing"

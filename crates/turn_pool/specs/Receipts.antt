@@ -1,4 +1,4 @@
--- Receipts, held against the journals.
+-- Receipts, compared with the journals.
 use Rattle.std.specs.Prelude.{◌≡◌, ℕ, List, Option, None, Some, slice_get}
 use Rattle.actor_machine.specs.Kept.{IsKept}
 use Rattle.actor_machine.specs.Ledger.{Ledger, ask, event_at, next, rebased}
@@ -17,24 +17,24 @@ abbrev pub event_in : Option Ledger → ℕ → Option Event
 event_in None place = None
 event_in (Some b) place = event_at b place
 
--- the receipt's event stands at its place in its link's journal
+-- the receipt's event is at its place in its link's journal
 abbrev pub StandsIn : List Ledger → Receipt → Type 0
 StandsIn books r = event_in (slice_get books r.link) r.place ≡ Some r.event
 
 abbrev pub AllStand : List Ledger → List Receipt → Type 0
 AllStand books receipts = (i : ℕ) (r : Receipt) → slice_get receipts i ≡ Some r → StandsIn books r
 
--- a position of the list whose receipt doesn't stand
+-- the position of a receipt whose event isn't at its place
 pub record FailsAt (books : List Ledger) (receipts : List Receipt) (position : ℕ) : Type 0 where
   pub receipt : Receipt
   pub there : slice_get receipts position ≡ Some receipt
   pub fails : StandsIn books receipt → ⊥
 
--- ---- what a client's call comes to; which book it met no contract can say, but that it is one
--- that is kept as every book is
+-- ---- the result of a client's call; no contract can say which book it met, only that the book has
+-- the invariant of every book
 
--- a book takes the event and replies so; the receipt names the link, the place that the event gets
--- in that book, and the event
+-- a book takes the event and gives this reply; the receipt names the link, the place that the event
+-- gets in that book, and the event
 pub record IsTaken (link : ℕ) (e : Event) (says : Reply) (r : Receipt) : Type 0 where
   pub book : Ledger
   pub kept : IsKept book
@@ -53,21 +53,21 @@ pub record IsRebased (place : ℕ) : Type 0 where
   pub kept : IsKept book
   pub names : place ≡ next (rebased book)
 
--- the refusals of the pool itself, before it asks a book
+-- the pool's own refusals, made before it asks a book
 abbrev pub IsOwn : PoolRefusal → Type 0
 IsOwn NoLink = Unit {0}
 IsOwn Closing = Unit {0}
 IsOwn NoMemory = ⊥
 IsOwn (Refused r) = ⊥
 
--- the refusals that a client's event may have: the pool's own, and those of a book for this event
+-- the possible refusals of a client's event: the pool's own, and those of a book for this event
 abbrev pub IsRefusal : Event → PoolRefusal → Type 0
 IsRefusal e NoLink = IsOwn NoLink
 IsRefusal e Closing = IsOwn Closing
 IsRefusal e NoMemory = ⊥
 IsRefusal e (Refused r) = IsRefused e r
 
--- the refusals that a rebase may have: the pool's own, and want of memory
+-- the possible refusals of a rebase: the pool's own, and that memory ran out
 abbrev pub IsRebaseRefusal : PoolRefusal → Type 0
 IsRebaseRefusal NoLink = IsOwn NoLink
 IsRebaseRefusal Closing = IsOwn Closing

@@ -1,4 +1,4 @@
--- What a pool serves, and what it leaves.
+-- The numbers that a pool serves, and the books that it returns.
 use Rattle.std.specs.Prelude.{◌≡◌, ◌≤◌, ◌+◌, ℕ, List, length, count_by}
 use Rattle.plain_laws.specs.Limits.{LEAST_WORKERS, MOST_LINKS, MOST_WORKERS}
 use Rattle.actor_machine.specs.Kept.{is_finish}
@@ -6,18 +6,17 @@ use Rattle.actor_machine.specs.Ledger.{Ledger, state_of}
 use Rattle.turn_pool.specs.declared.fault.PoolFault.{PoolFault}
 use Rattle.turn_pool.specs.declared.fault.PoolFault.TheVariants.{NoWorkers, NoMemory}
 
--- so many links by so many workers, each in its range
+-- the numbers of links and of workers are in their ranges
 abbrev pub AreServed : ℕ → ℕ → Type 0
 AreServed links workers =
     (links ≤ MOST_LINKS) × (LEAST_WORKERS ≤ workers) × (workers ≤ MOST_WORKERS)
 
--- no finish stands in the journal that the state doesn't count, and none is counted that doesn't
--- stand there
+-- the state counts exactly the finishes of the base and of the journal
 abbrev pub CountsFinishes : Ledger → Type 0
 CountsFinishes b = (state_of b).finishes ≡ b.base.finishes + count_by is_finish b.journal
 
--- where nobody is served the books come back: the very ones, or, where no thread could be made, as
--- many
+-- if nothing is served the books come back: the same books, or, if no thread could be started, as
+-- many books
 abbrev pub HandsBack : List Ledger → ℕ → PoolFault → Type 0
 HandsBack links workers (NoMemory books) = (books.items ≡ links) × AreServed (length links) workers
 HandsBack links workers (NoWorkers books) =

@@ -1,4 +1,4 @@
-//! What a pool leaves, and receipts held against its journals.
+//! The results of a pool, and the check of receipts against its journals.
 
 ghost use Rattle.std.specs.Prelude.{◌≡◌, ◌↔◌, IsTrue, Some, IfErr, OnOk, slice_get};
 ghost use Rattle.actor_machine.specs.Ledger.{event_at};
@@ -9,18 +9,18 @@ use actor_book::{Book, Event};
 use std::fmt;
 use thiserror::Error;
 
-/// What a pool leaves.
+/// The results of a pool.
 #[derive(Drop)]
 pub struct Closed {
     /// The books of the links, in order.
     pub books: Vec<Book>,
-    /// How many events of their journals the client made.
+    /// The number of journal events that the client made.
     pub client: u64,
-    /// How many each worker made.
+    /// The number of journal events that each worker made.
     pub workers: Vec<u64>,
 }
 
-/// A receipt whose event doesn't stand at its place.
+/// A receipt whose event isn't at its place.
 #[derive(Clone, Copy, PartialEq, Eq, Debug, Error)]
 pub struct Mismatch {
     /// Its position in the list, from 0.
@@ -38,7 +38,7 @@ impl fmt::Display for Mismatch {
     }
 }
 
-/// Whether an event stands at a place of a book's journal.
+/// Whether the event is at this place of a book's journal.
 fn has(book: &Book, place: u64, event: &Event) -> bool
     ensures { IsTrue result ↔ (event_at book.now place ≡ Some event.now) }
 {
@@ -51,7 +51,7 @@ fn has(book: &Book, place: u64, event: &Event) -> bool
     }
 }
 
-/// Whether the event of a receipt stands at its place.
+/// Whether the event of a receipt is at its place.
 fn stands(books: &[Book], receipt: &Receipt) -> bool
     ensures { IsTrue result ↔ StandsIn books.now receipt.now }
 {
@@ -61,7 +61,7 @@ fn stands(books: &[Book], receipt: &Receipt) -> bool
     }
 }
 
-/// Holds receipts against the journals.
+/// Compares receipts with the journals.
 fn audited(books: &[Book], receipts: &[Receipt]) -> Result<(), Mismatch>
     ensures ok { OnOk result (AllStand books.now receipts.now) }
     ensures err { IfErr result (λ e. FailsAt books.now receipts.now e.position) }
@@ -75,12 +75,12 @@ fn audited(books: &[Book], receipts: &[Receipt]) -> Result<(), Mismatch>
 }
 
 impl Closed {
-    /// Holds receipts against the journals.
+    /// Compares receipts with the journals.
     ///
     /// # Errors
     ///
-    /// `G3 Mismatch` with the position of a receipt whose event doesn't stand at its place in the journal of its link: an
-    /// event before the base stands nowhere.
+    /// `G3 Mismatch` with the position of a receipt whose event isn't at its place in the journal of its link.
+    /// Events before the base are at no place.
     pub fn audit(&self, receipts: &[Receipt]) -> Result<(), Mismatch>
         ensures ok { OnOk result (AllStand self.now.books.items receipts.now) }
         ensures err { IfErr result (λ e. FailsAt self.now.books.items receipts.now e.position) }

@@ -1,16 +1,16 @@
-//! Why nobody is served.
+//! Faults in which a pool serves nothing.
 
 use actor_book::Book;
 use std::fmt;
 use std::fmt::{Debug, Formatter, Write};
 use thiserror::Error;
 
-/// Why a pool serves nobody. The books come back.
+/// Why a pool serves nothing. The fault returns the books.
 #[derive(Drop, Error)]
 pub enum PoolFault {
-    /// No worker or more than 16, or more than 16 links, or no thread could be started.
+    /// No workers or more than 16, more than 16 links, or no thread could be started.
     NoWorkers(Vec<Book>),
-    /// There is too little memory.
+    /// Memory ran out.
     NoMemory(Vec<Book>),
 }
 

@@ -1,4 +1,4 @@
-//! What a pool asks of others.
+//! Traits that the users of a pool implement.
 
 ghost use Rattle.std.specs.Prelude.{◌≡◌, Bool};
 
@@ -8,24 +8,24 @@ use actor_book::ActorName;
 use std::sync::Wait;
 use std::sync::ledger::Ledger;
 
-/// A turn that a worker has out.
+/// The name of a turn that a worker has out.
 #[derive(Clone, Copy, PartialEq, Eq, Debug)]
 pub struct JobName {
     /// The number of the link, from 0.
     pub link: usize,
-    /// The actor: its process, and which instance it is.
+    /// The actor: its process and the number of its instance.
     pub actor: ActorName,
     /// The number of the turn, from 0 over all actors of the link.
     pub turn: u64,
 }
 
-/// Who looks at workers as they run turns. It is called under no lock.
+/// An observer of the turns that workers run. It is called without a lock.
 pub trait Gate {
-    // whether it looks
+    // whether the gate watches turns
     ghost looking: { Self → Bool };
 
-    /// Whether it looks at turns, which a gate says always alike. One that looks is told of each turn as it begins and as it ends; between, the turn runs under
-    /// no lock. One that doesn't is told of none, and a worker has each turn whole while it holds the lock of the link.
+    /// Whether the gate watches turns; the answer never changes. A watching gate hears of each turn as it begins and as
+    /// it ends, and the turn runs without a lock. Otherwise a worker runs whole turns under the link's lock.
     fn looks(&self) -> bool
         ensures { result ≡ looking self.now };
     /// A turn has begun, and is about to run.
@@ -34,8 +34,8 @@ pub trait Gate {
     fn leave(&self, name: JobName);
 }
 
-/// Who uses a pool, on the thread that serves it.
+/// The user of a pool, on the thread that serves it.
 pub trait Client {
-    /// The pool closes as this returns. The seat counts what the client does.
+    /// Uses the pool; the pool closes when this returns. The seat counts the client's events.
     fn drive<R: Wait, L: Ledger>(&mut self, pool: &Pool<'_, R, L>, seat: &mut Seat<L>);
 }

@@ -8,13 +8,13 @@ use std::marker::PhantomData;
 use std::sync::ledger::Ledger;
 use std::sync::{MutexGuard, Wait};
 
-/// A worker's hand. By it alone it locks links, and while it holds a lock its hand isn't open.
+/// A worker's hand, the only means by which it locks links. While the worker holds a lock its hand isn't open.
 #[derive(Drop)]
 pub(crate) struct Hand<'p, 'r, R: Wait, L: Ledger> {
     pool: &'p Pool<'r, R, L>,
 }
 
-/// That a worker holds no lock, for as long as this lives.
+/// Evidence that a worker holds no lock, as long as this lives.
 #[derive(Drop)]
 pub(crate) struct Open<'a> {
     marker: PhantomData<&'a ()>,
@@ -28,7 +28,7 @@ impl<'p, 'r, R: Wait, L: Ledger> Hand<'p, 'r, R, L> {
         Hand { pool }
     }
 
-    /// Locks a link, if there is such a one: the hand is in use until the lock is given back.
+    /// Locks a link, if there is one with this number. The hand is borrowed until the lock is released.
     pub(crate) fn lock(&mut self, link: usize) -> Option<MutexGuard<'_, Slot<L>>>
         ensures { IfNone result (vec_len self.old.pool.now.links ≤ link) }
     {
@@ -38,7 +38,7 @@ impl<'p, 'r, R: Wait, L: Ledger> Hand<'p, 'r, R, L> {
         }
     }
 
-    /// The hand holds no lock, since it can be looked at, and takes none while this lives.
+    /// Shows that the hand holds no lock: it can be borrowed. It takes no lock while the result lives.
     pub(crate) fn open(&self) -> Open<'_> {
         Open {
             marker: PhantomData,

@@ -1,5 +1,5 @@
-//! Workers for the books of links: each event that a worker or a client makes is counted on a seat of its own, and what all
-//! seats have together is what the journals have grown by, over any number of threads.
+//! Workers for the books of links. Each worker and each client has a seat that counts its events. Together they count
+//! the growth of the journals, for any number of threads.
 #![tactic(auto)]
 
 mod closed;

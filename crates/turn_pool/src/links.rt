@@ -1,4 +1,4 @@
-//! Books under locks, and out of them again. Each gets a share of the account that goes as far as its journal can.
+//! Putting books under locks and taking them out. Each gets a share of the account for all that its journal can hold.
 
 ghost use Rattle.std.specs.Prelude.{◌≡◌, ◌≤◌, ◌<◌, ◌+◌, ◌*◌, ◌^◌, [], All, sum_by, vec_len, vec_capacity};
 ghost use Rattle.actor_machine.specs.Ledger.{next};
@@ -9,7 +9,7 @@ use actor_book::Book;
 use std::sync::Mutex;
 use std::sync::ledger::{Ledger, Share};
 
-/// Puts a book away with its share.
+/// Makes the slot of a book, with its share.
 fn put_away<L: Ledger>(rest: &mut Share<L>, book: Book, link: usize) -> Slot<L>
     requires parts { 1 < rest.old.parts }
     requires amount { 2 ^ 57 ≤ rest.old.amount }
@@ -20,7 +20,7 @@ fn put_away<L: Ledger>(rest: &mut Share<L>, book: Book, link: usize) -> Slot<L>
     Slot { book, link, share }
 }
 
-/// Takes a book out again. Its share comes back.
+/// Takes a book out of its slot, and returns the share to the rest.
 fn take_out<L: Ledger>(rest: &mut Share<L>, slot: Slot<L>) -> Book
     ensures parts { rest.new.parts ≡ rest.old.parts + 1 }
     ensures amount { rest.new.amount + next result ≡ rest.old.amount + 2 ^ 57 }

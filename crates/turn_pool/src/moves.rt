@@ -12,35 +12,35 @@ use std::sync::ledger::Ledger;
 use turn_code::Trigger;
 use turn_machine::Room;
 
-/// What a worker does to a link.
+/// A worker's step on a link.
 #[derive(Clone, Copy, PartialEq, Eq, Debug)]
 pub enum Move {
     /// An actor begins a turn, whose job is made in the worker's room.
     Begin(u16),
-    /// An actor throws away the first item that its state doesn't save.
+    /// An actor discards the first item that its state doesn't save.
     Skip(u16),
-    /// An actor ends the turn that it has out, which ran in the worker's room.
+    /// An actor ends the turn that it has out, after it ran in the worker's room.
     Finish,
-    /// Actors have whole turns, each from its beginning to its end, or throw items away, one after another, at most so many: each the
-    /// least that can.
+    /// Actors take whole turns, each from begin to finish, or discard items, one after another, at most this many. Each
+    /// is by the first actor that can.
     Turns(usize),
 }
 
-/// What the book answered.
+/// The book's answer.
 #[derive(Drop)]
 pub enum Moved {
-    /// Whether the turn began: then its job lies in the room.
+    /// Whether the turn began; if it did, its job is in the room.
     Begun(Result<(), RoomRefusal>),
-    /// The signal or timer that was thrown away.
+    /// The signal or timer that was discarded.
     Skipped(Result<Trigger, Refusal>),
-    /// How the turn ended.
+    /// The report on the end of the turn.
     Finished(Result<Report, Refusal>),
-    /// How many whole turns and skips there were.
+    /// The number of whole turns and skips.
     Turned(usize),
 }
 
-/// One step of a worker on a link that it is lent, with the account and its room. Each event of the journal is counted on the
-/// worker's seat, both of a whole turn, and a refused step on none.
+/// One step of a worker on a borrowed link, with the account and the worker's room. The worker's seat counts each event
+/// of the journal, which is two for a whole turn. A refused step counts nothing.
 pub fn work<L: Ledger>(
     slot: &mut Slot<L>,
     seat: &mut Seat<L>,

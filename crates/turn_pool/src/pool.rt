@@ -25,7 +25,7 @@ pub struct Pool<'r, R: Wait, L: Ledger> {
 }
 
 impl<'r, R: Wait, L: Ledger> Pool<'r, R, L> {
-    /// From now on clients are refused, and workers come to an end.
+    /// Closes the pool: it refuses clients from now on, and its workers come to an end.
     pub fn close(&self) {
         self.closing.store(true, Ordering::SeqCst);
     }
@@ -47,11 +47,11 @@ impl<'r, R: Wait, L: Ledger> Pool<'r, R, L> {
         }
     }
 
-    /// A signal of the environment comes to an actor of a link, as by [`actor_book::Book::offer`]. It is counted on the seat.
+    /// Offers an actor of a link a signal of the environment, by [`actor_book::Book::offer`]. The seat counts it.
     ///
     /// # Errors
     ///
-    /// In this order: `B10 NoActor` for a link that isn't there, `G2 Closing`, those of the book. Then nothing changes.
+    /// In this order: `B10 NoActor` for a missing link, `G2 Closing`, those of the book. Then nothing changes.
     pub fn offer(
         &self,
         link: usize,
@@ -75,11 +75,11 @@ impl<'r, R: Wait, L: Ledger> Pool<'r, R, L> {
         }
     }
 
-    /// So many ticks pass on a link, as by [`actor_book::Book::advance`]. How many timers were due. It is counted on the seat.
+    /// Passes ticks on a link, by [`actor_book::Book::advance`]. Returns how many timers were due. The seat counts it.
     ///
     /// # Errors
     ///
-    /// In this order: `B10 NoActor` for a link that isn't there, `G2 Closing`, those of the book. Then nothing changes.
+    /// In this order: `B10 NoActor` for a missing link, `G2 Closing`, those of the book. Then nothing changes.
     pub fn advance(
         &self,
         link: usize,
@@ -101,12 +101,12 @@ impl<'r, R: Wait, L: Ledger> Pool<'r, R, L> {
         }
     }
 
-    /// The environment takes what has waited longest for it on a link, as by [`actor_book::Book::take_env`]. It is counted on
-    /// the seat.
+    /// Takes the signal that has waited longest for the environment on a link, as [`actor_book::Book::take_env`] does.
+    /// The seat counts it.
     ///
     /// # Errors
     ///
-    /// In this order: `B10 NoActor` for a link that isn't there, `G2 Closing`, those of the book. Then nothing changes.
+    /// In this order: `B10 NoActor` for a missing link, `G2 Closing`, those of the book. Then nothing changes.
     pub fn take_env(
         &self,
         link: usize,
@@ -127,12 +127,12 @@ impl<'r, R: Wait, L: Ledger> Pool<'r, R, L> {
         }
     }
 
-    /// Makes the present state of a link its base, as [`actor_book::Book::rebase`] does. The place of its journal's next event. It is
-    /// no event, and counted nowhere.
+    /// Makes the present state of a link its base, as [`actor_book::Book::rebase`] does. Returns the place of its
+    /// journal's next event. A rebase is no event and isn't counted.
     ///
     /// # Errors
     ///
-    /// In this order: `B10 NoActor` for a link that isn't there, `G2 Closing`, `NoMemory`. Then nothing changes.
+    /// In this order: `B10 NoActor` for a missing link, `G2 Closing`, `NoMemory`. Then nothing changes.
     pub fn rebase(&self, link: usize, seat: &mut Seat<L>) -> Result<u64, PoolRefusal>
         ensures same { seat.new ≡ seat.old }
         ensures place { IfOk result IsRebased }

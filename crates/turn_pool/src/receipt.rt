@@ -1,4 +1,4 @@
-//! What a client is given.
+//! Receipts and refusals for a client.
 
 ghost use Rattle.std.specs.Prelude.{◌≡◌};
 
@@ -6,7 +6,7 @@ use actor_book::{Event, Refusal};
 use std::fmt;
 use thiserror::Error;
 
-/// An event that a client made, and where it stands.
+/// An event that a client made, and its place.
 #[derive(Drop)]
 pub struct Receipt {
     /// The number of the link, from 0.
@@ -31,16 +31,16 @@ impl Receipt {
     }
 }
 
-/// Why a pool does nothing for a client.
+/// Why a pool refuses a client's call.
 #[derive(Clone, Copy, PartialEq, Eq, Debug, Error)]
 pub enum PoolRefusal {
     /// There is no such link.
     NoLink,
     /// The pool is closing.
     Closing,
-    /// There is too little memory.
+    /// Memory ran out.
     NoMemory,
-    /// The book of the link refuses it.
+    /// The book of the link refuses the call.
     Refused(Refusal),
 }
 

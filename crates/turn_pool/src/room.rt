@@ -1,4 +1,4 @@
-//! Room for all that a pool holds, made before anything else.
+//! Memory for all that a pool holds, allocated before anything else.
 
 ghost use Rattle.std.specs.Prelude.{◌≡◌, ◌≤◌, ◌<◌, ◌+◌, [], IfOk, vec_len, vec_capacity};
 
@@ -10,7 +10,7 @@ use std::sync::Mutex;
 use std::sync::ledger::Ledger;
 use std::thread::JoinHandle;
 
-/// Room for the books under their locks and for the same books afterwards, for the workers and for what is counted on their seats.
+/// Memory for the books under their locks and afterwards, for the workers and for the counts of their seats.
 #[derive(Drop)]
 pub(crate) struct Room<L: Ledger> {
     pub(crate) slots: Vec<Mutex<Slot<L>>>,
@@ -20,7 +20,7 @@ pub(crate) struct Room<L: Ledger> {
 }
 
 impl<L: Ledger> Room<L> {
-    /// Makes the room.
+    /// Allocates the memory. `AllocError` if memory runs out.
     pub(crate) fn make(alloc: Global, links: usize, workers: usize) -> Result<Room<L>, AllocError>
         ensures slots { IfOk result (λ r. (vec_len r.slots ≡ 0) × (vec_capacity r.slots ≡ links)) }
         ensures books { IfOk result (λ r. (r.books.items ≡ []) × (vec_capacity r.books ≡ links)) }

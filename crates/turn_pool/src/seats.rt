@@ -1,4 +1,4 @@
-//! Seats for those who work, and what was counted on them once they are done.
+//! Seats, which count the events of a worker or a client, and their counts afterwards.
 
 ghost use Rattle.std.specs.Prelude.{◌≡◌, ◌≤◌, ◌<◌, ◌+◌, sum, vec_len, vec_capacity};
 
@@ -6,7 +6,7 @@ use crate::totals::Seat;
 use std::sync::ledger::{Ledger, Share};
 use std::thread::{JoinHandle, Threads};
 
-/// A seat on which nothing is counted yet.
+/// A new seat with count 0, with a share from the rest.
 pub fn take_seat<L: Ledger>(rest: &mut Share<L>) -> Seat<L>
     requires { 1 < rest.old.parts }
     ensures seat { result ≡ 0 }
@@ -17,7 +17,7 @@ pub fn take_seat<L: Ledger>(rest: &mut Share<L>) -> Seat<L>
     Seat { events: 0, share }
 }
 
-/// What was counted on a seat. Its share comes back.
+/// The count of a seat; its share goes back to the rest.
 pub fn leave_seat<L: Ledger>(rest: &mut Share<L>, seat: Seat<L>) -> u64
     ensures value { result ≡ seat }
     ensures parts { rest.new.parts ≡ rest.old.parts + 1 }
@@ -28,7 +28,7 @@ pub fn leave_seat<L: Ledger>(rest: &mut Share<L>, seat: Seat<L>) -> u64
     events
 }
 
-/// Joins the workers. What was counted on each seat is kept.
+/// Joins the workers, and keeps the count of each seat.
 pub fn dismiss<R: Threads, L: Ledger>(
     rt: &R,
     handles: Vec<JoinHandle<Seat<L>>>,

@@ -25,7 +25,7 @@ use std::thread::Threads;
 /// The most links, and the most workers, that a pool has.
 const MOST: usize = 16;
 
-/// Puts books under locks, each with its share of a new account: the pool, and the rest of the account.
+/// Puts books under locks, each with its share of a new account. Returns the pool and the rest of the account.
 fn put_under_locks<'r, R: Wait, L: Ledger>(
     rt: &'r R,
     blank: Blank,
@@ -53,7 +53,7 @@ fn put_under_locks<'r, R: Wait, L: Ledger>(
     (pool, rest)
 }
 
-/// Takes the books of a pool out from under their locks, as all other parts of the account have come back.
+/// Takes the books of a pool out of their locks, after all other shares of the account have come back.
 fn take_apart<R: Wait, L: Ledger>(
     pool: Pool<'_, R, L>,
     books: Vec<Book>,
@@ -72,7 +72,7 @@ fn take_apart<R: Wait, L: Ledger>(
     books
 }
 
-/// Serves under an account of its own, of which each link, each worker, the client and this function have a part.
+/// Serves with a new account; each link, each worker, the client and this function have a share of it.
 fn serve_by<R: Threads + Wait + Sync, L: Ledger + Send + Sync, G: Gate + Sync, C: Client>(
     rt: &R,
     alloc: Global,
@@ -123,14 +123,14 @@ fn serve_by<R: Threads + Wait + Sync, L: Ledger + Send + Sync, G: Gate + Sync, C
     }
 }
 
-/// Serves links: their books are put under locks, workers go round them and take turns, and the client uses them on this
-/// thread. As the client returns the pool closes; turns that workers began are ended, and the workers are joined. What the
-/// seats have together is what the journals have grown by, over any number of threads.
+/// Serves links: puts their books under locks, lets workers go round them and take turns, and lets the client use them
+/// on this thread. When the client returns, the pool closes, turns that workers began are ended, and the workers are
+/// joined. The counts of all seats together are the growth of the journals, for any number of threads.
 ///
 /// # Errors
 ///
-/// `G1 NoWorkers` where there are no workers or more than 16, or more than 16 links; then `NoMemory`, before any thread is
-/// started; then `G1 NoWorkers` again where no thread could be started. The books come back.
+/// `G1 NoWorkers` if there are no workers or more than 16, or more than 16 links; then `NoMemory`, before any thread
+/// starts; then `G1 NoWorkers` again if no thread could be started. The fault returns the books.
 pub fn serve<R: Threads + Wait + Sync, G: Gate + Sync, C: Client>(
     rt: &R,
     alloc: Global,

@@ -1,4 +1,4 @@
-//! Who works: threads are started, a client uses the pool meanwhile, and the threads are joined again.
+//! A shift of workers: threads are started, a client uses the pool, and the threads are joined.
 
 ghost use Rattle.std.specs.Prelude.{◌≡◌, ◌≤◌, ◌<◌, ◌+◌, [], IfSome, sum, vec_len, vec_capacity};
 
@@ -13,7 +13,7 @@ use std::sync::ledger::{Ledger, Share};
 use std::thread;
 use std::thread::{JoinHandle, Scope, Threads};
 
-/// Workers, what was counted on the seats that came back from them, and the rest of the account.
+/// Workers, the counts of seats that came back from them, and the rest of the account.
 #[derive(Drop)]
 pub(crate) struct Shift<L: Ledger> {
     pub(crate) rest: Share<L>,
@@ -21,7 +21,7 @@ pub(crate) struct Shift<L: Ledger> {
     pub(crate) workers: Vec<u64>,
 }
 
-/// What is left of a shift. There is no client where nobody could be started.
+/// The results of a shift. There is no client's count if no thread could be started.
 #[derive(Drop)]
 pub(crate) struct Ended<L: Ledger> {
     pub(crate) rest: Share<L>,
@@ -29,7 +29,7 @@ pub(crate) struct Ended<L: Ledger> {
     pub(crate) client: Option<u64>,
 }
 
-/// What a worker's thread does. One for whom no thread could be made gives its seat back as it is.
+/// The body of a worker's thread. If no thread could be made for it, it returns the seat unchanged.
 fn begin<R: Wait, L: Ledger, G: Gate>(
     pool: &Pool<'_, R, L>,
     gate: &G,
@@ -43,7 +43,7 @@ fn begin<R: Wait, L: Ledger, G: Gate>(
     worker(pool, gate, seat)
 }
 
-/// Starts workers. The seat of one for whom no thread can be made comes back.
+/// Starts workers. The seat of a worker for which no thread can be made comes back.
 fn hire<'s, E, R: Wait + Sync, L: Ledger + Send + Sync, G: Gate + Sync>(
     scope: &Scope<'s, E>,
     pool: &'s Pool<'_, R, L>,
@@ -84,7 +84,7 @@ fn hire<'s, E, R: Wait + Sync, L: Ledger + Send + Sync, G: Gate + Sync>(
     }
 }
 
-/// Lets the client use the pool, if there is anybody who works there, and then closes it.
+/// Lets the client use the pool, if there is a worker, and then closes the pool.
 fn attend<R: Wait, L: Ledger, C: Client>(
     pool: &Pool<'_, R, L>,
     client: &mut C,
@@ -104,7 +104,7 @@ fn attend<R: Wait, L: Ledger, C: Client>(
     Some(leave_seat(rest, seat))
 }
 
-/// A shift: workers are started, the client uses the pool, the pool closes, the workers are joined.
+/// Runs a shift: starts workers, lets the client use the pool, closes the pool and joins the workers.
 fn work_shift<'s, E, R: Threads + Wait + Sync, L: Ledger + Send + Sync, G: Gate + Sync, C: Client>(
     scope: &Scope<'s, E>,
     pool: &'s Pool<'_, R, L>,
@@ -137,7 +137,7 @@ fn work_shift<'s, E, R: Threads + Wait + Sync, L: Ledger + Send + Sync, G: Gate 
     }
 }
 
-/// A shift in threads that are all joined again.
+/// Runs a shift in a thread scope, which joins all threads.
 pub(crate) fn drive<R: Threads + Wait + Sync, L: Ledger + Send + Sync, G: Gate + Sync, C: Client>(
     pool: &Pool<'_, R, L>,
     gate: &G,

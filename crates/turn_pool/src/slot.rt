@@ -1,4 +1,4 @@
-//! A link's book with its share of the account.
+//! A link's book, with its share of the account.
 
 ghost use Rattle.std.specs.Prelude.{◌≡◌, ◌≤◌, ◌<◌, ◌+◌, ◌^◌, ◌++◌, ◌∷◌, [], List, Option, Some, None, IfOk, IfErr, OnOk, OnErr};
 ghost use Rattle.actor_machine.specs.Kept.{IsKept};
@@ -21,7 +21,7 @@ use std::sync::ledger::{Ledger, Share};
 use turn_code::{SignalNumber, Trigger, Value};
 use turn_machine::Room;
 
-/// A link's book, with the number of the link and its share of the account, which grows smaller by one with each event.
+/// A link's book with the number of the link and its share of the account, which each event reduces by one.
 #[derive(Drop)]
 pub struct Slot<L: Ledger> {
     pub(crate) book: Book,
@@ -55,7 +55,7 @@ fn newest(book: &Book) -> Option<Event>
     }
 }
 
-/// Actors of a book have turns or throw items away, one after another, at most so many, each the least that can. How many there were.
+/// Lets actors take at most `most` whole turns or skips, each by the first actor that can. Returns their number.
 fn turns_of(book: &mut Book, most: usize) -> usize
     ensures turns { result ≡ (rests most book.old).turns }
     ensures book { book.new ≡ (rests most book.old).book }
@@ -78,14 +78,14 @@ impl<L: Ledger> Slot<L> {
         &self.book
     }
 
-    /// What holds of its book, as of every book.
+    /// Tells the proof the invariant of the book, which every book has.
     pub(crate) fn keeps(&self)
         ensures { IsKept self.now.book }
     {
         self.book.keeps();
     }
 
-    /// A signal of the environment comes to an actor, as by [`Book::offer`].
+    /// Offers a signal from the environment to an actor, as [`Book::offer`] does.
     ///
     /// # Errors
     ///
@@ -123,7 +123,7 @@ impl<L: Ledger> Slot<L> {
         }
     }
 
-    /// So many ticks pass, as by [`Book::advance`]. How many timers were due.
+    /// Lets ticks pass, as [`Book::advance`] does, and returns the number of due timers.
     ///
     /// # Errors
     ///
@@ -158,7 +158,7 @@ impl<L: Ledger> Slot<L> {
         ))
     }
 
-    /// The environment takes what has waited longest for it, as by [`Book::take_env`].
+    /// Takes the signal that has waited longest for the environment, as [`Book::take_env`] does.
     ///
     /// # Errors
     ///
@@ -192,11 +192,11 @@ impl<L: Ledger> Slot<L> {
         ))
     }
 
-    /// Makes the present state the base, and empties the journal, as [`Book::rebase`] does. The place of the journal's next event.
+    /// Makes the state the base and empties the journal, as [`Book::rebase`] does. Returns the place of the next event.
     ///
     /// # Errors
     ///
-    /// Where there is no memory: nothing changes.
+    /// `AllocError` if memory runs out; then nothing changes.
     pub fn rebase(&mut self) -> Result<u64, AllocError>
         ensures book { OnOk result (self.new.book ≡ rebased self.old.book) }
         ensures place { IfOk result (λ place. place ≡ next self.new.book) }
@@ -209,7 +209,7 @@ impl<L: Ledger> Slot<L> {
         Ok(self.book.next())
     }
 
-    /// A worker begins a turn of an actor into its room.
+    /// Begins a turn of an actor in the worker's room.
     pub(crate) fn begin(
         &mut self,
         seat: &mut Seat<L>,
@@ -228,7 +228,7 @@ impl<L: Ledger> Slot<L> {
         Ok(())
     }
 
-    /// A worker throws an item of an actor away.
+    /// Discards an item of an actor, for a worker.
     pub(crate) fn skip(
         &mut self,
         seat: &mut Seat<L>,
@@ -246,7 +246,7 @@ impl<L: Ledger> Slot<L> {
         Ok(trigger)
     }
 
-    /// A worker ends the turn that ran in its room.
+    /// Ends the turn that ran in the worker's room.
     pub(crate) fn finish(
         &mut self,
         seat: &mut Seat<L>,
@@ -264,8 +264,8 @@ impl<L: Ledger> Slot<L> {
         Ok(report)
     }
 
-    /// A worker has whole turns of actors, or throws their items away, one after another, at most so many, each of the least actor that can.
-    /// All their events are counted. How many turns and skips there were.
+    /// Lets actors take whole turns or discard items, one after another, at most `most`, each by the first actor that
+    /// can. The seat counts all their events. Returns the number of turns and skips.
     pub(crate) fn turns(&mut self, seat: &mut Seat<L>, totals: &Totals<L>, most: usize) -> usize
         ensures turns { HasTurns self.old.book most result self.new.book }
         ensures link { self.new.number ≡ self.old.number }

@@ -1,4 +1,4 @@
-//! What a worker does on one link.
+//! A worker's steps on one link.
 
 ghost use Rattle.std.specs.Prelude.{◌≡◌, ◌≤◌, ◌+◌, true, IfSome, IfNone, vec_len};
 ghost use Rattle.turn_machine.specs.Rooms.{HasRun, IsToRun, ran};
@@ -17,7 +17,7 @@ use std::sync::Wait;
 use std::sync::ledger::Ledger;
 use turn_machine::{Room, Work};
 
-/// What an actor does, where a gate looks, whose turn is refused for this reason, or for none.
+/// The move of an actor for a gate that watches, from the refusal of its turn, or none.
 fn move_at(actor: u16, refusal: Option<Refusal>) -> Option<Move>
     ensures value { result ≡ move_by actor refusal }
     ensures way { IfSome result (IsStepBy true) }
@@ -30,7 +30,7 @@ fn move_at(actor: u16, refusal: Option<Refusal>) -> Option<Move>
     }
 }
 
-/// What the least actor of a link that can do something does, where a gate looks; nothing on a link whose journal is full.
+/// The move of the first actor of a link that can make one, for a gate that watches; none if the journal is full.
 fn next_step(book: &Book) -> Option<Move>
     ensures next { IsNext book.now result }
     ensures way { IfSome result (IsStepBy true) }
@@ -52,7 +52,7 @@ fn next_step(book: &Book) -> Option<Move>
     None
 }
 
-/// What a worker does on a link: the next step where a gate looks, and else up to so many whole turns and skips.
+/// A worker's step on a link: the next step if the gate watches, otherwise up to `most` whole turns and skips.
 fn chosen(book: &Book, looked: bool, most: usize) -> Option<Move>
     requires { 1 ≤ most }
     ensures next { IsChosen looked most book.now result }
@@ -66,7 +66,7 @@ fn chosen(book: &Book, looked: bool, most: usize) -> Option<Move>
     }
 }
 
-/// What a gate is told of a turn: the link where it is out, what its actor is called there, and the turn's number.
+/// The name of a turn for a gate: its link, its actor's name there, and its number.
 fn name_of(link: usize, book: &Book, work: &Work) -> Option<JobName>
     ensures { result ≡ told_of link book.now work.now }
 {
@@ -80,7 +80,7 @@ fn name_of(link: usize, book: &Book, work: &Work) -> Option<JobName>
     }
 }
 
-/// What a gate is told of the turn that lies in a room and is to run.
+/// The name, for a gate, of the turn in a room that hasn't run.
 fn name_there(link: usize, book: &Book, room: &Room) -> Option<JobName>
     ensures { result ≡ told_there link book.now room.now }
 {
@@ -90,7 +90,7 @@ fn name_there(link: usize, book: &Book, room: &Room) -> Option<JobName>
     }
 }
 
-/// What a gate is told of a worker's step, where that began a turn.
+/// The name, for a gate, of the turn that a worker's step began.
 fn name_in(link: usize, book: &Book, room: &Room, moved: &Moved) -> Option<JobName>
     ensures value { result ≡ told link book.now room.now moved.now }
     ensures begun { NamesBegun book.now room.now moved.now result }
@@ -98,7 +98,7 @@ fn name_in(link: usize, book: &Book, room: &Room, moved: &Moved) -> Option<JobNa
     told_in(link, book, room, moved)
 }
 
-/// The same, where nothing is known of the turn.
+/// As `name_in`, with nothing known of the turn.
 fn told_in(link: usize, book: &Book, room: &Room, moved: &Moved) -> Option<JobName>
     ensures { result ≡ told link book.now room.now moved.now }
 {
@@ -113,7 +113,7 @@ fn told_in(link: usize, book: &Book, room: &Room, moved: &Moved) -> Option<JobNa
     }
 }
 
-/// Does one step on a link that is lent: what the book answered, and what a gate is told of a turn that began.
+/// Makes one step on a borrowed link. Returns the book's answer, and the name of a turn that began, for a gate.
 fn step_on<L: Ledger>(
     slot: &mut Slot<L>,
     seat: &mut Seat<L>,
@@ -133,7 +133,7 @@ fn step_on<L: Ledger>(
     (moved, name)
 }
 
-/// Does a step on a link that is lent, with a room where no turn is to run: where that began one it lies there then and is to run, else none is.
+/// As `step_on`, with a room without a turn that hasn't run. Only if the step began a turn does the room hold one then.
 fn step_by<L: Ledger>(
     slot: &mut Slot<L>,
     seat: &mut Seat<L>,
@@ -154,8 +154,8 @@ fn step_by<L: Ledger>(
     step_on(slot, seat, totals, room, link, step)
 }
 
-/// Does one step on a link, under its lock, if an actor there can do something: what the book answered, and what a gate is told of a turn that
-/// began. Where the gate looks turns begin, and where it doesn't there are whole ones, at most so many.
+/// Makes one step on a link, under its lock, if an actor there can do something. Returns the book's answer, and the
+/// name of a turn that began. If the gate watches it begins a turn; otherwise it takes at most `most` whole turns.
 fn step<R: Wait, L: Ledger, G: Gate>(
     hand: &mut Hand<'_, '_, R, L>,
     totals: &Totals<L>,
@@ -181,7 +181,7 @@ fn step<R: Wait, L: Ledger, G: Gate>(
     Some(step_by(&mut slot, seat, totals, room, link, looked, step))
 }
 
-/// Hands the turn that ran in a room to a link that is lent: its end, which is accepted where the turn is out there.
+/// Hands the turn that ran in a room to a borrowed link, which accepts its end if the turn is out there.
 fn end_on<L: Ledger>(
     slot: &mut Slot<L>,
     seat: &mut Seat<L>,
@@ -197,7 +197,7 @@ fn end_on<L: Ledger>(
     work(slot, seat, totals, room, Move::Finish)
 }
 
-/// Hands the turn that ran in a room to its link. What that answered, where there is such a link.
+/// Hands the turn that ran in a room to its link. Returns the link's answer; none if there is no such link.
 fn end<R: Wait, L: Ledger>(
     hand: &mut Hand<'_, '_, R, L>,
     totals: &Totals<L>,
@@ -218,7 +218,7 @@ fn end<R: Wait, L: Ledger>(
     }
 }
 
-/// Tells the gate of the turn that lies in a room, and runs it, while the worker holds no lock: none is in reach here either.
+/// Tells the gate of the turn in a room and runs it. The worker holds no lock, and can't reach one here.
 fn run_open<G: Gate>(_open: &Open<'_>, gate: &G, room: &mut Room, name: JobName)
     requires { IsToRun room.old }
     ensures ran { room.new ≡ ran room.old }
@@ -228,7 +228,7 @@ fn run_open<G: Gate>(_open: &Open<'_>, gate: &G, room: &mut Room, name: JobName)
     room.run();
 }
 
-/// Runs the turn that lies in a room with no lock held, and hands it to its link. What that answered, where there is such a link.
+/// Runs the turn in a room without a lock, and hands it to its link. Returns the answer; none if there is no link.
 fn run_there<R: Wait, L: Ledger, G: Gate>(
     hand: &mut Hand<'_, '_, R, L>,
     totals: &Totals<L>,
@@ -251,7 +251,7 @@ fn run_there<R: Wait, L: Ledger, G: Gate>(
     ended
 }
 
-/// Runs the turn that a step began, where it began one. How many turns and skips the step made.
+/// Runs the turn that a step began, if it began one. Returns the number of turns and skips of the step.
 fn follow<R: Wait, L: Ledger, G: Gate>(
     hand: &mut Hand<'_, '_, R, L>,
     totals: &Totals<L>,
@@ -284,8 +284,8 @@ fn follow<R: Wait, L: Ledger, G: Gate>(
     }
 }
 
-/// Lets actors of a link do something, if one can: where the gate looks one of them, whose turn is run and ended if it began one, and else at
-/// most so many. How many turns and skips there were.
+/// Lets actors of a link do something, if one can. If the gate watches, one actor begins a turn, which is run and
+/// ended, or skips; otherwise there are at most `most` turns and skips. Returns their number.
 pub(crate) fn turns<R: Wait, L: Ledger, G: Gate>(
     hand: &mut Hand<'_, '_, R, L>,
     totals: &Totals<L>,

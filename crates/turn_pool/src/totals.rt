@@ -1,13 +1,13 @@
-//! Events counted over threads. A ledger has 2^61 in all: each link keeps 2^57 less the next place of its journal, and each
-//! seat the events that were counted on it, so that what seats gain is what journals grow by. The account is closed before
-//! anybody counts: from then on shares hand over what they have, and no lock is taken for that.
+//! Events counted over threads. A ledger has 2^61 in all: each link keeps 2^57 less the next place of its journal, and
+//! each seat keeps its count. So the seats together gain what the journals grow by. The account is closed before
+//! anything is counted: from then on shares transfer amounts to each other, which takes no lock.
 
 ghost use Rattle.std.specs.Prelude.{◌≡◌, ◌≤◌, ◌<◌, ◌+◌, ◌^◌};
 
 use std::marker::Model;
 use std::sync::ledger::{Blank, Ledger, Share, Total};
 
-/// How many events of journals a worker or a client made.
+/// The number of journal events that a worker or a client made.
 #[derive(Drop)]
 pub struct Seat<L: Ledger> {
     pub(crate) events: u64,
@@ -25,7 +25,7 @@ impl<L: Ledger> Model for Seat<L> {
 }
 
 impl<L: Ledger> Seat<L> {
-    /// How many events were counted.
+    /// The number of events counted.
     pub fn events(&self) -> u64
         ensures { result ≡ self.now }
     {
@@ -33,7 +33,7 @@ impl<L: Ledger> Seat<L> {
     }
 }
 
-/// The account of all shares, which is closed: what it has in all stays.
+/// The closed account of all shares: its total amount is fixed.
 #[derive(Drop)]
 pub struct Totals<L: Ledger> {
     pub(crate) total: Total<L>,
@@ -41,7 +41,7 @@ pub struct Totals<L: Ledger> {
 }
 
 impl<L: Ledger> Totals<L> {
-    /// The account, with all of it in one share.
+    /// A new account, with the whole amount in one share.
     pub fn open(blank: Blank) -> (Totals<L>, Share<L>)
         requires name { blank.name ≡ L.name }
         requires parts { blank.parts ≡ L.parts }
@@ -56,7 +56,7 @@ impl<L: Ledger> Totals<L> {
         (Totals { total }, all)
     }
 
-    /// A share with all parts has all.
+    /// A share with all parts has the whole amount.
     pub fn audit(&self, all: &mut Share<L>)
         requires { all.old.parts ≡ self.now.total.parts }
         ensures { all.old.amount ≡ 2 ^ 61 }
@@ -64,7 +64,7 @@ impl<L: Ledger> Totals<L> {
         self.total.audit(all);
     }
 
-    /// So many events of a link's journal are counted on a seat.
+    /// Counts events of a link's journal on a seat.
     pub fn count(&self, from: &mut Share<L>, seat: &mut Seat<L>, events: u64)
         requires part { 0 < from.old.parts }
         requires amount { events ≤ from.old.amount }

@@ -14,13 +14,13 @@ use std::sync::ledger::Ledger;
 use std::thread;
 use turn_machine::Room;
 
-/// How many turns and skips a worker makes at most after the pool began to close.
+/// The greatest number of turns and skips of a worker after the pool began to close.
 const LAST_STEPS: usize = 1000;
 
-/// How many it makes at most while it holds the lock of a link, where no gate looks.
+/// The greatest number in one hold of a link's lock, if no gate watches.
 const AT_ONCE: usize = 16;
 
-/// Goes round the links once, with at most so many turns and skips on each. How many there were.
+/// Goes round the links once, with at most `most` turns and skips on each. Returns their number.
 fn round<R: Wait, L: Ledger, G: Gate>(
     pool: &Pool<'_, R, L>,
     gate: &G,
@@ -44,7 +44,7 @@ fn round<R: Wait, L: Ledger, G: Gate>(
     steps
 }
 
-/// Goes round the links until a round does nothing, one turn or skip on each, for at most so many, each of which counts one event or two.
+/// Goes round the links, one turn or skip on each, at most `most`, until a round does nothing. Each is 1 or 2 events.
 fn wind_up<R: Wait, L: Ledger, G: Gate>(
     pool: &Pool<'_, R, L>,
     gate: &G,
@@ -68,8 +68,8 @@ fn wind_up<R: Wait, L: Ledger, G: Gate>(
     }
 }
 
-/// Works until the pool closes, and then until nothing is left to do, for at most 1,000 turns and skips, those of the round
-/// in which the pool closes among them. Turns that it begins lie in a room of its own.
+/// Works until the pool closes, and then until nothing is left to do, for at most 1,000 turns and skips, including
+/// those of the round in which the pool closes. It runs turns in a room of its own.
 pub(crate) fn worker<R: Wait, L: Ledger, G: Gate>(
     pool: &Pool<'_, R, L>,
     gate: &G,

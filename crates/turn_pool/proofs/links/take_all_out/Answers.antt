@@ -4,7 +4,7 @@ use Rattle.actor_machine.specs.Ledger.{next}
 use Rattle.turn_pool.proofs.Finishes.{one_more}
 use Rattle.turn_pool.proofs.links.take_all_out.Goals as goal
 
--- the book that was taken out is one more, with its events and its finishes
+-- the book that was taken out is added, with its events and its finishes
 pub loop-slot-preserved : goal.loop-slot-preserved
 loop-slot-preserved g c =
     let before = c.loop-slot.books.items in

@@ -2,7 +2,7 @@ use Rattle.std.proofs.Common.{◌≡◌, ◌+◌, ◌∙◌, ap, arith, rules, s
 use Rattle.std.proofs.lemmas.List.Sums.{sum_by_push}
 use Rattle.turn_pool.proofs.seats.dismiss.Goals as goal
 
--- what was counted on the seat that came back is one more
+-- the count of the seat that came back is added
 pub loop-handle-preserved : goal.loop-handle-preserved
 loop-handle-preserved g c =
     let total : sum c.push_reserved.new.self.items ≡ sum c.loop-handle.workers.items + c.leave_seat.result =

@@ -18,7 +18,7 @@ returns-in-Some-clause-workers g c = c.drive-rest.ensures.len
 pub returns-in-Some-clause-finishes : goal.returns-in-Some-clause-finishes
 returns-in-Some-clause-finishes g c = c.take_apart-books.ensures.finishes
 
--- where nobody could be started as many books come back
+-- if no thread could be started, as many books come back
 pub returns-in-None-clause-back : goal.returns-in-None-clause-back
 returns-in-None-clause-back g c =
     let len : vec_len c.take_apart-books.result ≡ vec_len c.args.links = c.take_apart-books.ensures.len ∙ c.put_under_locks-pool.ensures.len in

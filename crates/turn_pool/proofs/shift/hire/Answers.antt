@@ -3,7 +3,7 @@ use Rattle.std.proofs.lemmas.List.Sums.{sum_by_push}
 use Rattle.turn_pool.proofs.shift.hire.Goals as goal
 use Rattle.turn_pool.proofs.shift.hire.Goals.{in-Ok, in-Err}
 
--- a worker that was started is one handle more, one that wasn't leaves what was counted on its seat
+-- a worker that was started adds a handle; one that wasn't adds the count of its seat
 pub loop-number-preserved : goal.loop-number-preserved
 loop-number-preserved g c =
     let was = c.loop-number.invariant in
