@@ -52,7 +52,7 @@ no_number ids x y m none at = elim (cases_Bool (same_name x y)) [
   | inr other ↦ other
 ]
 
--- ---- a name and its connection
+-- ---- the connection with a name
 
 find_first : {A : Type 0} (p : A → Bool) (xs : List A) (n : ℕ) (x : A) → slice_get xs n ≡ Some x → p x ≡ true
     → ((k : ℕ) → k < n → p (get_or xs k x) ≡ false) → find p xs ≡ Some x
@@ -64,7 +64,7 @@ find_first p (y ∷ xs) zero x e h none =
 find_first p (y ∷ xs) (suc n) x e h none =
     ap (λ b. cond b (Some y) (find p xs)) (none 0 (omega arith)) ∙ find_first p xs n x e h (λ k less. none (suc k) (omega (arith, less)))
 
--- the connection with a name that has a number
+-- The connection with this name has number n.
 pub record IsNumbered (p : PlainProcess) (y : List ℕ) (n : ℕ) : Type 0 where
   pub connection : PlainConnection
   pub there : slice_get p.connections n ≡ Some connection
@@ -95,7 +95,7 @@ numbered p y n e =
     let within : n < length p.connections = omega (arith, first, length-map p.connections (λ c. c.name)) in
     numbered_at p y n (slice_get p.connections n) refl within e
 
--- ---- ways by names and by numbers
+-- ---- paths by names, and paths by numbers
 
 any_first : (p : PlainProcess) (test : List ℕ → Bool) (tell : ℕ → Bool) (j : Join) (joins : List Join) (o : Option ℕ) → number_of (connector_names p) j.connector.name ≡ o
     → ((y : List ℕ) (n : ℕ) → number_of (connector_names p) y ≡ Some n → test y ≡ tell n) → ((y : List ℕ) → number_of (connector_names p) y ≡ None → test y ≡ false)
@@ -107,7 +107,7 @@ any_first p test tell j joins (Some n) e some none =
     ap (λ b. b || list_any (λ (j : Join). test j.connector.name) joins)
     (some j.connector.name n e ∙ sym (or-false (tell n)) ∙ sym (ap (λ o. list_any tell (option_to_list o)) e))
 
--- the row of a connection
+-- The links of a connection.
 pub next_is : (p : PlainProcess) (n : ℕ) (c : PlainConnection) → slice_get p.connections n ≡ Some c → nexts (links_of p) n ≡ targets_of p (joins_of c.text)
 next_is p n c there =
     ap (λ (o : Option (List ℕ)). option_map_or (λ (ts : List ℕ). ts) o [])
@@ -155,13 +155,13 @@ comes_is p x y n m at_y at_x = comes_by_number p (length p.connections) x y n m 
 pub comes_none : (p : PlainProcess) (x y : List ℕ) (m : ℕ) → number_of (connector_names p) y ≡ None → number_of (connector_names p) x ≡ Some m → comes p y x ≡ false
 comes_none p x y m none at_x = comes_by_none p (length p.connections) x y m none at_x
 
--- whether some JOINs come there, by the numbers of what they lead to
+-- Some JOIN leads to connector x exactly if the graph has a path to its number.
 joins_reach : (p : PlainProcess) (joins : List Join) (x : List ℕ) (m : ℕ) → number_of (connector_names p) x ≡ Some m
     → list_any (λ j. comes p j.connector.name x) joins ≡ any_goes (links_of p) (targets_of p joins) m
 joins_reach p joins x m at_x =
     any_joins p (λ y. comes p y x) (λ n. goes (links_of p) n m) joins (λ y n at. comes_is p x y n m at at_x) (λ y none. comes_none p x y m none at_x)
 
--- ---- where no name is there twice
+-- ---- lists without duplicate names
 
 one_place : (before ids : List Identifier) (i j : ℕ) (a b : Identifier) → repeats before ids ≡ []
     → slice_get ids i ≡ Some a → slice_get ids j ≡ Some b → i < j → same_name b.name a.name ≡ false
@@ -193,14 +193,14 @@ first_own ids i id (Some k) distinct there e =
       ]
     ]
 
--- a connection has its own place as its number
+-- The number of a connection is its index.
 pub own_number : (p : PlainProcess) (i : ℕ) (c : PlainConnection) → repeats [] (connector_names p) ≡ [] → slice_get p.connections i ≡ Some c
     → number_of (connector_names p) c.name.name ≡ Some i
 own_number p i c distinct there =
     first_own (connector_names p) i c.name (number_of (connector_names p) c.name.name) distinct
     (slice_get-map (λ (c : PlainConnection). c.name) p.connections i ∙ ap (option_map (λ (c : PlainConnection). c.name)) there) refl
 
--- the connectors are among the names that have to differ
+-- The names of connections are among the names that must be distinct.
 pub distinct_connectors : (p : PlainProcess) → flat_map (repeats []) (process_scopes p) ≡ [] → repeats [] (connector_names p) ≡ []
 distinct_connectors p h = append-nil_left _ _ (append-nil_right _ _ (append-nil_right _ _ h))
 
@@ -214,20 +214,20 @@ same_map f (x ∷ xs) [] n h = absurd (omega (arith, n))
 same_map f (x ∷ xs) (b ∷ bs) n h =
     ap (λ y. y ∷ bs) (h 0 x b refl refl) ∙ ap (λ l. f x ∷ l) (same_map f xs bs (omega (arith, n)) (λ i. h (suc i)))
 
--- the marks of the connections to which some JOINs come
+-- The marks of the connections that JOINs reach.
 pub reached_marks : (p : PlainProcess) (joins : List Join) (marks : List Bool) → repeats [] (connector_names p) ≡ []
     → AreMarks (links_of p) (targets_of p joins) marks → marks ≡ map (λ c. list_any (λ j. comes p j.connector.name c.name.name) joins) p.connections
 reached_marks p joins marks distinct are =
     same_map (λ c. list_any (λ j. comes p j.connector.name c.name.name) joins) p.connections marks (are.count ∙ links_length p) (λ i c b there mark.
     are.each i b mark ∙ sym (joins_reach p joins c.name.name i (own_number p i c distinct there)))
 
--- as many links as connections
+-- The graph has as many nodes as there are connections.
 pub within_links : (p : PlainProcess) (g : List (Vec ℕ)) (ns : List ℕ) → graph_in g ≡ links_of p → All (λ n. n < length p.connections) ns → All (λ n. n < length g) ns
 within_links p g ns is within =
     let count : length g ≡ length p.connections = sym (length-map g (λ v. v.items)) ∙ (ap length is ∙ links_length p) in
     subst (λ k. All (λ n. n < k) ns) (sym count) within
 
--- ---- orders, and JOINs that come back
+-- ---- orders, and JOINs that lead back
 
 among_at_place : {A : Type 0} (f : A → Option ℕ) (xs : List A) (i : ℕ) (x : A) (n : ℕ) → slice_get xs i ≡ Some x → f x ≡ Some n
     → Contains (flat_map (λ x. option_to_list (f x)) xs) n
@@ -240,7 +240,7 @@ among_at_place f (y ∷ xs) zero x n there e =
 among_at_place f (y ∷ xs) (suc i) x n there e =
     Contains-append_right (option_to_list (f y)) (flat_map (λ x. option_to_list (f x)) xs) n (among_at_place f xs i x n there e)
 
--- the connection of a JOIN is among its targets
+-- The number of the connection that a JOIN leads to is among the targets.
 pub target_among : (p : PlainProcess) (joins : List Join) (j : Join) (n : ℕ) → Contains joins j → number_of (connector_names p) j.connector.name ≡ Some n
     → Contains (targets_of p joins) n
 target_among p joins j n among e =
@@ -252,7 +252,7 @@ in_option None n among = absurd (omega (arith, among.1))
 in_option (Some m) n (zero, less, is) = ap Some is
 in_option (Some m) n (suc k, less, is) = absurd (omega (arith, less))
 
--- and each target is that of a JOIN
+-- Each target is the number of a connection that some JOIN leads to.
 join_of_target : (p : PlainProcess) (joins : List Join) (n : ℕ) → Contains (targets_of p joins) n
     → (j : Join) × Contains joins j × (number_of (connector_names p) j.connector.name ≡ Some n)
 join_of_target p [] n among = absurd (omega (arith, among.1))
@@ -273,7 +273,7 @@ order_is p order is = record {
       is.behind i n m e (subst (λ (l : List ℕ). Contains l m) (sym (next_is p n c there)) (target_among p (joins_of c.text) j m among number));
 }
 
--- a way leads to nothing that stands behind where it begins
+-- A path never leads to a node later in the order.
 order_goes : (g : List (List ℕ)) (order : List ℕ) (k a b i j : ℕ) → IsOrderOf g order → slice_get order i ≡ Some a → slice_get order j ≡ Some b
     → goes_by g k a b ≡ true → j ≤ i
 order_goes g order zero a b i j is at_a at_b way =
@@ -295,7 +295,7 @@ nothing_from f [] h = refl
 nothing_from f (x ∷ xs) h =
     ap (λ l. l ++ flat_map f xs) (h x (0, omega arith, refl)) ∙ nothing_from f xs (λ y among. h y (suc among.0, omega (arith, among.1), among.2))
 
--- in an order no way comes back
+-- If there is an order, no path leads back.
 no_return : (p : PlainProcess) (order : List ℕ) (n : ℕ) (c : PlainConnection) (j : Join) (o : Option ℕ) → repeats [] (connector_names p) ≡ []
     → IsOrderOf (links_of p) order → slice_get p.connections n ≡ Some c → Contains (joins_of c.text) j → number_of (connector_names p) j.connector.name ≡ o
     → comes p j.connector.name c.name.name ≡ false
@@ -345,6 +345,6 @@ some_cycle_at p n (Some c) distinct r there none =
     let bad : j.at ∷ [] ≡ [] = sym (ap (λ b. if b then j.at ∷ [] else []) back) ∙ of_join in
     cc
 
--- where a node leads back to itself, some JOIN comes back
+-- If a path leads from a node back to it, some JOIN leads back to its connection.
 pub some_cycle : (p : PlainProcess) (n : ℕ) → repeats [] (connector_names p) ≡ [] → Returns (links_of p) n → process_cycles p ≡ [] → ⊥
 some_cycle p n distinct r none = some_cycle_at p n (slice_get p.connections n) distinct r refl none

@@ -1,4 +1,4 @@
--- The JOINs of a text, by the list of its statements and by cases.
+-- The JOINs of a text: from the list of its statements, and by cases on the text.
 use Rattle.std.proofs.Common.{◌≡◌, ℕ, ◌+◌, ◌<◌, ◌≤◌, List, ◌∷◌, ◌++◌, length, drop, get_or, refl, sym, ap, ◌∙◌, append_assoc}
 use Rattle.std.proofs.lemmas.List.{drop_more, drop_all}
 use Rattle.std.specs.List.{flat_map}
@@ -35,7 +35,7 @@ mutual
       ap (λ l. l ++ choice_joins others) (joins_are body) ∙ ap (λ l. joins_of body ++ l) (choice_joins_are q others)
       ∙ sym (flat_map-append statement_joins (statements_of body) (choice_statements q others))
 
--- ---- one statement and one answer further on
+-- ---- the loop invariants for one more statement and one more answer
 
 pub statements_on : (start old new : List the_join.Join) (ss : List Statement) (i : ℕ) (s : Statement) (last : Text) → i < length ss → s ≡ get_or ss i s
     → ((rest : Text) → new ++ text_joins rest ≡ old ++ text_joins (statement_of s rest)) → old ++ text_joins (statements_before (drop i ss) last) ≡ start

@@ -1,4 +1,4 @@
--- Marks of nodes: how many are new, and that two that differ aren't one.
+-- Marks of nodes: how many nodes are new, and that different marks exclude each other.
 use Rattle.std.proofs.Common.{◌≡◌, ℕ, zero, suc, false, List, [], ◌∷◌, refl, ap, sym, ◌∙◌, Option, Some, None}
 use Rattle.std.specs.Prelude.{slice_get, slice_set}
 use Rattle.sdl_joins.specs.Searched.{is_new, unseen}
@@ -36,7 +36,7 @@ unseen_none (New ∷ marks) h = absurd (h 0 refl)
 unseen_none (Open d ∷ marks) h = unseen_none marks (λ n. h (suc n))
 unseen_none (Done i ∷ marks) h = unseen_none marks (λ n. h (suc n))
 
--- ---- marks that differ
+-- ---- different marks
 
 pub open_new : (o : Option Mark) (d : ℕ) → o ≡ Some (Open d) → o ≡ Some New → ⊥
 open_new o d a b = let bad : Some (Open d) ≡ Some New = sym a ∙ b in absurd (cc)

@@ -1,4 +1,4 @@
--- Marks of what was found.
+-- The marks of the nodes found.
 use Rattle.std.proofs.Common.{◌≡◌, ℕ, zero, suc, ◌+◌, ◌<◌, ◌≤◌, Bool, true, false, List, [], ◌∷◌, ◌++◌, length, refl, ap, sym, ◌∙◌, subst, arith, inl, inr, Option, Some, None, take, get_or, append_assoc, append-nil, length-append}
 use Rattle.std.specs.Prelude.{slice_get, slice_set, Contains, All, replicate}
 use Rattle.std.proofs.lemmas.Bool.{cases_eq, cases_Bool, eqb-true}
@@ -21,14 +21,14 @@ unmarked_set (false ∷ marks) zero e = refl
 unmarked_set (true ∷ marks) (suc k) e = unmarked_set marks k e
 unmarked_set (false ∷ marks) (suc k) e = ap suc (unmarked_set marks k e)
 
--- what was marked stays marked
+-- A marked node remains marked.
 stays_at : (marks : List Bool) (k n : ℕ) → k < length marks → IsMarked marks n → IsMarked (slice_set marks k true) n
 stays_at marks k n within h = elim (cases_eq n k) [
   | inl e ↦ subst (IsMarked (slice_set marks k true)) (sym e) (get_set_same marks k true within)
   | inr ne ↦ get_set_other marks k n true ne ∙ h
 ]
 
--- a node that is marked already
+-- A node that is marked already.
 pub sees_marked : (k : ℕ) (marks : List Bool) (found : List ℕ) → AreFound marks found → IsMarked marks k → Finds (k ∷ []) marks found marks found
 sees_marked k marks found are h = record {
   count = refl;
@@ -40,7 +40,7 @@ sees_marked k marks found are h = record {
   only = λ n m. inl m;
 }
 
--- a node more
+-- A node that is new.
 pub sees_new : (k : ℕ) (marks : List Bool) (found : List ℕ) → k < length marks → AreFound marks found → slice_get marks k ≡ Some false
     → Finds (k ∷ []) marks found (slice_set marks k true) (found ++ k ∷ [])
 sees_new k marks found within are free = record {
@@ -66,7 +66,7 @@ sees_new k marks found within are free = record {
   ];
 }
 
--- one node after others
+-- One more node after the others.
 pub finds_more : (nodes : List ℕ) (i d : ℕ) (a : List Bool) (u : List ℕ) (b : List Bool) (v : List ℕ) (c : List Bool) (w : List ℕ)
     → i < length nodes → Finds (take i nodes) a u b v → Finds (get_or nodes i d ∷ []) b v c w → Finds (take (i + 1) nodes) a u c w
 finds_more nodes i d a u b v c w within first second = record {
@@ -85,13 +85,13 @@ finds_more nodes i d a u b v c w within first second = record {
   ];
 }
 
--- ---- going on from what was found
+-- ---- the search from the nodes found
 
--- the nodes found at the first places lead to marked nodes alone
+-- The first `next` nodes found lead only to marked nodes.
 abbrev pub AreFollowed : List (List ℕ) → List Bool → List ℕ → ℕ → Type 0
 AreFollowed g marks found next = (k n : ℕ) → k < next → slice_get found k ≡ Some n → All (IsMarked marks) (nexts g n)
 
--- from each node that was found before some way leads to each that is found now
+-- Each node found is reachable from one of the start nodes.
 abbrev pub AreReached : List (List ℕ) → List ℕ → List ℕ → Type 0
 AreReached g before found = (n : ℕ) → Contains found n → (s : ℕ) × Contains before s × (goes g s n ≡ true)
 
@@ -121,7 +121,7 @@ reached_more g start n a u b v within here before told m among = elim (told.only
       (way.0, way.1, goes_last g way.0 n m (All-contains (λ t. t < length g) (nexts g n) m within next) way.2 next)
 ]
 
--- all that was found is followed
+-- All nodes found have been followed.
 pub follows_all : (g : List (List ℕ)) (next : ℕ) (start_marks : List Bool) (start : List ℕ) (marks : List Bool) (found : List ℕ) → length found ≤ next
     → length marks ≡ length start_marks → ((n : ℕ) → IsMarked start_marks n → IsMarked marks n) → AreFound marks found → AreFollowed g marks found next
     → AreReached g start found → Follows g start_marks start marks
@@ -134,7 +134,7 @@ follows_all g next start_marks start marks found past count stays are followed r
   only = λ n h. reached n (are.back n h);
 }
 
--- the links of a node that there is
+-- The links of a node lead to nodes of the graph.
 nexts_in : (g : List (List ℕ)) (n : ℕ) (o : Option (List ℕ)) → IsGraph g → slice_get g n ≡ o → All (λ t. t < length g) (nexts g n)
 nexts_in g n None graph e = subst (λ (o : Option (List ℕ)). All (λ t. t < length g) (option_map_or (λ (ts : List ℕ). ts) o [])) (sym e) (λ i d no. absurd (omega (arith, no)))
 nexts_in g n (Some ts) graph e = subst (λ (o : Option (List ℕ)). All (λ t. t < length g) (option_map_or (λ (ts : List ℕ). ts) o [])) (sym e)
@@ -143,7 +143,7 @@ nexts_in g n (Some ts) graph e = subst (λ (o : Option (List ℕ)). All (λ t. t
 pub nexts_within : (g : List (List ℕ)) (n : ℕ) → IsGraph g → All (λ t. t < length g) (nexts g n)
 nexts_within g n graph = nexts_in g n (slice_get g n) graph refl
 
--- what is marked holds whatever some way leads to
+-- Each node reachable from a marked node is marked.
 marked_on : (g : List (List ℕ)) (marks : List Bool) (k n m : ℕ) → ((n : ℕ) → IsMarked marks n → All (IsMarked marks) (nexts g n)) → IsMarked marks n
     → goes_by g k n m ≡ true → IsMarked marks m
 marked_on g marks zero n m closed here way = subst (IsMarked marks) (eqb-true n m way) here
@@ -173,7 +173,7 @@ marks_each g starts a b v marks n false first told e = elim (cases_Bool (any_goe
   | inr not ↦ sym not
 ]
 
--- the marks after the search
+-- The marks after the search.
 pub marks_are : (g : List (List ℕ)) (starts : List ℕ) (a : List Bool) (b : List Bool) (v : List ℕ) (marks : List Bool) → length a ≡ length g
     → Finds starts a [] b v → Follows g b v marks → AreMarks g starts marks
 marks_are g starts a b v marks long first told = record {
@@ -191,7 +191,7 @@ unfolding unmarked
 none_unmarked zero = refl
 none_unmarked (suc k) = ap suc (none_unmarked k)
 
--- before a search
+-- The state before a search.
 pub found_none : (k : ℕ) → AreFound (replicate k false) []
 found_none k = record {
   marked = λ n among. absurd (omega (arith, among.1));
@@ -199,7 +199,7 @@ found_none k = record {
   count = omega (arith, none_unmarked k, length-replicate k false);
 }
 
--- the row of a node
+-- The links of a node.
 pub nexts_read : (rows : List (Vec ℕ)) (n : ℕ) (row : Vec ℕ) → slice_get rows n ≡ Some row → nexts (graph_in rows) n ≡ row.items
 nexts_read rows n row e =
     ap (λ (o : Option (List ℕ)). option_map_or (λ (ts : List ℕ). ts) o []) (slice_get-map (λ (v : Vec ℕ). v.items) rows n ∙ ap (option_map (λ (v : Vec ℕ). v.items)) e)

@@ -1,4 +1,4 @@
--- How a search for an order goes on.
+-- The steps of the search for an order.
 use Rattle.std.proofs.Common.{◌≡◌, ◌≢◌, ℕ, zero, suc, ◌+◌, ◌-◌, ◌<◌, ◌≤◌, true, false, List, [], ◌∷◌, ◌++◌, length, refl, ap, sym, ◌∙◌, subst, arith, inl, inr, Option, Some, None, take, get_or, length-append}
 use Rattle.std.specs.Prelude.{slice_get, slice_set, Contains, replicate}
 use Rattle.std.specs.Option.{option_map_or}
@@ -18,7 +18,7 @@ use Rattle.sdl_joins.proofs.MarkCounts.{unseen_less, unseen_same, unseen_none, o
 
 -- ---- steps
 
--- the last open node goes on to a later place
+-- The last open node continues with a later link.
 pub moved : (g : List (List ℕ)) (marks : List Mark) (path : List Frame) (order : List ℕ) (last next : ℕ) (f : Frame) → IsSearch g marks path order
     → suc last ≡ length path → slice_get path last ≡ Some f
     → ((k t : ℕ) → k < next → slice_get (nexts g f.node) k ≡ Some t → StandsIn order t)
@@ -61,7 +61,7 @@ moved g marks path order last next f s long there passed =
       behind = s.behind;
     }
 
--- a node is opened, the first one or one to which the last open node leads
+-- A node is opened: the first one, or one that the last open node leads to.
 pub entered : (g : List (List ℕ)) (marks : List Mark) (path : List Frame) (order : List ℕ) (t : ℕ) → IsSearch g marks path order
     → slice_get marks t ≡ Some New
     → ((d : ℕ) (f : Frame) → suc d ≡ length path → slice_get path d ≡ Some f → slice_get (nexts g f.node) f.next ≡ Some t)
@@ -109,7 +109,7 @@ entered g marks path order t s fresh link =
       behind = s.behind;
     }
 
--- the last open node comes into the order
+-- The last open node is appended to the order.
 pub finished : (g : List (List ℕ)) (marks : List Mark) (path : List Frame) (order : List ℕ) (last : ℕ) (f : Frame) → IsSearch g marks path order
     → suc last ≡ length path → slice_get path last ≡ Some f
     → ((k t : ℕ) → slice_get (nexts g f.node) k ≡ Some t → StandsIn order t)
@@ -159,9 +159,9 @@ finished g marks path order last f s long there all =
       ];
     }
 
--- ---- ends
+-- ---- the end of a search
 
--- from an open node some way leads to the last one
+-- A path leads from each open node to the last open node.
 path_goes : (g : List (List ℕ)) (marks : List Mark) (path : List Frame) (order : List ℕ) (last j d : ℕ) (f h : Frame) → IsSearch g marks path order
     → suc last ≡ length path → slice_get path last ≡ Some f → slice_get path d ≡ Some h → d + j ≡ last → f.node < length g → goes g h.node f.node ≡ true
 path_goes g marks path order last zero d f h s long there at sum within =
@@ -174,7 +174,7 @@ path_goes g marks path order last (suc j) d f h s long there at sum within =
     let rest = path_goes g marks path order last j (suc d) f next s long there after (omega (arith, sum)) within in
     goes_first g h.node next.node f.node within (among_at (nexts g h.node) h.next next.node (s.chain d h next at after)) rest
 
--- a link from the last open node to an open one closes a way
+-- A link from the last open node to an open node closes a cycle.
 pub comes_back : (g : List (List ℕ)) (marks : List Mark) (path : List Frame) (order : List ℕ) (last d k t : ℕ) (f : Frame) → IsSearch g marks path order
     → suc last ≡ length path → slice_get path last ≡ Some f → slice_get (nexts g f.node) k ≡ Some t → slice_get marks t ≡ Some (Open d) → Returns g t
 comes_back g marks path order last d k t f s long there edge open_there =
@@ -209,7 +209,7 @@ mark_cases marks order n New e none seen done = absurd (seen e)
 mark_cases marks order n (Open d) e none seen done = absurd (none d e)
 mark_cases marks order n (Done i) e none seen done = (i, done i e)
 
--- an order, once the search has come to each node and none is open
+-- If every node was visited and none is open, the list is an order.
 pub is_order : (g : List (List ℕ)) (marks : List Mark) (path : List Frame) (order : List ℕ) → IsSearch g marks path order → path ≡ []
     → ((n : ℕ) → slice_get marks n ≡ Some New → ⊥) → IsOrderOf g order
 is_order g marks path order s none seen = record {
@@ -223,7 +223,7 @@ is_order g marks path order s none seen = record {
   behind = λ i n t e among. let at = at_among (nexts g n) t among in s.behind i n at.0 t e at.1;
 }
 
--- ---- what the tests of marks tell
+-- ---- the results of tests of marks
 
 new_by : (o : Option Mark) → option_map_or is_new o false ≡ true → o ≡ Some New
 new_by None e = absurd (cc)
@@ -261,7 +261,7 @@ open_by_tests marks n within a b =
 abbrev pub frame_at : ℕ → ℕ → Frame
 frame_at node next = record { node = node; next = next }
 
--- what has been passed at the last open node, up to where the search looks now
+-- The links before the current one at the last open node lead to nodes in the order.
 pub passed_to : (g : List (List ℕ)) (marks : List Mark) (path : List Frame) (order : List ℕ) (last next : ℕ) (f : Frame) → IsSearch g marks path order
     → slice_get path last ≡ Some f
     → ((k n : ℕ) → f.next ≤ k → k < next → slice_get (nexts g f.node) k ≡ Some n → option_map_or is_done (slice_get marks n) false ≡ true)
@@ -271,7 +271,7 @@ passed_to g marks path order last next f s there seen k t less edge = elim (case
   | inr now ↦ stands_by g marks path order t s (seen k t now less edge)
 ]
 
--- the last open node is done
+-- The last open node is completed.
 pub advances_done : (g : List (List ℕ)) (marks : List Mark) (path : List Frame) (order : List ℕ) (last : ℕ) (f : Frame) → IsSearch g marks path order
     → suc last ≡ length path → slice_get path last ≡ Some f
     → ((k t : ℕ) → slice_get (nexts g f.node) k ≡ Some t → StandsIn order t)
@@ -287,7 +287,7 @@ advances_done g marks path order last f s long there all =
       ];
     }
 
--- a node is opened behind the last one
+-- A node is opened after the last open node.
 pub advances_on : (g : List (List ℕ)) (marks : List Mark) (path : List Frame) (order : List ℕ) (last next t : ℕ) (f : Frame) → IsSearch g marks path order
     → suc last ≡ length path → slice_get path last ≡ Some f
     → ((k t : ℕ) → k < next → slice_get (nexts g f.node) k ≡ Some t → StandsIn order t)
@@ -311,7 +311,7 @@ advances_on g marks path order last next t f s long there passed edge fresh =
       ];
     }
 
--- the first node is opened
+-- The first node is opened.
 pub enters_first : (g : List (List ℕ)) (marks : List Mark) (path : List Frame) (order : List ℕ) (t : ℕ) → IsSearch g marks path order → path ≡ []
     → slice_get marks t ≡ Some New → IsSearch g (slice_set marks t (Open (length path))) (path ++ frame_at t 0 ∷ []) order
 enters_first g marks path order t s none fresh = entered g marks path order t s fresh (λ d f at e. absurd (omega (arith, at, ap length none)))
@@ -333,7 +333,7 @@ unfolding unseen
 unseen_all zero = refl
 unseen_all (suc k) = ap suc (unseen_all k)
 
--- before a search
+-- The state before a search.
 pub search_none : (g : List (List ℕ)) (k : ℕ) → k ≡ length g → IsSearch g (replicate k New) [] []
 search_none g k long = record {
   count = length-replicate k New ∙ long;
@@ -347,7 +347,7 @@ search_none g k long = record {
   behind = λ i n k t e. absurd (none_at e);
 }
 
--- by equal lists
+-- As `Advances`, for equal lists.
 pub advances_as : (g : List (List ℕ)) (marks : List Mark) (path : List Frame) (m m' : List Mark) (p p' : List Frame) (o o' : List ℕ)
     → m ≡ m' → p ≡ p' → o ≡ o' → Advances g marks path m' p' o' → Advances g marks path m p o
 advances_as g marks path m m' p p' o o' a b c h =

@@ -1,4 +1,4 @@
--- JOINs that come back, as the code finds them.
+-- The JOINs that lead back to their connection, as the code finds them.
 use Rattle.std.proofs.Common.{◌≡◌, ℕ, ◌+◌, ◌<◌, Bool, if◌then◌else◌, List, [], ◌∷◌, ◌++◌, refl, ap, sym, ◌∙◌, subst, arith, Option, Some, None}
 use Rattle.std.specs.Prelude.{slice_get, Contains, All, IfSome, Ok, Err}
 use Rattle.std.specs.List.{flat_map}
@@ -26,7 +26,7 @@ pub back_none : (p : PlainProcess) (c : PlainConnection) (j : Join) (own : ℕ) 
     → number_of (connector_names p) c.name.name ≡ Some own → comes_back p c j ≡ []
 back_none p c j own none at = ap (λ b. if b then j.at ∷ [] else []) (comes_none p c.name.name j.connector.name own none at)
 
--- what the mark of a connection tells of a JOIN
+-- The mark of a connection tells whether a JOIN leads back to it.
 pub back_is : (p : PlainProcess) (c : PlainConnection) (j : Join) (target own : ℕ) (g : List (List ℕ)) (marks : List Bool) (b : Bool) → g ≡ links_of p
     → AreMarks g (target ∷ []) marks → number_of (connector_names p) j.connector.name ≡ Some target → number_of (connector_names p) c.name.name ≡ Some own
     → slice_get marks own ≡ Some b → comes_back p c j ≡ (if b then j.at ∷ [] else [])
@@ -38,17 +38,17 @@ back_is p c j target own g marks b g_is are at own_at mark =
 pub marked_place : (places : List ℕ) (at : ℕ) → places ≡ at ∷ [] → Contains places at
 marked_place places at e = subst (λ (l : List ℕ). Contains l at) (sym e) (0, omega arith, refl)
 
--- places of which there is one
+-- If the list of places isn't empty, a place was found.
 pub some_place : (o : Option ℕ) (places : List ℕ) → Marks o places → (places ≡ [] → ⊥) → (at : ℕ) × (o ≡ Some at) × Contains places at
 some_place None places marks some = absurd (some marks)
 some_place (Some at) places marks some = (at, refl, marks)
 
--- ---- a process more
+-- ---- one more process
 
 cycles_push : (ps : List PlainProcess) (p : PlainProcess) → flat_map process_cycles (ps ++ p ∷ []) ≡ flat_map process_cycles ps ++ process_cycles p
 cycles_push ps p = flat_map-append process_cycles ps (p ∷ []) ∙ ap (λ l. flat_map process_cycles ps ++ l) (append-nil (process_cycles p))
 
--- what holds of the processes so far
+-- The invariant for the processes visited so far.
 pub record SoFar (ps : List PlainProcess) (place : Option ℕ) (orders : List (Vec ℕ)) : Type 0 where
   pub found : IfSome place (Contains (flat_map process_cycles ps))
   pub orders_are : place ≡ None → AreOrders ps orders

@@ -1,4 +1,4 @@
--- Ways through a graph.
+-- Paths through a graph.
 use Rattle.std.proofs.Common.{◌≡◌, ℕ, zero, suc, ◌+◌, ◌<◌, ◌≤◌, Bool, true, false, List, [], length, refl, ap, sym, subst, arith, inl, inr, ◌⊎◌, if◌then◌else◌}
 use Rattle.std.specs.Prelude.{nat_eq, Contains}
 use Rattle.std.specs.Option.{option_map_or}
@@ -16,7 +16,7 @@ goes_none g (suc k) n = or_left (nat_eq n n) _ (eq-eqb n n refl)
 pub goes_link : (g : List (List ℕ)) (k n t m : ℕ) → Contains (nexts g n) t → goes_by g k t m ≡ true → goes_by g (suc k) n m ≡ true
 goes_link g k n t m among way = or_right (nat_eq n m) _ (any_at (λ t. goes_by g k t m) (nexts g n) t among way)
 
--- a way is none, or begins with a link
+-- A path is empty, or begins with a link.
 pub goes_cases : (g : List (List ℕ)) (k n m : ℕ) → goes_by g (suc k) n m ≡ true
     → (n ≡ m) ⊎ ((t : ℕ) × Contains (nexts g n) t × (goes_by g k t m ≡ true))
 goes_cases g k n m h = elim (or_cases (nat_eq n m) _ h) [
@@ -31,7 +31,7 @@ goes_more g (suc k) n m h = elim (goes_cases g k n m h) [
   | inr (t, among, way) ↦ goes_link g (suc k) n t m among (goes_more g k t m way)
 ]
 
--- a sum that computes
+-- A sum that reduces by its first argument.
 abbrev plus : ℕ → ℕ → ℕ
 plus zero k = k
 plus (suc j) k = suc (plus j k)
@@ -51,12 +51,12 @@ goes_both g (suc j) k n m r first second = elim (goes_cases g j n m first) [
   | inr (t, among, way) ↦ goes_link g (plus j k) n t r among (goes_both g j k t m r way second)
 ]
 
--- ---- as many links as there are nodes are enough
+-- ---- as many links as there are nodes are sufficient
 
 abbrev bit : Bool → ℕ
 bit b = if b then 1 else 0
 
--- how many of the first nodes have a way
+-- The number of nodes among the first n that have a path to m of at most k links.
 abbrev ways : List (List ℕ) → ℕ → ℕ → ℕ → ℕ
 ways g k m zero = 0
 ways g k m (suc n) = bit (goes_by g k n m) + ways g k m n
@@ -110,7 +110,7 @@ ways_some g k m (suc n) h = elim (cases_eq m n) [
   | inr not ↦ omega (arith, ways_some g k m n (omega (arith, h, not)))
 ]
 
--- one link more tells nothing new
+-- One more link reaches no new node.
 abbrev Stable : List (List ℕ) → ℕ → ℕ → Type 0
 Stable g m k = (n : ℕ) → goes_by g (suc k) n m ≡ true → goes_by g k n m ≡ true
 
@@ -159,7 +159,7 @@ goes_down : (g : List (List ℕ)) (m k j n : ℕ) → Stable g m k → goes_by g
 goes_down g m k zero n h way = way
 goes_down g m k (suc j) n h way = goes_down g m k j n h (stable_from g m k j h n way)
 
--- any way tells that there is one
+-- A path of any length implies that there is a path.
 pub goes_any : (g : List (List ℕ)) (k n m : ℕ) → m < length g → goes_by g k n m ≡ true → goes g n m ≡ true
 goes_any g k n m within way =
     let more : goes_by g (plus (length g) k) n m ≡ true = goes_many g (length g) k n m way in
@@ -173,10 +173,10 @@ goes_on g n m r within first second = goes_any g (plus (length g) (length g)) n 
 pub goes_itself : (g : List (List ℕ)) (n : ℕ) → goes g n n ≡ true
 goes_itself g n = goes_none g (length g) n
 
--- a link, and a way from there
+-- A link followed by a path.
 pub goes_first : (g : List (List ℕ)) (n t m : ℕ) → m < length g → Contains (nexts g n) t → goes g t m ≡ true → goes g n m ≡ true
 goes_first g n t m within among way = goes_any g (suc (length g)) n m within (goes_link g (length g) n t m among way)
 
--- a way, and a link from its end
+-- A path followed by a link.
 pub goes_last : (g : List (List ℕ)) (n m t : ℕ) → t < length g → goes g n m ≡ true → Contains (nexts g m) t → goes g n t ≡ true
 goes_last g n m t within way among = goes_on g n m t within way (goes_first g m t t within among (goes_itself g t))

@@ -1,4 +1,4 @@
--- The JOINs of a text, in the order of the text, by cases on what it begins with.
+-- The JOINs of a text in text order, defined by cases on its first statement.
 use Rattle.std.specs.Prelude.{List, [], ◌++◌}
 use Rattle.sdl_ast.specs.declared.tree.Join.{Join}
 use Rattle.sdl_ast.specs.Plain.{Text, falls, ends, does, decides, Choice, nothing_else, otherwise}
@@ -12,7 +12,7 @@ abbrev mutual
   text_joins (does a rest) = text_joins rest
   text_joins (decides at q c rest) = choice_joins c ++ text_joins rest
 
-  -- those of the answers of a DECISION
+  -- the JOINs in the answers of a DECISION
   pub choice_joins : Choice → List Join
   choice_joins nothing_else = []
   choice_joins (otherwise body) = text_joins body

@@ -1,4 +1,4 @@
--- What searches of a graph keep.
+-- The invariants of searches of a graph.
 use Rattle.std.specs.Prelude.{◌≡◌, ◌<◌, ℕ, suc, ◌+◌, Bool, true, false, List, [], ◌∷◌, ◌++◌, Some}
 use Rattle.std.specs.Prelude.{length, slice_get, All, Contains, ◌⊎◌}
 use Rattle.sdl_joins.specs.Links.{nexts, goes, any_goes}
@@ -6,24 +6,24 @@ use Rattle.sdl_joins.specs.declared.graph.Mark.{Mark}
 use Rattle.sdl_joins.specs.declared.graph.Mark.TheVariants.{New, Open, Done}
 use Rattle.sdl_joins.specs.declared.graph.Frame.{Frame}
 
--- ---- marks: what was found, and a mark for each node that was
+-- ---- marks: the nodes found, and a mark for each of them
 
 abbrev pub IsMarked : List Bool → ℕ → Type 0
 IsMarked marks n = slice_get marks n ≡ Some true
 
--- how many nodes have no mark
+-- the number of nodes without a mark
 unfoldable pub unmarked : List Bool → ℕ
 unmarked [] = 0
 unmarked (true ∷ marks) = unmarked marks
 unmarked (false ∷ marks) = suc (unmarked marks)
 
--- a mark for each node that was found, and for no other
+-- exactly the nodes found are marked
 pub record AreFound (marks : List Bool) (found : List ℕ) : Type 0 where
   pub marked : (n : ℕ) → Contains found n → IsMarked marks n
   pub back : (n : ℕ) → IsMarked marks n → Contains found n
   pub count : length found + unmarked marks ≡ length marks
 
--- from what was found before, these nodes are found too, and no others
+-- these nodes are found in addition to those before, and no others
 pub record Finds (nodes : List ℕ) (marks : List Bool) (found : List ℕ) (new_marks : List Bool)
     (new_found : List ℕ) : Type 0 where
   pub count : length new_marks ≡ length marks
@@ -34,9 +34,8 @@ pub record Finds (nodes : List ℕ) (marks : List Bool) (found : List ℕ) (new_
   pub marked : All (IsMarked new_marks) nodes
   pub only : (n : ℕ) → Contains new_found n → Contains found n ⊎ Contains nodes n
 
--- The marks after a search that went on from what was found: what was marked still is, and whatever
--- a marked node leads to; and each marked node is one to which some way leads from one that was
--- found before.
+-- The marks after a search that continued from the nodes found. Marked nodes remain marked. Every
+-- node to which a marked node leads is marked. Each marked node is reachable from one found before.
 pub record Follows (g : List (List ℕ)) (marks : List Bool) (found : List ℕ)
     (new_marks : List Bool) : Type 0 where
   pub count : length new_marks ≡ length marks
@@ -44,14 +43,14 @@ pub record Follows (g : List (List ℕ)) (marks : List Bool) (found : List ℕ)
   pub closed : (n : ℕ) → IsMarked new_marks n → All (IsMarked new_marks) (nexts g n)
   pub only : (n : ℕ) → IsMarked new_marks n → (s : ℕ) × Contains found s × (goes g s n ≡ true)
 
--- a mark for each node: whether some way leads there from one of these
+-- the mark of each node tells whether it is reachable from one of the starts
 pub record AreMarks (g : List (List ℕ)) (starts : List ℕ) (marks : List Bool) : Type 0 where
   pub count : length marks ≡ length g
   pub each : (n : ℕ) (b : Bool) → slice_get marks n ≡ Some b → b ≡ any_goes g starts n
 
 -- ---- an order
 
--- whether a search has not come to a node
+-- the search hasn't visited the node
 abbrev pub is_new : Mark → Bool
 is_new New = true
 is_new (Open d) = false
@@ -62,16 +61,16 @@ is_done New = false
 is_done (Open d) = false
 is_done (Done i) = true
 
--- to how many nodes it has not come
+-- the number of nodes not visited
 unfoldable pub unseen : List Mark → ℕ
 unseen [] = 0
 unseen (New ∷ marks) = suc (unseen marks)
 unseen (Open d ∷ marks) = unseen marks
 unseen (Done i ∷ marks) = unseen marks
 
--- Nodes are open, each but the first one of those to which the one before it leads; others stand in
--- the order, each behind all to which it leads. The marks tell where a node stands. All that an
--- open node leads to before the place at which it is stand in the order.
+-- Each open node but the first is one to which the open node before it leads. Each node in the
+-- order comes after all to which it leads. The marks tell the position of each node. The links of
+-- an open node before `next` lead to nodes in the order.
 pub record IsSearch (g : List (List ℕ)) (marks : List Mark) (path : List Frame) (order : List ℕ) :
     Type 0 where
   pub count : length marks ≡ length g
@@ -96,7 +95,7 @@ pub record IsSearch (g : List (List ℕ)) (marks : List Mark) (path : List Frame
 abbrev pub StandsIn : List ℕ → ℕ → Type 0
 StandsIn order n = (i : ℕ) × (slice_get order i ≡ Some n)
 
--- A search went on: it is nearer to its end, and has come to whatever it had come to.
+-- A search made a step: it is nearer to its end, and nodes visited before are still visited.
 pub record Advances (g : List (List ℕ)) (marks : List Mark) (path : List Frame)
     (new_marks : List Mark) (new_path : List Frame) (new_order : List ℕ) : Type 0 where
   pub search : IsSearch g new_marks new_path new_order
@@ -104,7 +103,7 @@ pub record Advances (g : List (List ℕ)) (marks : List Mark) (path : List Frame
       < unseen marks + unseen marks + length path
   pub seen : (n : ℕ) → slice_get new_marks n ≡ Some New → slice_get marks n ≡ Some New
 
--- A search came to a node and to all to which ways lead from it.
+-- A search visited a node and all nodes reachable from it.
 pub record Visits (g : List (List ℕ)) (root : ℕ) (marks : List Mark) (new_marks : List Mark)
     (new_path : List Frame) (new_order : List ℕ) : Type 0 where
   pub search : IsSearch g new_marks new_path new_order

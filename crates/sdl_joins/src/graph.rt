@@ -1,4 +1,4 @@
-//! Graphs by numbers: for each node, the nodes to which it leads.
+//! Graphs of numbered nodes: for each node, the nodes to which its links lead.
 ghost use Rattle.std.specs.Prelude.{◌≡◌, ◌∷◌, ◌++◌, ◌<◌, ◌≤◌, ◌+◌, ◌-◌, ℕ, [], true, false, All, length, map, take, slice_get, slice_set, Some, IfOk, OnOk, IfSome, IfNone};
 ghost use Rattle.std.specs.Option.{option_map_or};
 ghost use Rattle.sdl_joins.specs.Links.{nexts, graph_in, IsGraph, IsOrderOf, Returns};
@@ -7,18 +7,18 @@ ghost use Rattle.sdl_joins.specs.declared.graph.Mark.TheVariants.{Open, Done};
 
 use std::alloc::{AllocError, Global};
 
-/// How far a search for an order is with a node.
+/// How far the search for an order is with a node.
 #[derive(Clone, Copy)]
 enum Mark {
-    /// It has not come to it.
+    /// The search hasn't visited the node.
     New,
-    /// The node is open, at this depth.
+    /// The node is open, at this depth of the path.
     Open(usize),
-    /// The node stands in the order, at this place.
+    /// The node is in the order, at this index.
     Done(usize),
 }
 
-/// An open node, and how many of those to which it leads stand in the order.
+/// An open node, and how many of its links have been followed to nodes in the order.
 #[derive(Clone, Copy)]
 struct Frame {
     node: usize,
@@ -33,7 +33,7 @@ fn links(graph: &[Vec<usize>], node: usize) -> &[usize]
     &graph[node]
 }
 
-/// One more node that is found, unless it has its mark.
+/// Adds a node to those found, unless it is marked.
 fn see(node: usize, marks: &mut Vec<bool>, found: &mut Vec<usize>) -> Result<(), AllocError>
     requires within { node < length marks.old.items }
     requires found { AreFound marks.old.items found.old.items }
@@ -46,7 +46,7 @@ fn see(node: usize, marks: &mut Vec<bool>, found: &mut Vec<usize>) -> Result<(),
     Ok(())
 }
 
-/// Each of these nodes is found, unless it has its mark.
+/// Adds these nodes to those found, except marked ones.
 fn see_all(nodes: &[usize], marks: &mut Vec<bool>, found: &mut Vec<usize>) -> Result<(), AllocError>
     requires within { All (λ n. n < length marks.old.items) nodes.now }
     requires found { AreFound marks.old.items found.old.items }
@@ -58,7 +58,7 @@ fn see_all(nodes: &[usize], marks: &mut Vec<bool>, found: &mut Vec<usize>) -> Re
     Ok(())
 }
 
-/// A mark for each node to which some way leads from one of these.
+/// Marks each node that is reachable from one of these nodes.
 pub(crate) fn marks_from(
     alloc: Global,
     graph: &[Vec<usize>],
@@ -75,7 +75,7 @@ pub(crate) fn marks_from(
     Ok(marks)
 }
 
-/// Goes on from what was found until nothing more is.
+/// Continues the search from the nodes found until no new one is found.
 fn follow(
     graph: &[Vec<usize>],
     marks: &mut Vec<bool>,
@@ -95,7 +95,7 @@ fn follow(
     Ok(())
 }
 
-/// Whether the search hasn't come to a node.
+/// Whether the search hasn't visited a node.
 fn is_new(marks: &[Mark], node: usize) -> bool
     requires { node < length marks.now }
     ensures { result ≡ option_map_or is_new (slice_get marks.now node) false }
@@ -107,7 +107,7 @@ fn is_new(marks: &[Mark], node: usize) -> bool
     }
 }
 
-/// Whether a node stands in the order.
+/// Whether a node is in the order.
 fn is_done(marks: &[Mark], node: usize) -> bool
     requires { node < length marks.now }
     ensures { result ≡ option_map_or is_done (slice_get marks.now node) false }
@@ -119,7 +119,7 @@ fn is_done(marks: &[Mark], node: usize) -> bool
     }
 }
 
-/// The first place from one on at which stands a node that isn't in the order yet.
+/// The first index, from `from` on, of a node that isn't in the order yet.
 fn skip(nodes: &[usize], marks: &[Mark], from: usize) -> usize
     requires { All (λ n. n < length marks.now) nodes.now }
     ensures passed { (k n : ℕ) → from ≤ k → k < result → slice_get nodes.now k ≡ Some n
@@ -133,7 +133,7 @@ fn skip(nodes: &[usize], marks: &[Mark], from: usize) -> usize
     next
 }
 
-/// Opens a node, at the end of the path.
+/// Opens a node at the end of the path.
 fn enter(node: usize, marks: &mut Vec<Mark>, path: &mut Vec<Frame>) -> Result<(), AllocError>
     requires { node < length marks.old.items }
     ensures marks { OnOk result (marks.new.items ≡ slice_set marks.old.items node (Open (length path.old.items))) }
@@ -144,7 +144,7 @@ fn enter(node: usize, marks: &mut Vec<Mark>, path: &mut Vec<Frame>) -> Result<()
     Ok(())
 }
 
-/// The last open node comes into the order.
+/// Closes the last open node and appends it to the order.
 fn finish(
     node: usize,
     marks: &mut Vec<Mark>,
@@ -162,7 +162,7 @@ fn finish(
     Ok(())
 }
 
-/// Goes on at the last open node; `false` where it leads to an open node.
+/// Makes a step at the last open node. Returns `false` if it leads to an open node.
 fn advance(
     graph: &[Vec<usize>],
     marks: &mut Vec<Mark>,
@@ -193,7 +193,7 @@ fn advance(
     Ok(true)
 }
 
-/// Comes to a node and to all to which ways lead from it; `false` where one of them leads back to itself.
+/// Visits a node and all nodes reachable from it. Returns `false` if a path leads from a node back to it.
 fn visit(
     graph: &[Vec<usize>],
     root: usize,
@@ -219,7 +219,7 @@ fn visit(
     Ok(true)
 }
 
-/// The nodes in an order in which each stands behind those to which it leads; none where some way leads from a node back to it.
+/// The nodes in an order in which each comes after those to which it leads, or `None` if the graph has a cycle.
 pub(crate) fn order_nodes(
     alloc: Global,
     graph: &[Vec<usize>],

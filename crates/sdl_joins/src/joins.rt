@@ -1,4 +1,4 @@
-//! JOINs: where they stand, and to which connections a transition comes by them.
+//! Finds JOINs, and the connections that transitions reach by them.
 ghost use Rattle.std.specs.Prelude.{◌≡◌, List, [], ◌++◌, ◌<◌, All, map, length, IfOk, OnOk};
 ghost use Rattle.std.specs.List.{list_any};
 ghost use Rattle.sdl_ast.specs.declared.tree.Join.{Join};
@@ -17,7 +17,7 @@ use sdl_ast::{Connection, Decision, End, Join, Statement, Transition};
 use sdl_tables::{NameTable, ProcessTable};
 use std::alloc::{AllocError, Global};
 
-/// The JOIN with which a transition ends, if it does.
+/// Appends the JOIN that ends a transition, if there is one.
 fn push_end(joins: &mut Vec<Join>, end: Option<End>) -> Result<(), AllocError>
     ensures { OnOk result (joins.new.items ≡ joins.old.items ++ text_joins (end_text end)) }
 {
@@ -29,7 +29,7 @@ fn push_end(joins: &mut Vec<Join>, end: Option<End>) -> Result<(), AllocError>
     }
 }
 
-/// The JOINs of a transition, at the end.
+/// Appends the JOINs of a transition.
 #[cycle(joining)]
 fn push_joins(joins: &mut Vec<Join>, transition: &Transition) -> Result<(), AllocError>
     ensures { OnOk result (joins.new.items ≡ joins.old.items ++ text_joins (text_of transition.now)) }
@@ -40,7 +40,7 @@ fn push_joins(joins: &mut Vec<Join>, transition: &Transition) -> Result<(), Allo
     push_end(joins, transition.end)
 }
 
-/// The JOINs of a statement: an action has none.
+/// Appends the JOINs of a statement. An action has none.
 #[cycle(joining)]
 fn push_in_statement(joins: &mut Vec<Join>, statement: &Statement) -> Result<(), AllocError>
     ensures { OnOk result ((rest : Text) → joins.new.items ++ text_joins rest ≡ joins.old.items ++ text_joins (statement_of statement.now rest)) }
@@ -51,7 +51,7 @@ fn push_in_statement(joins: &mut Vec<Join>, statement: &Statement) -> Result<(),
     }
 }
 
-/// The JOINs in the bodies of a DECISION.
+/// Appends the JOINs in the bodies of a DECISION.
 #[cycle(joining)]
 fn push_in_decision(joins: &mut Vec<Join>, decision: &Decision) -> Result<(), AllocError>
     ensures { OnOk result (joins.new.items ≡ joins.old.items ++ choice_joins (choice_of decision.now)) }
@@ -65,7 +65,7 @@ fn push_in_decision(joins: &mut Vec<Join>, decision: &Decision) -> Result<(), Al
     }
 }
 
-/// The JOINs of a transition, in the order of the text.
+/// Collects the JOINs of a transition, in the order of the text.
 pub(crate) fn find_joins(alloc: Global, transition: &Transition) -> Result<Vec<Join>, AllocError>
     ensures { IfOk result (λ v. v.items ≡ joins_of (text_of transition.now)) }
 {
@@ -74,7 +74,7 @@ pub(crate) fn find_joins(alloc: Global, transition: &Transition) -> Result<Vec<J
     Ok(joins)
 }
 
-/// The numbers of the connections to which JOINs lead.
+/// The numbers of the connections to which these JOINs lead.
 pub(crate) fn find_targets(
     alloc: Global,
     connectors: &NameTable,
@@ -93,7 +93,7 @@ pub(crate) fn find_targets(
     Ok(targets)
 }
 
-/// For each of these connections, the numbers of those that its JOINs lead to.
+/// For each of these connections, the numbers of the connections to which its JOINs lead.
 fn links_in(
     alloc: Global,
     connectors: &NameTable,
@@ -110,7 +110,7 @@ fn links_in(
     Ok(links)
 }
 
-/// For each connection of a process, by number, the numbers of those that its JOINs lead to.
+/// For each connection of a process, by number, the numbers of the connections to which its JOINs lead.
 pub fn find_links(alloc: Global, process: &ProcessTable) -> Result<Vec<Vec<usize>>, AllocError>
     ensures links { IfOk result (λ v. graph_in v.items ≡ links_of (process_of process.now)) }
     ensures graph { IfOk result (λ v. IsGraph (graph_in v.items)) }
@@ -119,7 +119,7 @@ pub fn find_links(alloc: Global, process: &ProcessTable) -> Result<Vec<Vec<usize
     links_in(alloc, process.connectors(), &process.process().connections)
 }
 
-/// The numbers of the connections that a transition joins, where these are the JOINs of its own text.
+/// The numbers of the connections to which the JOINs in the text of a transition lead.
 pub fn targets_in(
     alloc: Global,
     process: &ProcessTable,
@@ -133,8 +133,8 @@ pub fn targets_in(
     Ok(targets)
 }
 
-/// A mark for each connection of a process, by number: whether one of some JOINs comes there, where these are the links of the
-/// connections, and the numbers of those that the JOINs lead to.
+/// For each connection of a process, by number, whether it is reachable from one of `starts`. `links` are those of the
+/// connections, and `starts` the numbers of the connections to which some JOINs lead.
 pub fn reached_from(
     alloc: Global,
     links: &[Vec<usize>],
@@ -149,7 +149,7 @@ pub fn reached_from(
     Ok(marks)
 }
 
-/// A mark for each connection of a process, by number: whether a transition comes there, where these are the links of the connections.
+/// For each connection of a process, by number, whether a transition reaches it. `links` are those of the connections.
 pub fn reached_in(
     alloc: Global,
     process: &ProcessTable,

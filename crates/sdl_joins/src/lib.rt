@@ -1,5 +1,5 @@
-//! Where JOINs lead: the connections to which a transition comes, whether a JOIN comes back to its own (S7), and if none does,
-//! an order in which each connection stands behind all that it joins.
+//! Finds the connections that a transition reaches by JOINs, and JOINs that lead back to their own connection (S7). If
+//! there are none, it returns an order in which each connection comes after all that it joins.
 #![tactic(auto)]
 
 mod graph;

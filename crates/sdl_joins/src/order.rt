@@ -1,5 +1,5 @@
-//! S7, a JOIN that comes back to its own connection; and without one, an order of the connections in which each stands behind
-//! all that it joins.
+//! S7: finds a JOIN that leads back to its own connection. If there is none, finds an order of the connections in which
+//! each comes after all that it joins.
 ghost use Rattle.std.specs.Prelude.{◌≡◌, ◌<◌, [], List, map, length, Some, IfOk};
 ghost use Rattle.std.specs.List.{flat_map};
 ghost use Rattle.sdl_ast.specs.Plain.{PlainConnection};
@@ -16,7 +16,7 @@ use sdl_ast::Join;
 use sdl_tables::{BlockTable, ProcessTable, earlier};
 use std::alloc::{AllocError, Global};
 
-/// The place of a JOIN, if it comes back to the connection with this number.
+/// The place of a JOIN, if it leads back to the connection with this number.
 fn place_back(
     alloc: Global,
     process: &ProcessTable,
@@ -43,7 +43,7 @@ fn place_back(
     }
 }
 
-/// The place of the first of these JOINs of a connection that comes back to it: they stand in the order of the text.
+/// The place of the first of a connection's JOINs that leads back to it. The JOINs are in text order.
 fn place_in_joins(
     alloc: Global,
     process: &ProcessTable,
@@ -65,7 +65,7 @@ fn place_in_joins(
     Ok(None)
 }
 
-/// The place of the first JOIN that comes back to its connection: the connections stand in the order of the text.
+/// The place of the first JOIN that leads back to its connection. The connections are in text order.
 fn place_in_process(
     alloc: Global,
     process: &ProcessTable,
@@ -86,7 +86,7 @@ fn place_in_process(
     Ok(None)
 }
 
-/// An order of the connections of a process, or the place of a JOIN that comes back to its connection.
+/// An order of the connections of a process, or the place of a JOIN that leads back to its connection.
 fn order_process(
     alloc: Global,
     process: &ProcessTable,
@@ -100,7 +100,7 @@ fn order_process(
     }
 }
 
-/// An order of the connections of each process; or, where a JOIN comes back to its connection, the first place of such a one.
+/// An order of the connections of each process, or the first place of a JOIN that leads back to its connection.
 pub fn find_orders(
     alloc: Global,
     block: &BlockTable,

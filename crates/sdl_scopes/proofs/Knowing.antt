@@ -1,4 +1,4 @@
--- What is known of signals that are sent back: a name stands for all its spellings.
+-- The results known of signals sent TO SENDER. A name stands for all its spellings.
 use Rattle.std.proofs.Common.{◌≡◌, ℕ, Bool, true, false, not, ◌&&◌, ◌||◌, List, [], ◌∷◌, ◌++◌, if◌then◌else◌, refl, sym, ap, ◌∙◌, true≢false}
 use Rattle.std.specs.List.{list_any, list_all}
 use Rattle.std.proofs.lemmas.List.Folds.{list_any-append}
@@ -29,13 +29,13 @@ origin_alike b p begins s t e = refl
 origin_alike b p (takes x) s t e =
     λ i. not (is_in (timers_of p) x.name.name) && all_alike b (party_of p) (senders b (party_of p) x.name.name) s t e i
 
--- a signal gets back however it is written
+-- Whether a signal arrives doesn't depend on its spelling.
 answers_alike : (b : PlainBlock) (p : PlainProcess) (os : List Origin) (s t : List ℕ) → folded s ≡ folded t → answers_all b p os s ≡ answers_all b p os t
 answers_alike b p [] s t e = refl
 answers_alike b p (o ∷ os) s t e = λ i. origin_alike b p o s t e i && answers_alike b p os s t e i
 
 module _ (b : PlainBlock) (p : PlainProcess) (os : List Origin) (back : Bool) where
-  -- one name more
+  -- One more name.
   pub alike_more : (ids : List Identifier) (id : Identifier) → AreAlike b p os back ids → answers_all b p os id.name ≡ back → AreAlike b p os back (add_name ids id)
   unfolding AreAlike
   alike_more ids id h e = λ s there. by_test s (is_in ids id.name) there
@@ -54,7 +54,7 @@ module _ (b : PlainBlock) (p : PlainProcess) (os : List Origin) (back : Bool) wh
       by_test s true there = h s there
       by_test s false there = by_part s (is_in ids s) refl there
 
-  -- nothing is known of no names
+  -- The statement holds for an empty list of names.
   pub alike_none : (ids : List Identifier) → ids ≡ [] → AreAlike b p os back ids
   unfolding AreAlike
   alike_none ids e = λ s there. absurd (true≢false (sym there ∙ ap (λ l. is_in l s) e))

@@ -1,4 +1,4 @@
--- What is stray in a transition, over the lists in which the code keeps it.
+-- The bad ends of a transition, for the lists in which the code keeps it.
 use Rattle.std.proofs.Common.{◌≡◌, ℕ, ◌+◌, ◌<◌, List, [], ◌∷◌, ◌++◌, length, drop, get_or, refl, sym, ap, ◌∙◌, subst}
 use Rattle.std.specs.List.{flat_map}
 use Rattle.std.proofs.lemmas.List.{append_assoc, drop_more}
@@ -21,7 +21,7 @@ answers_strays ids (a ∷ xs) others =
     ∙ (ap (λ l. strays ids [] (text_of a.body) ++ l) (answers_strays ids xs others)
     ∙ sym (append_assoc (strays ids [] (text_of a.body)) (flat_map (λ (a : Answer). strays ids [] (text_of a.body)) xs) (choice_strays ids others)))
 
--- one statement more in front
+-- One more statement, before the others.
 pub one_more : (ids : List Identifier) (at : ℕ) (ss : List Statement) (i : ℕ) (s : Statement) (t : Text) (rest result : Rest) → i < length ss
     → s ≡ get_or ss i s → IsRest ids at (statements_before (drop (i + 1) ss) t) rest
     → ((u : Text) → IsRest ids at u rest → IsRest ids at (statement_of s u) result)

@@ -1,4 +1,4 @@
--- With what transitions begin, and what is known of the signals that they send back.
+-- The senders of the inputs that begin transitions, and the results known of signals sent back.
 use Rattle.std.specs.Prelude.{◌≡◌, ℕ, Bool, true, false, List, All}
 use Rattle.std.specs.List.{list_all}
 use Rattle.sdl_ast.specs.Plain.{PlainProcess, PlainBlock}
@@ -10,18 +10,18 @@ use Rattle.sdl_scopes.specs.Parties.{IsSender, gets_back}
 use Rattle.sdl_scopes.specs.declared.known.KnownSenders.{KnownSenders}
 use Rattle.sdl_scopes.specs.declared.sender.Sender.{Sender}
 
--- These senders are all who may have sent one of these: what they all get is what each of these
--- allows.
+-- The senders stand for all possible senders of these origins: a signal arrives at all of them
+-- exactly if it arrives for each origin.
 pub record AreSenders (b : PlainBlock) (p : PlainProcess) (senders : List Sender)
     (from : List Origin) : Type 0 where
   pub told : (s : List ℕ) → list_all (gets_back b p s) senders ≡ answers_all b p from s
   pub numbered : All (IsSender b) senders
 
--- each of these signals gets back to all who may have sent one of these, or each doesn't
+-- for each of these signals: whether it arrives at all senders of the origins is equal to `back`
 unfoldable pub AreAlike : PlainBlock → PlainProcess → List Origin → Bool → List Identifier → Type 0
 AreAlike b p from back ids = (s : List ℕ) → is_in ids s ≡ true → answers_all b p from s ≡ back
 
--- the senders of one of these, and what is known of signals
+-- the senders of these origins, and the results known of signals
 pub record Knows (b : PlainBlock) (p : PlainProcess) (k : KnownSenders) (from : List Origin) :
     Type 0 where
   pub senders : AreSenders b p k.list.items from

@@ -1,4 +1,4 @@
--- What is stray from some statement of a list on, as the code keeps it.
+-- The bad ends from some statement of a list on, as the code keeps them.
 use Rattle.std.specs.Prelude.{ℕ, List, [], ◌∷◌}
 use Rattle.sdl_ast.specs.declared.expression.Identifier.{Identifier}
 use Rattle.sdl_ast.specs.Plain.{Text}
@@ -6,8 +6,8 @@ use Rattle.sdl_tables.specs.Scopes.{Marks}
 use Rattle.sdl_sound.specs.Ends.{first_place, strays}
 use Rattle.sdl_scopes.specs.declared.ends.Rest.{Rest}
 
--- where what stands first is; what is stray where running off the end is, and is named by this
--- place; and what is where it isn't
+-- the place of the first statement; the bad ends if running off the end is reported at `at`; the
+-- bad ends if running off is allowed
 pub record IsRest (states : List Identifier) (at : ℕ) (t : Text) (r : Rest) : Type 0 where
   pub first : Marks r.first (first_place t)
   pub named : Marks r.named (strays states (at ∷ []) t)

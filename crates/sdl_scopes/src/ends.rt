@@ -1,5 +1,5 @@
-//! The rule on ends: the first place at which a list of actions runs off its end, leads to no state, or goes on behind a
-//! DECISION none of whose bodies does.
+//! The rule on ends (S4): finds the first place at which a list of actions runs off its end, leads to an unknown state,
+//! or continues after a DECISION that no body continues past.
 ghost use Rattle.std.specs.Prelude.{◌≡◌, ℕ, List, ◌∷◌, [], map, if◌then◌else◌};
 ghost use Rattle.std.specs.List.{flat_map};
 ghost use Rattle.sdl_ast.specs.declared.expression.Identifier as id;
@@ -15,14 +15,14 @@ use crate::going::a_body_goes_on;
 use sdl_ast::{Action, Connection, Decision, End, Identifier, InputPart, Statement, Transition};
 use sdl_tables::{BlockTable, NameTable, ProcessTable, earlier};
 
-/// What is stray from some statement of a list on.
+/// The bad ends from some statement of a list on.
 #[derive(Clone, Copy)]
 pub(crate) struct Rest {
-    /// Where what stands first is.
+    /// The place of the first statement.
     first: Option<u32>,
-    /// The first stray place, where what runs off its end is named.
+    /// The first bad end, if running off the end is reported.
     named: Option<u32>,
-    /// The first stray place, where it may run off.
+    /// The first bad end, if running off the end is allowed.
     free: Option<u32>,
 }
 
@@ -49,7 +49,7 @@ fn end_place(end: &End) -> u32
     }
 }
 
-/// The place of an end that leads to no state.
+/// The place of an end that leads to an unknown state.
 fn end_astray(states: &NameTable, end: &End) -> Option<u32>
     ensures { Marks result (stray_end states.now end.now) }
 {
@@ -60,7 +60,7 @@ fn end_astray(states: &NameTable, end: &End) -> Option<u32>
     }
 }
 
-/// This place, unless there is a state with the name.
+/// The place, unless there is a state with this name.
 fn missing_state(states: &NameTable, at: u32, state: Identifier) -> Option<u32>
     ensures { Marks result (if is_in states.now state.name then [] else at ∷ []) }
 {
@@ -71,7 +71,7 @@ fn missing_state(states: &NameTable, at: u32, state: Identifier) -> Option<u32>
     }
 }
 
-/// What stands behind all statements; what runs off is named by a place.
+/// The bad ends after all statements. Running off the end is reported at `at`.
 fn from_end(states: &NameTable, at: u32, end: &Option<End>) -> Rest
     ensures { IsRest states.now at (end_text end.now) result }
 {
@@ -92,7 +92,7 @@ fn from_end(states: &NameTable, at: u32, end: &Option<End>) -> Rest
     }
 }
 
-/// An action in front of the rest.
+/// Prepends an action to the rest.
 fn from_action(action: &Action, rest: Rest) -> Rest
     ensures { (ids : List id.Identifier) (at : ℕ) (t : Text) → IsRest ids at t rest → IsRest ids at (does (action_of action.now) t) result }
 {
@@ -103,7 +103,7 @@ fn from_action(action: &Action, rest: Rest) -> Rest
     }
 }
 
-/// Behind a DECISION one of whose bodies goes on the rest is as it is; behind another one it may not be there.
+/// Prepends a DECISION. If a body continues past it, the rest counts unchanged; else a statement after it is a fault.
 fn from_decision(place: u32, bodies: Option<u32>, passes: bool, rest: Rest) -> Rest
     ensures { (ids : List id.Identifier) (at : ℕ) (q : Tree) (c : Choice) (t : Text) → Marks bodies (choice_strays ids c) → passes ≡ choice_goes_on c → IsRest ids at t rest → IsRest ids at (decides place q c t) result }
 {
@@ -123,7 +123,7 @@ fn from_decision(place: u32, bodies: Option<u32>, passes: bool, rest: Rest) -> R
     }
 }
 
-/// What is stray in a transition; what runs off its end is named by a place.
+/// The bad ends of a transition. Running off its end is reported at `at`.
 #[cycle(strays)]
 fn in_transition(states: &NameTable, at: u32, transition: &Transition) -> Rest
     ensures { IsRest states.now at (text_of transition.now) result }
@@ -136,7 +136,7 @@ fn in_transition(states: &NameTable, at: u32, transition: &Transition) -> Rest
     rest
 }
 
-/// A statement in front of the rest.
+/// Prepends a statement to the rest.
 #[cycle(strays)]
 fn from_statement(states: &NameTable, statement: &Statement, rest: Rest) -> Rest
     ensures { (at : ℕ) (t : Text) → IsRest states.now at t rest → IsRest states.now at (statement_of statement.now t) result }
@@ -150,7 +150,7 @@ fn from_statement(states: &NameTable, statement: &Statement, rest: Rest) -> Rest
     }
 }
 
-/// What is stray in the bodies of a DECISION, each of which may run off its end.
+/// The first bad end in the bodies of a DECISION, each of which may run off its end.
 #[cycle(strays)]
 fn in_bodies(states: &NameTable, decision: &Decision) -> Option<u32>
     ensures { Marks result (choice_strays states.now (choice_of decision.now)) }
@@ -162,7 +162,7 @@ fn in_bodies(states: &NameTable, decision: &Decision) -> Option<u32>
     earlier(place, in_else(states, &decision.otherwise))
 }
 
-/// What is stray in the body of ELSE, which may run off its end.
+/// The first bad end in the body of ELSE, which may run off its end.
 #[cycle(strays)]
 fn in_else(states: &NameTable, otherwise: &Option<Transition>) -> Option<u32>
     ensures { Marks result (choice_strays states.now (else_choice otherwise.now)) }
@@ -173,14 +173,14 @@ fn in_else(states: &NameTable, otherwise: &Option<Transition>) -> Option<u32>
     }
 }
 
-/// The first stray place of a transition: where it runs off its end, that is named by a place.
+/// The first bad end of a transition. Running off its end is reported at `at`.
 fn stray(states: &NameTable, at: u32, transition: &Transition) -> Option<u32>
     ensures { Marks result (strays states.now (at ∷ []) (text_of transition.now)) }
 {
     in_transition(states, at, transition).named
 }
 
-/// The first stray place of these INPUTs.
+/// The first bad end of these INPUTs.
 fn stray_in_inputs(process: &ProcessTable, inputs: &[&InputPart]) -> Option<u32>
     ensures { Marks result (flat_map (input_strays (process_of process.now)) (map (λ i. input_of i.now) inputs.now)) }
 {
@@ -191,7 +191,7 @@ fn stray_in_inputs(process: &ProcessTable, inputs: &[&InputPart]) -> Option<u32>
     place
 }
 
-/// The first stray place of these connections.
+/// The first bad end of these connections.
 fn stray_in_connections(process: &ProcessTable, connections: &[Connection]) -> Option<u32>
     ensures { Marks result (flat_map (connection_strays (process_of process.now)) (map connection_of connections.now)) }
 {
@@ -203,7 +203,7 @@ fn stray_in_connections(process: &ProcessTable, connections: &[Connection]) -> O
     place
 }
 
-/// The first stray place of a process.
+/// The first bad end of a process.
 fn stray_in_process(process: &ProcessTable) -> Option<u32>
     ensures { Marks result (process_strays (process_of process.now)) }
 {
@@ -214,7 +214,7 @@ fn stray_in_process(process: &ProcessTable) -> Option<u32>
     earlier(first, beyond)
 }
 
-/// The first stray place of these processes.
+/// The first bad end of these processes.
 fn stray_in_processes(processes: &[ProcessTable]) -> Option<u32>
     ensures { Marks result (flat_map process_strays (map process_of processes.now)) }
 {
@@ -225,8 +225,8 @@ fn stray_in_processes(processes: &[ProcessTable]) -> Option<u32>
     place
 }
 
-/// The place of a NEXTSTATE to a state that no STATE names, of the START, INPUT or CONNECTION whose actions
-/// run off their end, or of what stands behind a DECISION none of whose bodies goes on. (S4; Z.100: terminator, nextstate.)
+/// The place of a NEXTSTATE to a state that no STATE names, of a START, INPUT or CONNECTION whose actions run off their
+/// end, or of a statement after a DECISION that no body continues past. (S4; Z.100: terminator, nextstate.)
 pub fn stray_end(block: &BlockTable) -> Option<u32>
     ensures { Marks result (stray_ends (block_of block.now)) }
 {

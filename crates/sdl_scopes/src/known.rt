@@ -1,4 +1,4 @@
-//! Who may have sent what a transition begins with, and of which signals it is known whether they get back to all of those.
+//! The possible senders of the inputs that begin transitions, and the results known of signals sent back to them.
 ghost use Rattle.std.specs.Prelude.{◌≡◌, [], List, OnOk};
 ghost use Rattle.sdl_ast.specs.Plain.{PlainProcess, PlainBlock};
 ghost use Rattle.sdl_sound.specs.Actions.{Origin};
@@ -10,7 +10,7 @@ use sdl_ast::Identifier;
 use sdl_tables::{NameKey, NameTable};
 use std::alloc::{AllocError, Global};
 
-/// Who may have sent what some transitions begin with, and of some signals whether they get back to all of those.
+/// The possible senders of some inputs, and signals that are known to arrive at all of them (`back`) or not (`lost`).
 #[derive(Drop)]
 pub struct KnownSenders {
     pub list: Vec<Sender>,
@@ -19,7 +19,7 @@ pub struct KnownSenders {
 }
 
 impl KnownSenders {
-    /// Senders of which nothing is known so far. The tables hash by this key.
+    /// Senders without known signals. The tables hash with this key.
     pub fn new(alloc: Global, key: NameKey, list: Vec<Sender>) -> Self
         ensures { (b : PlainBlock) (p : PlainProcess) (os : List Origin) → AreSenders b p list.items os → Knows b p result os }
     {
@@ -30,14 +30,14 @@ impl KnownSenders {
         }
     }
 
-    /// No senders, where nothing is asked of any.
+    /// No senders, for a statement that no transition reaches.
     pub fn none(alloc: Global, key: NameKey) -> Self
         ensures { (b : PlainBlock) (p : PlainProcess) → Knows b p result [] }
     {
         KnownSenders::new(alloc, key, Vec::new(alloc))
     }
 
-    /// Keeps what is so of a signal.
+    /// Records whether a signal arrives at all senders.
     pub fn keep(&mut self, signal: Identifier, back: bool) -> Result<(), AllocError>
         ensures { OnOk result ((b : PlainBlock) (p : PlainProcess) (os : List Origin) → Knows b p self.old os
             → back ≡ answers_all b p os signal.name → Knows b p self.new os) }

@@ -1,4 +1,4 @@
-//! Names that are known (S2), ends of transitions (S4), and who sends and gets a signal by the routes.
+//! Unknown names (S2), ends of transitions (S4), and the senders and receivers of signals by the routes.
 #![tactic(auto)]
 
 mod ends;

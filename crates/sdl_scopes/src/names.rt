@@ -1,4 +1,4 @@
-//! The rule on names: the first name that its class and scope lack.
+//! The rule on names (S2): finds the first name that isn't declared in its class and scope.
 ghost use Rattle.std.specs.Prelude.{◌≡◌, ◌++◌, ◌∷◌, [], List, Option, map, if◌then◌else◌};
 ghost use Rattle.std.specs.List.{flat_map};
 ghost use Rattle.std.specs.Option.{option_to_list};
@@ -14,7 +14,7 @@ use sdl_ast::{
 };
 use sdl_tables::{BlockTable, NameTable, ProcessTable, earlier};
 
-/// The place of a name that a table lacks.
+/// The place of a name that isn't in a table.
 fn missing(names: &NameTable, id: Identifier) -> Option<u32>
     ensures { Marks result (if is_in names.now id.name then [] else id.at ∷ []) }
 {
@@ -25,7 +25,7 @@ fn missing(names: &NameTable, id: Identifier) -> Option<u32>
     }
 }
 
-/// The place of a name among these that a table lacks.
+/// The place of the first of these names that isn't in a table.
 fn first_unknown(names: &NameTable, ids: &[Identifier]) -> Option<u32>
     ensures { Marks result (unknown names.now ids.now) }
 {
@@ -36,7 +36,7 @@ fn first_unknown(names: &NameTable, ids: &[Identifier]) -> Option<u32>
     place
 }
 
-/// The place of a process that these lack, as a party; the environment is there.
+/// The place of a party whose process isn't in the table. The environment is always known.
 fn unknown_party(names: &NameTable, party: Party) -> Option<u32>
     ensures { Marks result (unknown names.now (party_names party)) }
 {
@@ -46,7 +46,7 @@ fn unknown_party(names: &NameTable, party: Party) -> Option<u32>
     }
 }
 
-/// The place of a process or signal in a path that the block lacks.
+/// The place of an undeclared process or signal in a path.
 fn unknown_in_path(block: &BlockTable, path: &Path) -> Option<u32>
     ensures { Marks result (path_unknown (block_of block.now) (path_of path.now)) }
 {
@@ -56,7 +56,7 @@ fn unknown_in_path(block: &BlockTable, path: &Path) -> Option<u32>
     earlier(parties, first_unknown(block.signals(), &path.signals))
 }
 
-/// The place of a process or signal in these paths that the block lacks.
+/// The place of an undeclared process or signal in paths.
 fn unknown_in_paths(block: &BlockTable, paths: &[Path]) -> Option<u32>
     ensures { Marks result (flat_map (path_unknown (block_of block.now)) (map path_of paths.now)) }
 {
@@ -67,7 +67,7 @@ fn unknown_in_paths(block: &BlockTable, paths: &[Path]) -> Option<u32>
     place
 }
 
-/// The place of a process or signal in the routes among these that the block lacks.
+/// The place of an undeclared process or signal in the routes among these entities.
 fn unknown_in_routes(block: &BlockTable, entities: &[Entity]) -> Option<u32>
     ensures { Marks result (flat_map (route_unknown (block_of block.now)) (flat_map routes_in (map entity_of entities.now))) }
 {
@@ -83,7 +83,7 @@ fn unknown_in_routes(block: &BlockTable, entities: &[Entity]) -> Option<u32>
     place
 }
 
-/// The place of a variable in an expression that these lack.
+/// The place of an undeclared variable in an expression.
 pub fn unknown_in_expression(names: &NameTable, expression: &Expression) -> Option<u32>
     ensures { Marks result (unknown names.now (tree_names (tree_of expression.now))) }
 {
@@ -99,7 +99,7 @@ pub fn unknown_in_expression(names: &NameTable, expression: &Expression) -> Opti
     }
 }
 
-/// The place of a variable in an assignment that these lack.
+/// The place of an undeclared variable in an assignment.
 fn unknown_in_assignment(names: &NameTable, assignment: &Assignment) -> Option<u32>
     ensures { Marks result (unknown names.now (assignment_names (assignment_of assignment.now))) }
 {
@@ -107,7 +107,7 @@ fn unknown_in_assignment(names: &NameTable, assignment: &Assignment) -> Option<u
     earlier(variable, unknown_in_expression(names, &assignment.value))
 }
 
-/// The place of a variable in assignments that these lack.
+/// The place of an undeclared variable in assignments.
 fn unknown_in_assignments(names: &NameTable, assignments: &[Assignment]) -> Option<u32>
     ensures { Marks result (unknown names.now (flat_map assignment_names (map assignment_of assignments.now))) }
 {
@@ -118,7 +118,7 @@ fn unknown_in_assignments(names: &NameTable, assignments: &[Assignment]) -> Opti
     place
 }
 
-/// The place of a variable in expressions that these lack.
+/// The place of an undeclared variable in expressions.
 fn unknown_in_expressions(names: &NameTable, expressions: &[Expression]) -> Option<u32>
     ensures { Marks result (unknown names.now (flat_map tree_names (map tree_of expressions.now))) }
 {
@@ -129,7 +129,7 @@ fn unknown_in_expressions(names: &NameTable, expressions: &[Expression]) -> Opti
     place
 }
 
-/// The place of a signal that the block lacks, or of a variable that the process lacks, in a sending.
+/// The place of an undeclared signal or variable in a sending.
 fn unknown_in_sending(block: &BlockTable, process: &ProcessTable, sending: &Sending) -> Option<u32>
     ensures { Marks result (sending_unknown (block_of block.now) (process_of process.now) (sending_of sending.now)) }
 {
@@ -140,7 +140,7 @@ fn unknown_in_sending(block: &BlockTable, process: &ProcessTable, sending: &Send
     )
 }
 
-/// The place of a signal that the block lacks, or of a variable that the process lacks, in sendings.
+/// The place of an undeclared signal or variable in sendings.
 fn unknown_in_sendings(
     block: &BlockTable,
     process: &ProcessTable,
@@ -155,7 +155,7 @@ fn unknown_in_sendings(
     place
 }
 
-/// The place of a process behind TO that these lack.
+/// The place of an undeclared process after TO.
 fn unknown_destination(processes: &NameTable, to: Option<Destination>) -> Option<u32>
     ensures { Marks result (unknown processes.now (destination_names to)) }
 {
@@ -166,7 +166,7 @@ fn unknown_destination(processes: &NameTable, to: Option<Destination>) -> Option
     }
 }
 
-/// The place of a name in an OUTPUT that its class and scope lack.
+/// The place of an undeclared name in an OUTPUT.
 fn unknown_in_output(block: &BlockTable, process: &ProcessTable, sent: &Output) -> Option<u32>
     ensures { Marks result (action_unknown (block_of block.now) (process_of process.now) (output sent.now.at (map sending_of sent.now.sendings.items) sent.now.to)) }
 {
@@ -174,7 +174,7 @@ fn unknown_in_output(block: &BlockTable, process: &ProcessTable, sent: &Output) 
     earlier(sendings, unknown_destination(block.processes(), sent.to))
 }
 
-/// The place of a variable or timer in a SET that the process lacks.
+/// The place of an undeclared variable or timer in a SET.
 fn unknown_in_set(process: &ProcessTable, set: &SetTimer) -> Option<u32>
     ensures { Marks result (unknown (variable_names (process_of process.now)) (tree_names (tree_of set.now.delay))
         ++ unknown (timers_of (process_of process.now)) (set.now.timer ∷ [])) }
@@ -183,7 +183,7 @@ fn unknown_in_set(process: &ProcessTable, set: &SetTimer) -> Option<u32>
     earlier(delay, missing(process.timers(), set.timer))
 }
 
-/// The place of a name in an action that its class and scope lack. (S2; Z.100: visibility.)
+/// The place of an undeclared name in an action. (S2; Z.100: visibility.)
 pub fn unknown_in_action(block: &BlockTable, process: &ProcessTable, action: &Action) -> Option<u32>
     ensures { Marks result (action_unknown (block_of block.now) (process_of process.now) (action_of action.now)) }
 {
@@ -195,7 +195,7 @@ pub fn unknown_in_action(block: &BlockTable, process: &ProcessTable, action: &Ac
     }
 }
 
-/// The place of a connector that the process lacks, in a JOIN. (S2; Z.100: join.)
+/// The place of an undeclared connector in a JOIN. (S2; Z.100: join.)
 pub fn unknown_connector(process: &ProcessTable, end: End) -> Option<u32>
     ensures { Marks result (unknown (connector_names (process_of process.now)) (end_connectors end)) }
 {
@@ -252,7 +252,7 @@ fn unknown_in_saves(
     place
 }
 
-/// The place of a name in the SAVEs of STATE parts that its class and scope lack.
+/// The place of an undeclared name in the SAVEs of STATE parts.
 pub fn unknown_in_parts(
     block: &BlockTable,
     process: &ProcessTable,
@@ -267,7 +267,7 @@ pub fn unknown_in_parts(
     place
 }
 
-/// The place of a variable that these lack, where an INPUT's place names one.
+/// The place of an undeclared variable in a place of an INPUT.
 fn unknown_place(names: &NameTable, place: Option<Identifier>) -> Option<u32>
     ensures { Marks result (unknown names.now (option_to_list place)) }
 {
@@ -277,7 +277,7 @@ fn unknown_place(names: &NameTable, place: Option<Identifier>) -> Option<u32>
     }
 }
 
-/// The place of a variable in an INPUT's places that these lack.
+/// The place of an undeclared variable in the places of an INPUT.
 fn unknown_in_places(names: &NameTable, places: &[Option<Identifier>]) -> Option<u32>
     ensures { Marks result (unknown names.now (place_names places.now)) }
 {
@@ -288,7 +288,7 @@ fn unknown_in_places(names: &NameTable, places: &[Option<Identifier>]) -> Option
     found
 }
 
-/// The place of a name that its class and scope lack, in one signal of an INPUT with its places.
+/// The place of an undeclared name in one signal of an INPUT and its places.
 fn unknown_in_stimulus(
     block: &BlockTable,
     process: &ProcessTable,
@@ -303,7 +303,7 @@ fn unknown_in_stimulus(
     )
 }
 
-/// The place of a name that its class and scope lack, in the signals of an INPUT with their places.
+/// The place of an undeclared name in the signals of an INPUT and their places.
 fn unknown_in_stimuli(
     block: &BlockTable,
     process: &ProcessTable,
@@ -318,7 +318,7 @@ fn unknown_in_stimuli(
     place
 }
 
-/// The place of a name in INPUTs that its class and scope lack, but for those in what they do.
+/// The place of an undeclared name in the heads of INPUTs. Their transitions aren't checked here.
 pub fn unknown_in_inputs(
     block: &BlockTable,
     process: &ProcessTable,
@@ -333,7 +333,7 @@ pub fn unknown_in_inputs(
     place
 }
 
-/// The place of a name in the routes that its class and scope lack.
+/// The place of an undeclared name in the routes.
 pub fn unknown_in_block(block: &BlockTable) -> Option<u32>
     ensures { Marks result (flat_map (route_unknown (block_of block.now)) (routes_of (block_of block.now))) }
 {

@@ -1,4 +1,4 @@
-//! Who gets a signal by the routes.
+//! The receivers of a signal by the routes.
 ghost use Rattle.sdl_ast.specs.Views.{block_of};
 ghost use Rattle.sdl_sound.specs.Receivers.{receivers};
 ghost use Rattle.sdl_scopes.specs.Founds.{Counts};
@@ -7,18 +7,18 @@ use sdl_ast::Party;
 use sdl_lex::Name;
 use sdl_tables::BlockTable;
 
-/// Who gets a signal by the routes.
+/// The receivers of a signal by the routes.
 #[derive(Clone, Copy, Debug, PartialEq, Eq)]
 pub enum Recipients {
-    /// No path brings it to anybody.
+    /// No path carries it.
     Nobody,
-    /// One party, however many paths bring it there.
+    /// One party, however many paths carry it there.
     One(Party),
-    /// Two parties or more.
+    /// Two or more parties.
     Several,
 }
 
-/// Who gets a signal that a party sends to nobody in particular.
+/// The receivers of a signal that a party sends without a destination.
 pub fn find_receivers(block: &BlockTable, from: &Party, signal: Name) -> Recipients
     ensures { Counts result (receivers (block_of block.now) from.now signal) }
 {

@@ -1,28 +1,28 @@
-//! Who sent what a transition begins with.
+//! The sender of the input that begins a transition.
 ghost use Rattle.std.specs.Prelude.{◌≡◌, ◌∷◌, [], IfOk};
 ghost use Rattle.sdl_scopes.specs.declared.sender.Sender.TheVariants as sent_by;
 
 use sdl_ast::Party;
 use std::alloc::{AllocError, Global};
 
-/// A party with its number; two with one number are the same party.
+/// A party with its number. Two parties with the same number are the same.
 #[derive(Clone, Copy)]
 pub struct Numbered {
     pub party: Party,
-    /// That of its process, or one past all of these for the environment; none where there is no such process.
+    /// The number of its process, or the number of processes for the environment; `None` if there is no such process.
     pub number: Option<usize>,
 }
 
-/// Who sent what a transition begins with.
+/// The sender of the input that begins a transition.
 #[derive(Clone, Copy)]
 pub enum Sender {
-    /// Nobody: it is START or a timer.
+    /// No sender: the transition begins with START or a timer.
     Nobody,
-    /// A party, by a route.
+    /// A party that sends by a route.
     Party(Numbered),
 }
 
-/// Nobody, as the one sender.
+/// A list with `Nobody` as the only sender.
 pub fn nobody(alloc: Global) -> Result<Vec<Sender>, AllocError>
     ensures { IfOk result (λ v. v.items ≡ sent_by.Nobody ∷ []) }
 {

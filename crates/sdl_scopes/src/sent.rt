@@ -1,11 +1,11 @@
-//! Senders of what transitions begin with, and to which connections those come.
+//! Senders of the inputs that begin transitions, and the connections that those transitions reach.
 ghost use Rattle.std.specs.Prelude.{◌≡◌, map, IfOk};
 ghost use Rattle.sdl_scopes.specs.Reaches.{is_marked, sent_of, senders_in};
 
 use crate::sender::Sender;
 use std::alloc::{AllocError, Global};
 
-/// Whether a number is there and has a mark.
+/// Whether there is a mark at this index, and it is set.
 pub fn is_marked(marks: &[bool], number: usize) -> bool
     ensures { result ≡ is_marked marks.now number }
 {
@@ -15,14 +15,14 @@ pub fn is_marked(marks: &[bool], number: usize) -> bool
     }
 }
 
-/// Somebody who may have sent what some transitions begin with, and a mark for each connection to which those come.
+/// A possible sender of inputs, and a mark for each connection that the transitions of those inputs reach.
 #[derive(Drop)]
 pub struct Sent {
     pub sender: Sender,
     pub reached: Vec<bool>,
 }
 
-/// Who may have sent what the transitions begin with that come to a connection.
+/// The possible senders of the inputs whose transitions reach a connection.
 pub fn senders_at(alloc: Global, sent: &[Sent], number: usize) -> Result<Vec<Sender>, AllocError>
     ensures { IfOk result (λ v. v.items ≡ senders_in (map sent_of sent.now) number) }
 {

@@ -1,4 +1,4 @@
--- What the rule on answers asks of the answers of a DECISION, over the list in which the code keeps them.
+-- The rule on answers, for the list in which the code keeps the answers of a DECISION.
 use Rattle.std.proofs.Common.{◌≡◌, ◌+◌, Bool, true, ◌&&◌, List, [], ◌∷◌, length, Option, None, Some, refl, sym, ap, ◌∙◌}
 use Rattle.std.specs.Prelude.{nat_lt, sum_by, is_some}
 use Rattle.std.specs.List.{list_all}

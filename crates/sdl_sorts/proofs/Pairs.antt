@@ -1,4 +1,4 @@
--- The sort of the variable with a name, and pairs of what stands at one place of two lists.
+-- The sort of the variable with a name, and pairs of elements with the same index in two lists.
 use Rattle.std.proofs.Common.{◌≡◌, ℕ, zero, suc, ◌+◌, ◌<◌, ◌≤◌, nat_lt, List, [], ◌∷◌, ◌++◌, map, length, take, zip, Option, None, Some, slice_get, find, get_or, refl, sym, ap, ◌∙◌, arith}
 use Rattle.std.specs.List.{flat_map, position_or_len}
 use Rattle.std.specs.Option.{option_map, option_map_or, option_and_then}
@@ -12,7 +12,7 @@ use Rattle.sdl_tables.specs.declared.process_table.Variable as row
 use Rattle.sdl_sound.specs.Sorts.{variable_sort}
 use Rattle.plain_laws.proofs.Searches.{find-at, position-map}
 
--- the variable with a name is the one with its number
+-- The variable with a name is the one at the number of that name.
 by_number : (vs : List Variable) (x : List ℕ) (ids : List Identifier) → ids ≡ map (λ v. v.name) vs
     → find (λ (v : Variable). same_name x v.name.name) vs ≡ option_and_then (slice_get vs) (number_of ids x)
 by_number vs x ids e =
@@ -71,7 +71,7 @@ length-take [] i h = absurd (omega (arith, h))
 length-take (x ∷ xs) zero h = refl
 length-take (x ∷ xs) (suc i) h = ap suc (length-take xs i (omega (arith, h)))
 
--- one pair more
+-- One more pair.
 pub pairs_more : {A B : Type 0} (f : A × B → List ℕ) (xs : List A) (i : ℕ) (d : A) (ys : List B) → i < length xs
     → flat_map f (zip (take (i + 1) xs) ys) ≡ flat_map f (zip (take i xs) ys) ++ option_map_or (λ y. f (get_or xs i d, y)) (slice_get ys i) []
 pairs_more f xs i d ys lt =
@@ -82,7 +82,7 @@ pairs_more f xs i d ys lt =
     ∙ ap (λ r. flat_map f (zip (take i xs) ys) ++ r)
     (of_pair f x (slice_get ys (length (take i xs))) ∙ ap (λ n. option_map_or (λ y. f (x, y)) (slice_get ys n) []) (length-take xs i lt))))
 
--- ---- pairs along the second list
+-- ---- pairs by the index of the second list
 
 zip-none : {A B : Type 0} (xs : List A) (ys : List B) → ys ≡ [] → zip xs ys ≡ []
 zip-none [] ys h = refl
@@ -105,11 +105,11 @@ unfolding pair_with
 of_pair_with f None y = refl
 of_pair_with f (Some x) y = append-nil (f (x, y))
 
--- nothing stands beside nothing
+-- An empty second list yields no pairs.
 pub nothing_beside : {A B : Type 0} (f : A × B → List ℕ) (xs : List A) → flat_map f (zip xs []) ≡ []
 nothing_beside f xs = ap (flat_map f) (zip-none xs [] refl)
 
--- one more of the second list
+-- One more element in the second list.
 pub beside_more : {A B : Type 0} (f : A × B → List ℕ) (xs : List A) (ys : List B) (i : ℕ) (y : B) → length ys ≡ i
     → flat_map f (zip xs (ys ++ y ∷ [])) ≡ flat_map f (zip xs ys) ++ option_map_or (λ x. f (x, y)) (slice_get xs i) []
 beside_more f xs ys i y long =

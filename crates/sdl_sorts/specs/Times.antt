@@ -1,4 +1,4 @@
--- How often something is there, as far as the rule on answers asks.
+-- Counts as needed by the rule on answers: none, one, or more.
 use Rattle.std.specs.Prelude.{◌≡◌, ℕ, ◌<◌}
 use Rattle.sdl_sorts.specs.declared.decisions.Times.{Times}
 use Rattle.sdl_sorts.specs.declared.decisions.Times.TheVariants.{Never, Once, Often}

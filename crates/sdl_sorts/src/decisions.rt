@@ -1,5 +1,5 @@
-//! The rule on answers: the first DECISION of Integers without ELSE, of Booleans in which TRUE or FALSE isn't answered exactly once (ELSE
-//! answers what no answer names, and something has to be left for it), or with an answer for no value, which no text can have.
+//! The rule on answers (S8): finds DECISIONs of Integers without ELSE, those of Booleans in which TRUE or FALSE isn't
+//! answered exactly once or no value is left for ELSE, and those with an answer without values (impossible in a text).
 ghost use Rattle.std.specs.Prelude.{◌≡◌, ℕ, ◌+◌, not, length, nat_eq, nat_lt, sum_by};
 ghost use Rattle.std.specs.List.{list_all};
 ghost use Rattle.sdl_ast.specs.declared.tree.Decision.{out-Decision};
@@ -14,7 +14,7 @@ use crate::sorts::is_truth;
 use sdl_ast::{Answer, Decision, Literal, Range};
 use sdl_tables::ProcessTable;
 
-/// How often something is there.
+/// A count: none, one, or more.
 #[derive(Clone, Copy)]
 pub(crate) enum Times {
     Never,
@@ -22,7 +22,7 @@ pub(crate) enum Times {
     Often,
 }
 
-/// How often something is in two lists together.
+/// The sum of two counts.
 fn added(one: Times, other: Times) -> Times
     ensures { (m n : ℕ) → Counted one m → Counted other n → Counted result (m + n) }
 {
@@ -33,7 +33,7 @@ fn added(one: Times, other: Times) -> Times
     }
 }
 
-/// How often a literal is a truth value: once or never.
+/// How often a literal is this truth value: once or never.
 fn is_value(value: bool, literal: Literal) -> Times
     ensures { Counted result (is_value value literal) }
 {
@@ -49,7 +49,7 @@ fn is_value(value: bool, literal: Literal) -> Times
     }
 }
 
-/// How often a range names a truth value: once where it is that value alone, else never.
+/// How often a range names a truth value: once if it is that single value, else never.
 fn names_value(value: bool, range: &Range) -> Times
     ensures { Counted result (names_value value range.now) }
 {
@@ -89,7 +89,7 @@ fn times_named(value: bool, decision: &Decision) -> Times
     named_in_answers(value, &decision.answers)
 }
 
-/// Whether it is there exactly once.
+/// Whether the count is exactly one.
 fn is_once(times: Times) -> bool
     ensures { (n : ℕ) → Counted times n → result ≡ nat_eq n 1 }
 {
@@ -100,7 +100,7 @@ fn is_once(times: Times) -> bool
     }
 }
 
-/// Whether it is there more than once.
+/// Whether the count is more than one.
 fn is_often(times: Times) -> bool
     ensures { (n : ℕ) → Counted times n → not result ≡ nat_lt n 2 }
 {
@@ -118,7 +118,7 @@ fn has_else(decision: &Decision) -> bool
     decision.otherwise.is_some()
 }
 
-/// Whether TRUE and FALSE are answered once each, of a Boolean question; with ELSE at most one of them is named.
+/// Whether a Boolean question has TRUE and FALSE answered once each. With ELSE at most one of them may be named.
 fn answers_both(decision: &Decision) -> bool
     ensures { result ≡ answers_both (choice_of decision.now) }
 {
@@ -131,21 +131,21 @@ fn answers_both(decision: &Decision) -> bool
     }
 }
 
-/// Whether each answer is for some value.
+/// Whether each answer has values.
 fn have_values(answers: &[Answer]) -> bool
     ensures { result ≡ list_all (λ a. nat_lt 0 (length a.ranges.items)) answers.now }
 {
     answers.iter().all(|answer| !answer.ranges.is_empty())
 }
 
-/// Whether each answer of a DECISION is for some value.
+/// Whether each answer of a DECISION has values.
 fn has_values(decision: &Decision) -> bool
     ensures { result ≡ has_values (choice_of decision.now) }
 {
     have_values(&decision.answers)
 }
 
-/// Whether each answer is for some value, and each value is answered: TRUE and FALSE once, Integers with the help of an ELSE.
+/// Whether each answer has values, and each value is answered: TRUE and FALSE once, Integers with an ELSE.
 fn is_answered(process: &ProcessTable, decision: &Decision) -> bool
     ensures { result ≡ is_answered (variables_of (process_of process.now)) (tree_of (out-Decision decision.now).question) (choice_of decision.now) }
 {
@@ -158,8 +158,8 @@ fn is_answered(process: &ProcessTable, decision: &Decision) -> bool
     }
 }
 
-/// The place of a DECISION of Integers without ELSE, or of one of Booleans in which TRUE or FALSE isn't answered exactly once; also of one
-/// with an answer for no value. (S8; Z.100: decision.)
+/// The place of a DECISION of Integers without ELSE, of one of Booleans in which TRUE or FALSE isn't answered exactly
+/// once, or of one with an answer without values. (S8; Z.100: decision.)
 pub fn unanswered_decision(process: &ProcessTable, decision: &Decision) -> Option<u32>
     ensures { Marks result (statement_unanswered (variables_of (process_of process.now)) (question_of decision.now)) }
 {

@@ -1,4 +1,4 @@
-//! The rule on divisions: the first divisor that is no literal of 1 or more.
+//! The rule on divisions (S9): finds the first divisor that isn't a literal of 1 or more.
 ghost use Rattle.std.specs.Prelude.{◌≡◌, map};
 ghost use Rattle.std.specs.List.{flat_map};
 ghost use Rattle.sdl_ast.specs.Places.{place_of};
@@ -45,7 +45,7 @@ fn is_divisor(expression: &Expression) -> bool
     }
 }
 
-/// The place of what stands right of an operator, where that divides and it is no literal of 1 or more.
+/// The place of the right operand, if the operator divides and the operand isn't a literal of 1 or more.
 fn bad_divisor(operator: BinaryOperator, right: &Expression) -> Option<u32>
     ensures { Marks result (bad_divisor operator (tree_of right.now)) }
 {
@@ -56,7 +56,7 @@ fn bad_divisor(operator: BinaryOperator, right: &Expression) -> Option<u32>
     }
 }
 
-/// The place of a divisor in an expression that is no literal of 1 or more. (S9, of this profile: no division fails.)
+/// The place of a divisor in an expression that isn't a literal of 1 or more. (S9, of this profile: no division fails.)
 pub fn bad_in(expression: &Expression) -> Option<u32>
     ensures { Marks result (bad_divisors_in (tree_of expression.now)) }
 {
@@ -78,7 +78,7 @@ pub fn bad_in(expression: &Expression) -> Option<u32>
     }
 }
 
-/// The place of a divisor in assignments that is no literal of 1 or more.
+/// The place of a divisor in assignments that isn't a literal of 1 or more.
 fn bad_in_assignments(assignments: &[Assignment]) -> Option<u32>
     ensures { Marks result (flat_map assignment_divisors (map assignment_of assignments.now)) }
 {
@@ -89,7 +89,7 @@ fn bad_in_assignments(assignments: &[Assignment]) -> Option<u32>
     place
 }
 
-/// The place of a divisor in parameters that is no literal of 1 or more.
+/// The place of a divisor in parameters that isn't a literal of 1 or more.
 fn bad_in_parameters(parameters: &[Expression]) -> Option<u32>
     ensures { Marks result (flat_map bad_divisors_in (map tree_of parameters.now)) }
 {
@@ -100,7 +100,7 @@ fn bad_in_parameters(parameters: &[Expression]) -> Option<u32>
     place
 }
 
-/// The place of a divisor in sendings that is no literal of 1 or more.
+/// The place of a divisor in sendings that isn't a literal of 1 or more.
 fn bad_in_sendings(sendings: &[Sending]) -> Option<u32>
     ensures { Marks result (flat_map sending_divisors (map sending_of sendings.now)) }
 {
@@ -111,7 +111,7 @@ fn bad_in_sendings(sendings: &[Sending]) -> Option<u32>
     place
 }
 
-/// The place of a divisor in an action that is no literal of 1 or more. (S9)
+/// The place of a divisor in an action that isn't a literal of 1 or more. (S9)
 pub fn bad_in_action(action: &Action) -> Option<u32>
     ensures { Marks result (action_divisors (action_of action.now)) }
 {

@@ -1,4 +1,4 @@
-//! What each expression and each DECISION is asked for by itself: sorts (S3), the values that answers are for (S8), divisors (S9).
+//! Checks of single expressions and DECISIONs: sorts (S3), the values that answers match (S8), and divisors (S9).
 #![tactic(auto)]
 
 mod decisions;

@@ -1,4 +1,4 @@
-//! The rule on sorts, in expressions and actions: the first place at which something has another sort than it has to have.
+//! The rule on sorts (S3) in expressions and actions: finds the first place with a sort other than the required one.
 ghost use Rattle.std.specs.Prelude.{◌≡◌, map, slice_get, zip, []};
 ghost use Rattle.std.specs.List.{flat_map};
 ghost use Rattle.std.specs.Option.{option_map_or};
@@ -13,7 +13,7 @@ use sdl_ast::{Action, Assignment, BinaryOperator, Expression, Sending, Sort};
 use sdl_lex::Name;
 use sdl_tables::{BlockTable, ProcessTable, earlier};
 
-/// The place of an expression that has another sort.
+/// The place of an expression, if it doesn't have the expected sort.
 fn misfit(process: &ProcessTable, want: Option<Sort>, expression: &Expression) -> Option<u32>
     ensures { Marks result (misfit (variables_of (process_of process.now)) want (tree_of expression.now)) }
 {
@@ -24,7 +24,7 @@ fn misfit(process: &ProcessTable, want: Option<Sort>, expression: &Expression) -
     }
 }
 
-/// The place of an operand that has another sort than its operator wants.
+/// The place of an operand that doesn't have the sort that its operator requires.
 fn wrong_operands(
     process: &ProcessTable,
     operator: BinaryOperator,
@@ -71,7 +71,7 @@ pub fn wrong_in(process: &ProcessTable, expression: &Expression) -> Option<u32>
     }
 }
 
-/// The place of a wrong operand in an expression, or of the expression where it has another sort than this.
+/// The place of a wrong operand in an expression, or of the expression if it has another sort than this.
 fn wrong_for(process: &ProcessTable, want: Sort, expression: &Expression) -> Option<u32>
     ensures { Marks result (wrong_for (variables_of (process_of process.now)) want (tree_of expression.now)) }
 {
@@ -79,7 +79,7 @@ fn wrong_for(process: &ProcessTable, want: Sort, expression: &Expression) -> Opt
     earlier(inside, misfit(process, Some(want), expression))
 }
 
-/// The place of an assignment's variable, where its value has another sort.
+/// The place of an assignment's variable, if its value has another sort.
 fn wrong_variable(process: &ProcessTable, assignment: &Assignment) -> Option<u32>
     ensures { Marks result (wrong_variable (variables_of (process_of process.now)) (assignment_of assignment.now)) }
 {
@@ -110,7 +110,7 @@ fn wrong_in_assignments(process: &ProcessTable, assignments: &[Assignment]) -> O
     place
 }
 
-/// The sorts of the parameters of a signal; none of what is no signal.
+/// The sorts of the parameters of a signal. A name that isn't a signal has none.
 pub(crate) fn parameter_sorts<'a>(block: &BlockTable<'a>, name: Name) -> &'a [Sort]
     ensures { result.now ≡ parameter_sorts (block_of block.now) name }
 {
@@ -142,7 +142,7 @@ fn wrong_in_all(process: &ProcessTable, parameters: &[Expression]) -> Option<u32
     place
 }
 
-/// The place of the parameter with a number, where it has another sort than stands there.
+/// The place of the parameter with this number, if it doesn't have the declared sort.
 fn wrong_parameter(
     process: &ProcessTable,
     sorts: &[Sort],
@@ -158,7 +158,7 @@ fn wrong_parameter(
     }
 }
 
-/// It goes over the parameters that are there: a signal may have far more.
+/// The place of a parameter with a wrong sort. Loops over the parameters sent: a signal may have far more.
 fn wrong_parameters(
     process: &ProcessTable,
     sorts: &[Sort],

@@ -19,7 +19,7 @@ pub(crate) fn same_sort(one: Sort, other: Sort) -> bool
     }
 }
 
-/// Whether there is a sort, and it is the wanted one.
+/// Whether there is a sort, and it is the expected one.
 pub(crate) fn has_sort(want: Sort, found: Option<Sort>) -> bool
     ensures { result ≡ has_sort want found }
 {
@@ -39,7 +39,7 @@ pub(crate) fn have_one_sort(one: Option<Sort>, other: Option<Sort>) -> bool
     }
 }
 
-/// The sort of the variable with a name.
+/// The sort of the variable with a name, if it is declared.
 pub(crate) fn variable_sort(process: &ProcessTable, name: Name) -> Option<Sort>
     ensures { result ≡ variable_sort (variables_of (process_of process.now)) name }
 {
@@ -56,7 +56,7 @@ pub(crate) fn variable_sort(process: &ProcessTable, name: Name) -> Option<Sort>
     }
 }
 
-/// The sort of what an operator gives that has one operand; its operand has the same.
+/// The sort of the operand and of the result of a unary operator.
 pub(crate) fn unary_sort(operator: UnaryOperator) -> Sort
     ensures { result ≡ unary_sort operator }
 {
@@ -66,7 +66,7 @@ pub(crate) fn unary_sort(operator: UnaryOperator) -> Sort
     }
 }
 
-/// The sort of what an operator gives that has two operands.
+/// The sort of the result of a binary operator.
 fn binary_sort(operator: BinaryOperator) -> Sort
     ensures { result ≡ binary_sort operator }
 {
@@ -81,7 +81,7 @@ fn binary_sort(operator: BinaryOperator) -> Sort
     }
 }
 
-/// What both operands have to be, where the left one has this sort.
+/// The expected sort of both operands, given the sort of the left one.
 pub(crate) fn operand_sort(operator: BinaryOperator, left: Option<Sort>) -> Option<Sort>
     ensures { result ≡ operand_sort operator left }
 {
@@ -95,7 +95,7 @@ pub(crate) fn operand_sort(operator: BinaryOperator, left: Option<Sort>) -> Opti
     }
 }
 
-/// The sort of an expression, which its operator tells; of a variable what is declared, and none where it isn't.
+/// The sort of an expression, determined by its operator or the declaration of its variable; `None` if undeclared.
 pub fn sort_in(process: &ProcessTable, expression: &Expression) -> Option<Sort>
     ensures { result ≡ sort_in (variables_of (process_of process.now)) (tree_of expression.now) }
 {
@@ -108,7 +108,7 @@ pub fn sort_in(process: &ProcessTable, expression: &Expression) -> Option<Sort>
     }
 }
 
-/// Whether a question is a Boolean one.
+/// Whether a question is Boolean.
 pub fn is_truth(process: &ProcessTable, question: &Expression) -> bool
     ensures { result ≡ is_truth (variables_of (process_of process.now)) (tree_of question.now) }
 {

@@ -1,4 +1,4 @@
-//! The rule on sorts, in what is declared, taken and answered: initial values, places of INPUTs, values of answers.
+//! The rule on sorts (S3) in declarations, INPUTs and answers: initial values, places of INPUTs, values of answers.
 ghost use Rattle.std.specs.Prelude.{◌≡◌, map, slice_get, zip, []};
 ghost use Rattle.std.specs.List.{flat_map};
 ghost use Rattle.std.specs.Option.{option_map_or};
@@ -14,7 +14,7 @@ use crate::sorts::{has_sort, is_truth, same_sort, variable_sort};
 use sdl_ast::{Constant, Expression, Identifier, InputPart, Literal, Range, Sort, Stimulus};
 use sdl_tables::{BlockTable, ProcessTable, Variable, earlier};
 
-/// The place of a variable that has another sort than this, where an INPUT's place names one.
+/// The place of the variable in a place of an INPUT, if it doesn't have this sort.
 fn wrong_place(process: &ProcessTable, want: Sort, place: Option<Identifier>) -> Option<u32>
     ensures { Marks result (wrong_place (variables_of (process_of process.now)) (want, place)) }
 {
@@ -30,7 +30,7 @@ fn wrong_place(process: &ProcessTable, want: Sort, place: Option<Identifier>) ->
     }
 }
 
-/// The place with a number, where its variable has another sort than stands there.
+/// The place of the variable in the INPUT's place with this number, if it doesn't have the declared sort.
 fn wrong_place_at(
     process: &ProcessTable,
     sorts: &[Sort],
@@ -46,7 +46,7 @@ fn wrong_place_at(
     }
 }
 
-/// The place of a variable in an INPUT's places that has another sort than its parameter.
+/// The place of a variable in an INPUT's places that doesn't have the sort of its parameter.
 fn wrong_places(
     process: &ProcessTable,
     sorts: &[Sort],
@@ -61,7 +61,7 @@ fn wrong_places(
     found
 }
 
-/// The place of a signal that has fewer parameters than places stand behind it.
+/// The place of the signal's name, if it is followed by more places than the signal has parameters.
 fn too_many_places(sorts: &[Sort], stimulus: &Stimulus) -> Option<u32>
     ensures { Marks result (too_many_places sorts.now (stimulus_of stimulus.now)) }
 {
@@ -120,7 +120,7 @@ fn is_constant(want: Sort, constant: Constant) -> bool
     same_sort(want, literal_sort(constant.value))
 }
 
-/// Whether a range is TRUE or FALSE alone.
+/// Whether a range is a single TRUE or FALSE.
 fn answers_truth(range: &Range) -> bool
     ensures { result ≡ answers_truth range.now }
 {
@@ -131,7 +131,7 @@ fn answers_truth(range: &Range) -> bool
     }
 }
 
-/// Whether a range has Integers alone.
+/// Whether a range has only Integers.
 fn answers_number(range: &Range) -> bool
     ensures { result ≡ answers_number range.now }
 {
@@ -145,7 +145,7 @@ fn answers_number(range: &Range) -> bool
     }
 }
 
-/// The place of a range: that of its sign, or of its first constant.
+/// The place of a range: that of its relation, or of its first constant.
 fn range_place(range: &Range) -> u32
     ensures { result ≡ range_place range.now }
 {
@@ -183,7 +183,7 @@ pub fn wrong_in_ranges(
     place
 }
 
-/// The place of an initial value that has another sort than this.
+/// The place of an initial value that doesn't have this sort.
 fn wrong_constant(want: Sort, constant: Option<Constant>) -> Option<u32>
     ensures { Marks result (wrong_constant want constant) }
 {
@@ -199,7 +199,7 @@ fn wrong_constant(want: Sort, constant: Option<Constant>) -> Option<u32>
     }
 }
 
-/// The place of an initial value that has another sort than its variable.
+/// The place of an initial value that doesn't have the sort of its variable.
 fn wrong_initials(variables: &[Variable]) -> Option<u32>
     ensures { Marks result (flat_map wrong_initial (map variable_of variables.now)) }
 {
@@ -210,7 +210,7 @@ fn wrong_initials(variables: &[Variable]) -> Option<u32>
     place
 }
 
-/// The place of a wrong sort in what a process declares, or in its INPUTs' places.
+/// The place of a wrong sort in the declarations of a process, or in the places of its INPUTs.
 fn wrong_in_process(block: &BlockTable, process: &ProcessTable) -> Option<u32>
     ensures { Marks result (wrong_declarations (block_of block.now) (process_of process.now)) }
 {
@@ -218,7 +218,7 @@ fn wrong_in_process(block: &BlockTable, process: &ProcessTable) -> Option<u32>
     earlier(initials, wrong_in_inputs(block, process, process.parts()))
 }
 
-/// The place of a wrong sort in what processes declare, or in an INPUT's places. (S3; Z.100: variable definition, input.)
+/// The place of a wrong sort in declarations or in a place of an INPUT. (S3; Z.100: variable definition, input.)
 pub fn wrong_declaration(block: &BlockTable, processes: &[ProcessTable]) -> Option<u32>
     ensures { Marks result (flat_map (wrong_declarations (block_of block.now)) (map process_of processes.now)) }
 {
