@@ -1,4 +1,4 @@
--- Actions, ends and INPUT's places: each of their instructions is right.
+-- Actions, ends and the places of INPUT: each of their instructions is right.
 use Rattle.std.proofs.Common.{◌≡◌, ℕ, zero, suc, ◌+◌, ◌<◌, ◌≤◌, ◌≤ℤ◌, pos, true, false, List, [], ◌∷◌, ◌++◌, length, map, reverse, drop, Option, Some, None, IsSome, refl, sym, ap, ◌∙◌, subst, arith, nat_eq}
 use Rattle.std.specs.Prelude.{slice_get, zip}
 use Rattle.std.specs.List.{flat_map}
@@ -51,13 +51,13 @@ shape_is : (c : Scope) (ts : List Tree) (s : List Sort) → trees_shape c ts s �
 shape_is c [] s = refl
 shape_is c (t ∷ ts) s = shape_is c ts (sort_given c t ∷ s)
 
--- as many parameters as the signal has
+-- A sending has as many parameters as its signal.
 pub as_many : (sorts : List tree_sort.Sort) (x : PlainSending) → wrong_number sorts x ≡ [] → length sorts ≡ length x.parameters
 as_many sorts x e =
     let f = passed (nat_eq (length sorts) (length x.parameters)) x.signal.at e in
     grind (arith, nat_tests)
 
--- the head of what is left of a list
+-- The head of what is left of a list after j items.
 drop_head : (ps : List Sort) (j : ℕ) (x : Sort) (rest : List Sort) → drop j ps ≡ x ∷ rest → (slice_get ps j ≡ Some x) × (drop (suc j) ps ≡ rest)
 drop_head [] zero x rest e = absurd (let k : ⊥ = cc in k)
 drop_head [] (suc j) x rest e = absurd (let k : ⊥ = cc in k)
@@ -69,7 +69,7 @@ there_within [] j x e = absurd (let k : ⊥ = cc in k)
 there_within (p ∷ ps) zero x e = omega arith
 there_within (p ∷ ps) (suc j) x e = let h = there_within ps j x e in omega (arith, h)
 
--- What the names of a scope stand for in a draft's transition.
+-- The meanings of the names of a scope in a transition of a draft.
 pub record Stands (c : Scope) (d : Draft) (t : Transition) : Type 0 where
   pub sorted : (n : Identifier) (r : tree_sort.Sort) → IsSome (variable_at c n) → variable_sort (variables_of c.process) n.name ≡ Some r → sort_at t.process.variables (number_or_zero (variable_at c n)) ≡ sort_of_tree r ∷ []
   pub variables : (n : Identifier) → IsSome (variable_at c n) → number_or_zero (variable_at c n) < length t.process.variables
@@ -78,7 +78,7 @@ pub record Stands (c : Scope) (d : Draft) (t : Transition) : Type 0 where
   pub signals : (n : Identifier) → IsSome (signal_at c n) → number_or_zero (signal_at c n) < length d.signals
   pub parameters : (n : Identifier) → IsSome (signal_at c n) → parameters_of (slice_get d.signals (number_or_zero (signal_at c n))) ≡ map sort_of_tree (parameter_sorts c.block n.name)
 
--- who gets a signal that gets to one party: the receiver in its instruction
+-- A signal that reaches exactly one party has this party as the receiver in its instruction.
 abbrev pub Reaching : Scope → Draft → Transition → List Origin → Type 0
 Reaching c d t is =
     (to : Option Destination) (n : Identifier) → IsSome (signal_at c n) → arrives c.block c.process is to n.name ≡ true → is_doubtful c.block c.process to n.name ≡ false

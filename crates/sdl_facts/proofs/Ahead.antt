@@ -1,4 +1,4 @@
--- Where the code of a text goes on: ahead, or where a connection stands that it joins.
+-- Where the code of a text goes on: to a later place, or to a connection that it joins.
 use Rattle.std.proofs.Common.{◌≡◌, ℕ, zero, suc, ◌+◌, ◌<◌, ◌≤◌, Bool, true, false, cond, List, [], ◌∷◌, ◌++◌, length, Some, refl, sym, ap, ◌∙◌, subst, arith}
 use Rattle.std.specs.Prelude.{slice_get}
 use Rattle.std.specs.List.{list_any}
@@ -27,7 +27,7 @@ module _ (P : ℕ → ℕ → Type 0) (ahead : (k j : ℕ) → k < j → P k j) 
   AllOf k [] = Unit {0}
   AllOf k (j ∷ js) = P k j × AllOf k js
 
-  -- what holds of each place where the code goes on from each of these
+  -- P holds from each place of the code to each place where the code goes on.
   abbrev pub Goes : ℕ → List Instruction → Type 0
   Goes k [] = Unit {0}
   Goes k (x ∷ is) = AllOf k (successors x k) × Goes (k + 1) is
@@ -158,7 +158,7 @@ module _ (P : ℕ → ℕ → Type 0) (ahead : (k j : ℕ) → k < j → P k j) 
           let small = else_small others in
           body_goes body n after (answers_code c to k after others) (omega (arith, lt, small)) (text_goes body n le h.0) (answers_go others k after (omega (arith, lt)) (omega (arith, le)) h.1)
 
--- what holds at each place where code goes on holds at one of them
+-- What holds at each place where code goes on holds at one of them.
 pub at_place : (P : ℕ → ℕ → Type 0) (ahead : (k j : ℕ) → k < j → P k j) (code : List Instruction) (o k : ℕ) (x : Instruction) → Goes P ahead o code → slice_get code k ≡ Some x → AllOf P ahead (o + k) (successors x (o + k))
 at_place P ahead [] o k x h e = absurd (let k : ⊥ = cc in k)
 at_place P ahead (y ∷ code) o zero x h e =

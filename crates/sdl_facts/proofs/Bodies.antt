@@ -18,7 +18,7 @@ use Rattle.sdl_facts.specs.Reads.{action_set, meet, left, answers_left, choice_l
 use Rattle.sdl_facts.specs.Entries.{met, answers_met}
 use Rattle.sdl_facts.specs.Facts.{action_sets, leave_sets, text_sets, answers_sets, decision_sets}
 
--- ---- behind the last item of a list
+-- ---- after the last item of a list
 
 pub statements_past : {A : Type 0} (f : Text → A) (all : A) (ss : List Statement) (i : ℕ) (last : Text) → length ss ≤ i → f (statements_before (drop i ss) last) ≡ all → f last ≡ all
 statements_past f all ss i last past h = ap (λ l. f (statements_before l last)) (sym (drop_all i ss past)) ∙ h
@@ -26,7 +26,7 @@ statements_past f all ss i last past h = ap (λ l. f (statements_before l last))
 pub answers_past : {A : Type 0} (f : Choice → A) (all : A) (xs : List Answer) (i : ℕ) (others : Choice) → length xs ≤ i → f (answers_before (drop i xs) others) ≡ all → f others ≡ all
 answers_past f all xs i others past h = ap (λ l. f (answers_before l others)) (sym (drop_all i xs past)) ∙ h
 
--- ---- a statement alone
+-- ---- one statement
 
 pub acted : (s : Statement) (a : Action) → s ≡ Act a → (rest : Text) → statement_of s rest ≡ does (action_of a) rest
 acted s a e rest = ap (λ s. statement_of s rest) e ∙ statement_of-act a rest
@@ -70,7 +70,7 @@ module _ (c : Scope) where
     pub rest_left : (all : VariableSet) → left c m t ≡ all → left c n rest ≡ all
     rest_left all e = ap (λ k. left c k rest) behind ∙ sym (before_left (plain_statement s) m rest) ∙ ap (left c m) (sym is) ∙ e
 
-  -- ---- an answer, and those behind it
+  -- ---- an answer, and the answers after it
 
   module _ (at : ℕ) (rs : List Range) (body : Text) (choice others : Choice) (is : choice ≡ answer at rs body others) (m : VariableSet) where
     pub others_sets : (old new all : List VariableSet) → new ≡ old ++ (text_sets c m body ++ leave_sets (left c m body) body) → old ++ answers_sets c m choice ≡ all → new ++ answers_sets c m others ≡ all
@@ -102,7 +102,7 @@ module _ (c : Scope) where
   none_left None m all = refl
   none_left (Some body) m all = refl
 
-  -- ---- a body, and its jump where it goes on
+  -- ---- a body, and its jump if it goes on
 
   module _ (m n : VariableSet) (t : Text) (old one two : List VariableSet) (b : Bool) (first : one ≡ old ++ text_sets c m t) (goes : b ≡ goes_on t) where
     pub body_goes : n ≡ left c m t → b ≡ true → two ≡ one ++ n ∷ [] → two ≡ old ++ (text_sets c m t ++ leave_sets (left c m t) t)

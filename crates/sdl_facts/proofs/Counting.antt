@@ -1,4 +1,4 @@
--- What is counted at the places of a text is the greatest on a walk through it.
+-- The counts at the places of a text are the greatest on a walk through it.
 use Rattle.std.proofs.Common.{◌≡◌, ℕ, ◌+◌, ◌≤◌, max, Bool, true, false, cond, ◌||◌, ◌&&◌, List, [], ◌∷◌, ◌++◌, length, Option, refl, ap, ◌∙◌, arith}
 use Rattle.std.specs.Prelude.{nat_eq, nat_lt, not}
 use Rattle.std.specs.List.{sum_by, list_any}
@@ -32,7 +32,7 @@ use Rattle.sdl_meaning.proofs.Choices.{AreTruths, are_truths}
 use Rattle.sdl_meaning.proofs.Measured.{some_values}
 use Rattle.plain_laws.proofs.Truths.{and_second, and_first}
 
--- ---- what goes straight on
+-- ---- code that goes straight on
 
 step : (x : Instruction) → jumps x ≡ [] → ((k : ℕ) → behind x k ≡ (k + 1) ∷ []) → IsStep x
 step x e f = record { jumping = e; going = f }
@@ -133,7 +133,7 @@ range_name (IsValue k) b e = value_name k.value b e
 range_name (Compared at r k) b e = absurd (let k : ⊥ = cc in k)
 range_name (Between low high) b e = absurd (let k : ⊥ = cc in k)
 
--- what a range names is named
+-- A truth value that one of the ranges names is named at least once.
 named_some : (rs : List Range) (b : Bool) → list_any (names_truth b) rs ≡ true → 1 ≤ named b rs
 named_some [] b e = absurd (let k : ⊥ = cc in k)
 named_some (r ∷ rs) b e = by_test (names_truth b r) refl e (named_some rs b)
@@ -142,7 +142,7 @@ named_some (r ∷ rs) b e = by_test (names_truth b r) refl e (named_some rs b)
     by_test true f e h = let g = range_name r b f in omega (arith, g, sum_by-cons (names_value b) r rs)
     by_test false f e h = let g = h e in omega (arith, g, sum_by-cons (names_value b) r rs)
 
--- a range of a truth value names one
+-- A range of a Boolean question names one truth value.
 one_value : (l : Literal) → same_sort tree_sorts.Boolean (literal_sort l) ≡ true → is_value true l + is_value false l ≡ 1
 one_value (literals.Integer k) e = absurd (let k : ⊥ = cc in k)
 one_value (literals.Boolean true) e = refl
@@ -172,12 +172,12 @@ one_each m n e = (first_one, second_one)
     second_one : n ≡ 1
     second_one = let f = and_second (nat_eq m 1) (nat_eq n 1) e in grind (arith, nat_tests)
 
--- how often a value is named that is answered once, by ELSE if it is there
+-- How often the ranges name a value that has one answer: never if ELSE answers it, else once.
 abbrev times_left : Bool → ℕ
 times_left true = 0
 times_left false = 1
 
--- what is known of how often values are named where each is answered once
+-- How often the ranges name the two values if each has one answer.
 record IsOnce (h : Bool) (t f : ℕ) : Type 0 where
   with_else : h ≡ true → t + f ≤ 1
   without : h ≡ false → (t ≡ 1) × (f ≡ 1)
@@ -187,7 +187,7 @@ once true t f e = record { with_else = λ _. at_most t f e; without = λ k. absu
 once false t f e = record { with_else = λ k. absurd (let k : ⊥ = cc in k); without = λ _. one_each t f e }
 
 module _ (c : Scope) (v : ℕ → ℕ) where
-  -- the greatest of what the bodies count that stand from a place on
+  -- Adds the sets of the places of INPUT: a named place loads a parameter and stores it. Returns the set after them.
   abbrev pub bodies_most : ℕ → Choice → ℕ
   bodies_most n nothing_else = 0
   bodies_most n (otherwise body) = v n
@@ -211,7 +211,7 @@ module _ (c : Scope) (v : ℕ → ℕ) where
       let k = some_values (length rs) (and_first (nat_lt 0 (length rs)) (has_values others) h) in
       absurd (omega (arith, l, k, e, f))
 
-  -- the value that is left has the body that is left
+  -- The remaining value has the remaining body.
   one_left : (choice : Choice) (n : ℕ) (b : Bool) → has_values choice ≡ true → Truths choice → times_named (not b) choice ≡ 0 → times_named b choice ≡ times_left (has_else choice) → v (picked c n choice b) ≡ bodies_most n choice
   one_left nothing_else n b h t e f = absurd (let k : 0 ≡ 1 = none b ∙ f in omega (arith, k))
     where
@@ -293,9 +293,9 @@ module _ (c : Scope) (v : ℕ → ℕ) where
           omega (arith, o)
       by_tests false false f g = absurd (let x = no_names rs true f in let y = no_names rs false g in omega (arith, x, y, l, k))
 
--- ---- what a text counts, where an instruction counts so much by its kind
+-- ---- the count of a text, if an instruction counts by its kind
 
--- those that jump or end count alike
+-- Instructions that jump or end count alike.
 pub record IsWeight (c : Scope) (w : Instruction → ℕ) (a : ℕ) : Type 0 where
   pub jumping : (n : ℕ) → w (jump n) ≡ a
   pub state : (n : ℕ) → w (next n) ≡ a
@@ -343,7 +343,7 @@ module _ (c : Scope) (w : Instruction → ℕ) (a : ℕ) (join : List ℕ → �
   same_tests rs x y u z e f = ap (λ n. tests_tally rs n u) e ∙ ap (tests_tally rs y) f
 
   mutual
-    -- what doesn't go on counts nothing of what follows
+    -- A text that doesn't go on doesn't count what follows it.
     pub tally_over : (t : Text) (j k : ℕ) → may_go_on t ≡ false → tally t j ≡ tally t k
     tally_over falls j k e = absurd (let k : ⊥ = cc in k)
     tally_over (ends t) j k e = refl

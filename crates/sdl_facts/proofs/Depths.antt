@@ -57,7 +57,7 @@ module _ (ss : List DraftSignal) (xs : List DraftVariable) (ps : List Sort) wher
   deep_joined s [] b = let h = least s b in omega (arith, h)
   deep_joined s (x ∷ a) b = let h = deep_joined (after ss xs ps x s) a b in omega (arith, h)
 
-  -- instructions one behind another, from one shape to another
+  -- Instructions one after another, which lead from one shape to another.
   pub record Deep (s : List Sort) (code : List Instruction) (s2 : List Sort) (d : ℕ) : Type 0 where
     pub leaves : left_shape ss xs ps s code ≡ s2
     pub deep : deepest ss xs ps s code ≡ d
@@ -68,7 +68,7 @@ module _ (ss : List DraftSignal) (xs : List DraftVariable) (ps : List Sort) wher
     deep = let x = deep_joined s a b in let y = ap (λ s. deepest ss xs ps s b) h.leaves in omega (arith, x, y, h.deep, k.deep, g);
   }
 
-  -- the greatest of the shapes
+  -- The greatest of the shapes.
   shapes_deep : (s : List Sort) (code : List Instruction) → left_shape ss xs ps s code ≡ [] → greatest (map (λ (x : List Sort). length x) (shapes_from ss xs ps s code)) ≡ deepest ss xs ps s code
   shapes_deep s [] e = let l = ap length e in omega (arith, l)
   shapes_deep s (x ∷ is) e = let h = shapes_deep (after ss xs ps x s) is e in omega (arith, h)
@@ -163,7 +163,7 @@ module _ (ss : List DraftSignal) (xs : List DraftVariable) (ps : List Sort) wher
       answers_deep (answer at rs body others) n after_it q named right =
           body_then body n after_it (answers_own others) (answers_code c to (n + body_size c body) after_it others) (text_deep body n named.1 right.0) (answers_deep others (n + body_size c body) after_it q named.2 right.1)
 
-    -- connections one behind another
+    -- Connections one after another.
     abbrev pub most_own : List ℕ → ℕ
     most_own [] = 0
     most_own (n ∷ ns) = max (own (text_at c n)) (most_own ns)
@@ -175,7 +175,7 @@ module _ (ss : List DraftSignal) (xs : List DraftVariable) (ps : List Sort) wher
         deep_append [] [] [] (text_code c to p (text_at c n)) (connections_code c to (p + size_at c n) ns) (own (text_at c n)) (most_own ns) (max (own (text_at c n)) (most_own ns)) (text_deep (text_at c n) p here.0 here.1)
         (connections_deep ns (p + size_at c n) (λ m k. h m (suc k.0, omega (arith, k.1), k.2))) refl
 
--- ---- with what it joins
+-- ---- with the connections that it joins
 
 own_end : (join : List ℕ → ℕ) (e : End) → end_count none_joined e ≤ end_count join e
 own_end join (NextState n) = omega arith
@@ -200,7 +200,7 @@ end_above c join b (Stop at) h = omega arith
 end_above c join b (Join j) h = omega (arith, h)
 
 mutual
-  -- no more than its own and the greatest that it joins
+  -- The depth is at most that of the text itself, or the greatest of those that it joins.
   depth_above : (c : Scope) (join : List ℕ → ℕ) (b : ℕ) (t : Text) → EachJoin (Below c join b) t → depth join t ≤ max (own t) b
   depth_above c join b falls h = omega arith
   depth_above c join b (ends e) h = end_above c join b e h
@@ -237,7 +237,7 @@ module _ (c : Scope) (q : Piece) (ns : List ℕ) (placed : ArePlaced c q.text ns
   all_low [] b h = omega arith
   all_low (m ∷ ms) b h = let k = h m (contains_first m ms) in let l = all_low ms b (λ n k. h n (suc k.0, omega (arith, k.1), k.2)) in omega (arith, k, l)
 
-  -- what is placed has a connection, no deeper than the whole
+  -- Each placed number has a connection, which is no deeper than the whole.
   low_text : (t : Text) (b : ℕ) → NamedText c t → depth joined_depth t ≤ b → (j : tree_join.Join) → Contains (code_joins c t) j → HasDepth c b (number_or_zero (connector_at c j.connector))
   low_text t b named_t le j at =
       let some = each_of c (λ (j : tree_join.Join). IsSome (connector_at c j.connector)) t j (each_named c t named_t) at in
@@ -251,7 +251,7 @@ module _ (c : Scope) (q : Piece) (ns : List ℕ) (placed : ArePlaced c q.text ns
       (λ j at. low_text q.text (depth joined_depth q.text) named.text.text (omega arith) j at)
       (λ m w j at. low_text w.connection.text (depth joined_depth q.text) (named.connections.texts m w.connection w.there).text w.low j (subst (λ t. Contains (code_joins c t) j) (text_there c m w.connection w.there) at)) n h
 
-  -- and a connection is no deeper than the greatest of those that are placed
+  -- A connection is no deeper than the greatest of those that are placed.
   up_to : (fuel n : ℕ) (k : PlainConnection) → slice_get c.process.connections n ≡ Some k → Contains ns n → named.connections.steps n < fuel → depth joined_depth k.text ≤ most ns
   up_to zero n k at there lt = absurd (omega (arith, lt))
   up_to (suc fuel) n k at there lt =
@@ -362,7 +362,7 @@ module _ (c : Scope) where
     depths_are [] = refl
     depths_are (f ∷ fs) = ap (max (length f.shape)) (depths_are fs)
 
-    -- the same of the facts of its places
+    -- As above, for the facts of the places.
     pub facts_deep : (q : Piece) (ns : List ℕ) → ArePlaced c q.text ns → NamedPiece c q → AreSorted c q.text → length q.places ≤ length ps → (code : List Instruction) (fs : List PlaceFacts) → code ≡ piece_code c q ns
         → map (λ (f : PlaceFacts). f.shape) fs ≡ shapes_from (drafted_signals c.block) (drafted_variables c.process) ps [] code → greatest (depths fs) ≡ piece_depth c.process q
     facts_deep q ns placed named fits le code fs is shaped =

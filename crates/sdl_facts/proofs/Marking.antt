@@ -1,4 +1,4 @@
--- The sets of a DECISION are put together of those of its answers and of ELSE.
+-- The sets of a DECISION are made of those of its answers and of ELSE.
 use Rattle.std.proofs.Common.{◌≡◌, ℕ, zero, suc, ◌+◌, ◌<◌, ◌≤◌, true, false, cond, List, [], ◌∷◌, ◌++◌, length, drop, get_or, map, Option, Some, None, refl, sym, ap, ◌∙◌, subst, arith, append_assoc, append-nil}
 use Rattle.std.specs.Prelude.{slice_get, option_map}
 use Rattle.std.specs.Option.{option_map_or}
@@ -24,7 +24,7 @@ use Rattle.sdl_facts.specs.Reads.{tasks_set, places_set, everything, meet, answe
 use Rattle.sdl_facts.specs.Entries.{entry_at, met, connection_met, connections_met, answers_met, else_met, choice_met}
 use Rattle.sdl_facts.specs.Facts.{tasks_sets, places_sets, connections_sets, piece_sets, ranges_sets, text_sets, tree_sets, tests_sets, else_sets, answers_sets, decision_sets}
 
--- ---- one item more
+-- ---- one more item
 
 pub ranges_more : (m : VariableSet) (rs : List Range) (i : ℕ) → i < length rs → ranges_sets m (drop i rs) ≡ m ∷ ranges_sets m (drop (i + 1) rs)
 ranges_more m [] i lt = absurd (omega (arith, lt))
@@ -41,7 +41,7 @@ tests_loop m xs i x others old new all lt is e f =
     let rest = answers_before (drop (i + 1) xs) others in
     ap (λ l. l ++ tests_sets m rest) f ∙ append_assoc old (ranges_sets m x.ranges.items) (tests_sets m rest) ∙ ap (λ k. old ++ tests_sets m k) (sym (one_answer xs i x others lt is)) ∙ e
 
--- an assignment: `set` is the set behind it
+-- An assignment; `set` is the set after it.
 module _ (c : Scope) (m set : VariableSet) (xs : List Assignment) (i : ℕ) (x : Assignment) (lt : i < length xs) (is : x ≡ get_or xs i x)
     (with_it : set ≡ with_variable m (number_or_zero (variable_at c x.variable))) where
   one_task : map assignment_of (drop i xs) ≡ assignment_of x ∷ map assignment_of (drop (i + 1) xs)

@@ -1,9 +1,9 @@
--- The depth of a text without what it joins, and what is asked of all its actions.
+-- The depth of a text without the connections that it joins, and a property of all its actions.
 use Rattle.std.proofs.Common.{◌≡◌, ℕ, max, List, refl, arith}
 use Rattle.sdl_ast.specs.Plain.{PlainAction, Text, falls, ends, does, decides, Choice, nothing_else, otherwise, answer}
 use Rattle.sdl_sound.specs.Longest.{depth, choice_depth}
 
--- ---- the depth of a text alone, without what it joins
+-- ---- the depth of a text without the connections that it joins
 
 abbrev pub none_joined : List ℕ → ℕ
 none_joined x = 0
@@ -29,7 +29,7 @@ both_own nothing_else = refl
 both_own (otherwise body) = omega arith
 both_own (answer at rs body others) = let h = both_own others in omega (arith, h)
 
--- what is asked of the actions of a text
+-- Each action of a text is right.
 module _ (Right : PlainAction → Type 0) where
   abbrev mutual
     pub AllRight : Text → Type 0

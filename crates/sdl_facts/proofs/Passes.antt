@@ -31,7 +31,7 @@ read_back known counts k j le = by_test (nat_lt k j) refl
     by_test true e = absurd (let h : k < j = grind (arith, nat_tests) in omega (arith, h, le))
     by_test false e = refl
 
--- what is counted from a place on, and known before it
+-- The counts from place p on are made; before it the list still has the known counts.
 pub record HasCounted (w : Instruction → ℕ) (known : List ℕ) (code : List Instruction) (counts : List ℕ) (p : ℕ) : Type 0 where
   pub size : length counts ≡ length code
   pub done : (k : ℕ) (i : Instruction) → p ≤ k → slice_get code k ≡ Some i → number_at counts k ≡ w i + greatest (map (read_at known counts k) (successors i k))
@@ -90,7 +90,7 @@ counted w known code counts q i x h at one e =
         other k (λ f. omega (arith, f, lt)) ∙ h.done k j (omega (arith, lt)) here
         ∙ ap (λ n. w j + n) (sym (same_all (read_at known (set counts q x) k) (read_at known counts k) (successors j k) (λ m. reads_later k m lt)))
 
--- one place more, as the loop makes it
+-- One more place, as the loop makes it.
 pub step : (w : Instruction → ℕ) (known : List ℕ) (code : List Instruction) (counts : List ℕ) (p : ℕ) (i : Instruction) (x y : ℕ) → HasCounted w known code counts p → 0 < p → slice_get code (p - 1) ≡ Some i → x ≤ 1
     → x ≡ w i → y ≡ greatest (map (number_at counts) (successors i (p - 1))) → HasCounted w known code (set counts (p - 1) (x + y)) (p - 1)
 step w known code counts p i x y h lt at one e f =

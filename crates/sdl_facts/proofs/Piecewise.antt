@@ -1,5 +1,5 @@
--- What is counted at the places of a whole piece: each place counts its own and the greatest where the code goes on, and the
--- first place counts the longest path.
+-- The counts at the places of a whole piece: each place counts its own instruction and the greatest count where the
+-- code goes on, and the first place counts the longest path.
 use Rattle.std.proofs.Common.{◌≡◌, ℕ, zero, suc, ◌+◌, ◌<◌, ◌≤◌, ⊎_elim, false, List, [], ◌∷◌, ◌++◌, length, map, Option, Some, None, IsSome, refl, sym, ap, ◌∙◌, subst, arith}
 use Rattle.std.specs.Prelude.{slice_get, Contains}
 use Rattle.std.specs.List.{sum_by}
@@ -40,7 +40,7 @@ places_steps c j (None ∷ rest) = places_steps c (j + 1) rest
 places_steps c j (Some n ∷ rest) =
     (record { jumping = refl; going = λ k. refl }, (record { jumping = refl; going = λ k. refl }, places_steps c (j + 1) rest))
 
--- what doesn't run off its end has some code
+-- A text that doesn't run off its end has some code.
 pub cost_some : (t : Tree) → 1 ≤ cost_of t
 cost_some (number at k) = omega arith
 cost_some (truth at b) = omega arith
@@ -63,14 +63,14 @@ has_within : (code : List Instruction) (pc : ℕ) (l : List Instruction) → Has
 has_within code pc [] h le = absurd (omega (arith, le))
 has_within code pc (x ∷ l) h le = none_past code pc x h.0
 
--- a count, with what it counts of a text that nothing follows
+-- A count, with its value for a text that nothing follows.
 module _ (c : Scope) (w : Instruction → ℕ) (a : ℕ) (weighs : IsWeight c w a) (measure : List Variable → (List ℕ → ℕ) → Text → ℕ)
     (same : (f g : List ℕ → ℕ) (t : Text) → EachJoin (λ (j : tree_join.Join). f j.connector.name ≡ g j.connector.name) t → measure (variables_of c.process) f t ≡ measure (variables_of c.process) g t)
     (tallies : (join : List ℕ → ℕ) (t : Text) → NamedText c t → tally c w a join t 0 ≡ measure (variables_of c.process) join t) where
   abbrev join : List ℕ → ℕ
   join = measure_joined measure c.process
 
-  -- what the connection with a number counts
+  -- The count of the connection with this number.
   abbrev pub counts_of : ℕ → ℕ
   counts_of n = measure (variables_of c.process) join (text_at c n)
 
@@ -132,7 +132,7 @@ module _ (c : Scope) (w : Instruction → ℕ) (a : ℕ) (weighs : IsWeight c w 
     ended_at : (n : ℕ) → Contains ns n → may_go_on (text_at c n) ≡ false
     ended_at n h = let w = has_text n h in subst (λ t. may_go_on t ≡ false) (sym (text_there c n w.connection w.there)) (named.connections.texts n w.connection w.there).ended
 
-    -- what a text counts, if its JOINs read what they lead to
+    -- The count of a text, if its JOINs read the counts of the places to which they lead.
     text_counts : (t : Text) (pc end : ℕ) → HasAt code pc (text_code c to pc t) → pc + size (variables_of c.process) t ≡ end → NamedText c t → may_go_on t ≡ false
         → ((j : tree_join.Join) → Contains (joins_of t) j → Contains (code_joins c t) j → IsSome (connector_at c j.connector) → (k : ℕ) → pc ≤ k → r k (to (number_or_zero (connector_at c j.connector))) ≡ join j.connector.name)
         → v pc ≡ measure (variables_of c.process) join t
@@ -141,7 +141,7 @@ module _ (c : Scope) (w : Instruction → ℕ) (a : ℕ) (weighs : IsWeight c w 
         (each_join c (λ (j : tree_join.Join). (k : ℕ) → pc ≤ k → r k (to (number_or_zero (connector_at c j.connector))) ≡ join j.connector.name) t named_t lands)
         ∙ tally_over c w a join t (v end) 0 ended ∙ tallies join t named_t
 
-    -- a connection counts at its place what it measures: by what is behind it first
+    -- A connection's count at its place is its measure. The proof goes from the end of the code back.
     counted_at : (b n : ℕ) → Contains ns n → length code ≤ to n + b → v (to n) ≡ counts_of n
     counted_at zero n h far = absurd (let e = ended_at n h in inside n h e far)
       where
@@ -171,7 +171,7 @@ module _ (c : Scope) (w : Instruction → ℕ) (a : ℕ) (weighs : IsWeight c w 
         (λ ge. read_back known counts k (to m) (let f : to m ≤ k = omega (arith, ge) in f) ∙ at m there ∙ sym (connection_counts m there))
         (cases_lt k (to m))
 
-    -- the first place counts the whole
+    -- The first place counts the whole piece.
     pub first_counts : v 0 ≡ sum_by w head + measure (variables_of c.process) join q.text
     first_counts =
         let start = steps_count code w v r (λ k j lt. read_ahead known counts k j lt) (λ k x here. from.each k x here) head 0 (text_place q) (has_front code 0 head (body ++ others) stands) (places_steps c 0 q.places) (omega (arith, places_size c 0 q.places)) in
@@ -182,7 +182,7 @@ module _ (c : Scope) (w : Instruction → ℕ) (a : ℕ) (weighs : IsWeight c w 
         reads_join j m refl there k ∙ connection_counts m there ∙ sym (join_is named.connections j.connector (has_connection c j.connector some))) in
         start ∙ ap (λ n. sum_by w head + n) text
 
-    -- each place reads what is counted where it goes on
+    -- Each place reads the count of the place where it goes on.
     abbrev Reads : ℕ → ℕ → Type 0
     Reads k j = r k j ≡ v j
 

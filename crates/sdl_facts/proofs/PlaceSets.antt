@@ -1,4 +1,4 @@
--- The sets at the places of a piece are those that its text says.
+-- The sets at the places of a piece are those that its text has.
 use Rattle.std.proofs.Common.{◌≡◌, ℕ, ◌+◌, Bool, true, false, cond, List, [], ◌∷◌, ◌++◌, length, map, Option, Some, None, refl, sym, ap, ◌∙◌, append_assoc}
 use Rattle.std.proofs.lemmas.List.{map-append}
 use Rattle.sdl_ast.specs.declared.expression.Identifier.{Identifier}
@@ -31,7 +31,7 @@ use Rattle.sdl_facts.specs.Facts.{tree_sets, trees_sets, sendings_sets, tasks_se
 use Rattle.sdl_facts.proofs.Stretches.{after, left_set}
 use Rattle.sdl_facts.proofs.Spots.{Spot, sets_at, over, leave_spots, text_spots, else_spots, answers_spots, bodies_spots, connections_spots, piece_spots}
 
--- the sets at instructions one behind another
+-- The sets at instructions one after another.
 abbrev sets_over : VariableSet → List Instruction → List VariableSet
 sets_over m [] = []
 sets_over m (x ∷ is) = m ∷ sets_over (set_after x m) is
@@ -49,7 +49,7 @@ quiet_append : (a b : List Instruction) → Quiet a → Quiet b → Quiet (a ++ 
 quiet_append [] b h k = k
 quiet_append (x ∷ a) b h k = (h.0, quiet_append a b h.1 k)
 
--- so many times the same set
+-- This set, once for each instruction.
 abbrev keep : VariableSet → List Instruction → List VariableSet
 keep m is = map (λ (x : Instruction). m) is
 

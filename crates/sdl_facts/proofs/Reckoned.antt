@@ -1,4 +1,4 @@
--- What is known of connections before a piece is counted, and what its counts are.
+-- The counts of connections, known before a piece is counted, and the counts of the piece.
 use Rattle.std.proofs.Common.{◌≡◌, ℕ, suc, ◌+◌, ◌<◌, ◌≤◌, ⊎_elim, Bool, true, false, cond, List, [], ◌∷◌, ◌++◌, length, length-append, set, replicate, Some, IsSome, refl, sym, ap, ◌∙◌, subst, arith, length-set, get_or-set_same, get_or-set_other}
 use Rattle.std.specs.Prelude.{slice_get, get_or, nat_eq, is_some, Contains}
 use Rattle.std.specs.List.{sum_by}
@@ -37,7 +37,7 @@ use Rattle.sdl_meaning.proofs.Acts.{tail_contains as in_tail}
 use Rattle.sdl_emit.proofs.Spacing.{zero_at}
 use Rattle.plain_laws.proofs.Pairwise.{zip_beside as zip_at}
 
--- ---- the list of what is known, while it is made
+-- ---- the list of known counts, while it is made
 
 pub record Filled (targets : List ℕ) (m : ℕ → ℕ) (ns known : List ℕ) (count i : ℕ) : Type 0 where
   pub size : length known ≡ count
@@ -103,7 +103,7 @@ place_apart c (m ∷ ms) p n o some h k e =
     by_tests false true f g e rest = absurd (let z = place_from c ms q n (in_tail m ms n f h) in omega (arith, z, here, e))
     by_tests false false f g e rest = rest f g e
 
--- ---- what is measured, and what is counted
+-- ---- measures and counts
 
 abbrev pub by : Counted → List Variable → (List ℕ → ℕ) → Text → ℕ
 by Instructions vs join t = budget vs join t 0
@@ -132,7 +132,7 @@ below c Effects join t b named le = effects_below c join t 0 b named le
 abbrev pub what_counts : (c : Scope) (x : Counted) → ℕ → ℕ
 what_counts c x n = by x (variables_of c.process) (measure_joined (by x) c.process) (text_at c n)
 
--- a connection that is placed has a text, and counts no more than the piece
+-- A connection that is placed has a text, and counts no more than the piece.
 pub record IsWithinPiece (c : Scope) (x : Counted) (b n : ℕ) : Type 0 where
   pub connection : PlainConnection
   pub there : slice_get c.process.connections n ≡ Some connection
@@ -185,7 +185,7 @@ measured_is c x q ns placed named ms measures le n h =
     let all : measured x ms n ≡ what_counts c x n = m ∙ cap ∙ ap capped this ∙ small in
     (all, omega (arith, all, w.small, le))
 
--- the counts of a piece, where what the connections count is known
+-- The counts of a piece, if the counts of its connections are known.
 pub piece_is : (c : Scope) (x : Counted) (q : Piece) (ns : List ℕ) (placed : ArePlaced c q.text ns) (named : NamedPiece c q) (code : List Instruction) (known counts : List ℕ) → code ≡ piece_code c q ns → AreCountsFrom (weight x) known code counts
     → ((n : ℕ) → Contains ns n → number_at known (place_in c (connections_place c q) ns n) ≡ what_counts c x n) → AreCounts (weight x) code counts × (number_at counts 0 ≡ piece_count x c.process q)
 piece_is c x q ns placed named code known counts is from at = (

@@ -1,4 +1,4 @@
--- What is claimed of the places of a piece is right: each instruction finds what it takes, and what it names is there.
+-- The claims about the places of a piece are right: each instruction finds its operands, and its names exist.
 use Rattle.std.proofs.Common.{◌≡◌, ℕ, ◌+◌, ◌<◌, ◌≤◌, ℤ, pos, ◌≤ℤ◌, Bool, true, false, not, cond, ◌&&◌, List, [], ◌∷◌, ◌++◌, length, Option, Some, IsSome, refl, sym, ap, ◌∙◌, subst, arith, nat_lt, nat_le}
 use Rattle.std.specs.Prelude.{All, Contains, FitsSigned}
 use Rattle.std.specs.List.{flat_map}
@@ -49,7 +49,7 @@ one_of P v h = All-cons P v [] h (All-nil P)
 pub none_in : {A : Type 0} (q : ℕ) → Contains [] q → A
 none_in {A} q h = All-contains (λ _. A) [] q (All-nil (λ _. A)) h
 
--- a number that a token may have is what 32 bits leave of it
+-- A number that a token may have is unchanged when cut to 32 bits.
 small_number : (k : ℕ) → k ≤ 2147483647 → wrap (pos k) ≡ pos k
 small_number k le = int_wrap_fits w32 (pos k) (let fits : FitsSigned w32 (pos k) = omega (arith, ints, le) in fits)
 
@@ -66,7 +66,7 @@ divisor_positive (variable at n) e = absurd (let k : ⊥ = cc in k)
 divisor_positive (unary at op t) e = absurd (let k : ⊥ = cc in k)
 divisor_positive (binary at op t u) e = absurd (let k : ⊥ = cc in k)
 
--- no bad divisor, right of a division
+-- There is no bad divisor after a division.
 same_question : (op : BinaryOperator) → divides op ≡ is_division op
 same_question Or = refl
 same_question Xor = refl
@@ -169,7 +169,7 @@ module _ (c : Scope) (d : Draft) (t : Transition)
   unary_right Negate s m = (plain_right i.Neg (Integer ∷ s) m (record { reads_none = refl; sets_none = refl; states_none = refl; parameters_none = refl; timers_none = refl; divisors_none = refl; output_none = tt }) (omega arith) (refl, tt), tt)
   unary_right Not s m = (plain_right i.Not (Boolean ∷ s) m (record { reads_none = refl; sets_none = refl; states_none = refl; parameters_none = refl; timers_none = refl; divisors_none = refl; output_none = tt }) (omega arith) (refl, tt), tt)
 
-  -- what an operator between two operands takes, where the left one has sort r
+  -- The operands that a binary operator takes, if the left one has sort r.
   record Takes (op : BinaryOperator) (r : tree_sort.Sort) : Type 0 where
     want : tree_sort.Sort
     operand : operand_sort op (Some r) ≡ Some want
@@ -260,7 +260,7 @@ module _ (c : Scope) (d : Draft) (t : Transition)
   divide_right Subtract k s m e p = absurd (let k : ⊥ = cc in k)
   divide_right Multiply k s m e p = absurd (let k : ⊥ = cc in k)
 
-  -- a division takes an Integer
+  -- A division takes an Integer.
   division_wants : (op : BinaryOperator) (o : Option tree_sort.Sort) → is_division op ≡ true → operand_sort op o ≡ Some tree_sorts.Integer
   division_wants Divide o e = refl
   division_wants Modulo o e = refl

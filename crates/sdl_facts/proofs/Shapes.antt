@@ -1,4 +1,4 @@
--- What the code of expressions, actions and INPUT's places leaves, how deep it is, how many instructions it has and how many effects.
+-- The code of expressions, actions and places of INPUT: the operands it leaves, its depth, its size and its effects.
 use Rattle.std.proofs.Common.{◌≡◌, ℕ, zero, suc, ◌+◌, ◌<◌, ◌≤◌, ℤ, pos, max, Bool, true, false, cond, List, [], ◌∷◌, ◌++◌, length, reverse, drop, Option, Some, None, IsSome, refl, sym, ap, arith}
 use Rattle.std.specs.Prelude.{slice_get, sum_by}
 use Rattle.std.specs.Option.{option_to_list}
@@ -44,7 +44,7 @@ depth_some (variable at n) = omega arith
 depth_some (unary at op t) = depth_some t
 depth_some (binary at op t u) = let h = depth_some t in omega (arith, h)
 
--- each signal that goes out has as many parameters as it is declared with
+-- Each signal that is sent has as many parameters as it is declared with.
 abbrev pub Counted : Scope → List DraftSignal → List PlainSending → Type 0
 Counted c ss [] = Unit {0}
 Counted c ss (x ∷ rest) = (length (parameters_of (slice_get ss (number_or_zero (signal_at c x.signal)))) ≡ length x.parameters) × Counted c ss rest
@@ -64,7 +64,7 @@ drop_past (suc n) (x ∷ xs) h = drop_past n xs (omega arith)
 pub length_reverse : (xs : List Sort) → length (reverse xs) ≡ length xs
 length_reverse xs = length-reverse xs
 
--- the sort of an expression; where it has none, some sort
+-- The sort of an expression; Integer if it has none.
 abbrev sort_or_integer : Option tree_sort.Sort → tree_sort.Sort
 sort_or_integer None = tree_sorts.Integer
 sort_or_integer (Some r) = r
@@ -72,7 +72,7 @@ sort_or_integer (Some r) = r
 abbrev pub sort_given : Scope → Tree → Sort
 sort_given c t = sort_of_tree (sort_or_integer (sort_in (variables_of c.process) t))
 
--- expressions one behind another, on top of this shape
+-- Expressions one after another, on top of this shape.
 abbrev pub trees_shape : Scope → List Tree → List Sort → List Sort
 trees_shape c [] s = s
 trees_shape c (t ∷ ts) s = trees_shape c ts (sort_given c t ∷ s)
@@ -95,7 +95,7 @@ module _ (c : Scope) (ss : List DraftSignal) (xs : List DraftVariable) (ps : Lis
   abbrev pub L : List Sort → VariableSet → List Instruction → List Sort → VariableSet → ℕ → ℕ → ℕ → Type 0
   L s m code s2 m2 d n e = Leads ss xs ps s m code s2 m2 d n e
 
-  -- an instruction that takes two operands, or one, and gives one
+  -- An instruction that takes one or two operands and puts one.
   record Two (x : Instruction) (r : Sort) : Type 0 where
     step : IsStep x
     gives : (a b : Sort) (s : List Sort) → after ss xs ps x (a ∷ b ∷ s) ≡ r ∷ s
@@ -160,7 +160,7 @@ module _ (c : Scope) (ss : List DraftSignal) (xs : List DraftVariable) (ps : Lis
   binary_two b Subtract e = record { step = record { jumping = refl; going = λ k. refl }; gives = λ a b s. refl; keeps = λ m. refl; silent = refl }
   binary_two b Multiply e = record { step = record { jumping = refl; going = λ k. refl }; gives = λ a b s. refl; keeps = λ m. refl; silent = refl }
 
-  -- an instruction that takes nothing and puts a value
+  -- An instruction that takes no operand and puts one.
   put_leads : (x : Instruction) (r : Sort) (s : List Sort) (m : VariableSet) → IsStep x → after ss xs ps x s ≡ r ∷ s → set_after x m ≡ m → effects_of x ≡ 0 → L s m (x ∷ []) (r ∷ s) m (length s + 1) 1 0
   put_leads x r s m step e f g =
       let l = ap length e in
@@ -271,7 +271,7 @@ module _ (c : Scope) (ss : List DraftSignal) (xs : List DraftVariable) (ps : Lis
       told ss xs ps (joined ss xs ps (tree_leads t h.sort [] m named.0 h.is) (timer_leads (number_or_zero (timer_at c n)) (sort_of_tree h.sort) m)) refl refl (omega (arith, deep)) refl refl
   action_leads (reset_timer at n) m named counted = one ss xs ps (reset (number_or_zero (timer_at c n))) [] m (record { jumping = refl; going = λ k. refl })
 
-  -- ---- INPUT's places
+  -- ---- the places of INPUT
 
   pub param_leads : (j : ℕ) (m : VariableSet) → (r : Sort) → option_to_list (slice_get ps j) ≡ r ∷ [] → L [] m (i.Param j ∷ []) (r ∷ []) m 1 1 0
   param_leads j m r e = put_leads (i.Param j) r [] m (record { jumping = refl; going = λ k. refl }) (ap (λ l. l ++ []) e) refl refl

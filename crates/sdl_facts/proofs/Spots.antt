@@ -1,4 +1,4 @@
--- The places of a piece: each instruction with the operands that are there and the variables that are set.
+-- The places of a piece: each instruction with its operands and the variables that are set.
 use Rattle.std.proofs.Common.{◌≡◌, ℕ, ◌+◌, Bool, true, false, cond, List, [], ◌∷◌, ◌++◌, map, refl, ap, ◌∙◌}
 use Rattle.std.proofs.lemmas.List.{map-append}
 use Rattle.sdl_ast.specs.Plain.{Text, falls, ends, does, decides, Choice, nothing_else, otherwise, answer}
@@ -32,7 +32,7 @@ abbrev pub sets_at : List Spot → List VariableSet
 sets_at l = map (λ (p : Spot). p.set) l
 
 module _ (ss : List DraftSignal) (xs : List DraftVariable) (ps : List Sort) where
-  -- instructions one behind another
+  -- Instructions one after another.
   abbrev pub over : List Sort → VariableSet → List Instruction → List Spot
   over s m [] = []
   over s m (x ∷ is) = record { instruction = x; shape = s; set = m } ∷ over (after ss xs ps x s) (set_after x m) is
@@ -42,7 +42,7 @@ module _ (ss : List DraftSignal) (xs : List DraftVariable) (ps : List Sort) wher
     leave_spots after m body = over [] m (leave_code after body)
 
     abbrev mutual
-      -- in step with the code of a text
+      -- The places of the code of a text.
       pub text_spots : ℕ → VariableSet → Text → List Spot
       text_spots n m falls = []
       text_spots n m (ends e) = over [] m (end_code c to e)
@@ -78,7 +78,7 @@ module _ (ss : List DraftSignal) (xs : List DraftVariable) (ps : List Sort) wher
     connections_spots es p [] = []
     connections_spots es p (n ∷ ns) = text_spots p (entry_at es n) (text_at c n) ++ connections_spots es (p + size_at c n) ns
 
-  -- a piece with these connections, which begin with these sets
+  -- The places of a piece with these connections, which begin with these sets.
   abbrev pub piece_spots : Scope → VariableSet → Piece → List VariableSet → List ℕ → List Spot
   piece_spots c m q es ns =
       over [] m (places_code c 0 q.places)

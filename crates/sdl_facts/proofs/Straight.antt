@@ -1,4 +1,4 @@
--- Straight stretches of code: what is claimed of their places is right.
+-- Straight stretches of code: the claims about their places are right.
 use Rattle.std.proofs.Common.{◌≡◌, ℕ, ◌+◌, ◌<◌, ◌≤◌, pos, ◌≤ℤ◌, List, [], ◌∷◌, ◌++◌, length, Some}
 use Rattle.std.specs.Prelude.{slice_get, All, Contains}
 use Rattle.turn_code.specs.declared.value.Sort.{Sort}
@@ -11,7 +11,7 @@ use Rattle.turn_code.specs.Code.{takes, reads, sets, shape_after, set_after, par
 use Rattle.turn_code.specs.Transitions.{Transition}
 use Rattle.turn_code.specs.Rules.{Agree, KeepsOutput}
 
--- what an instruction wants of the shape, of the variables that are set and of what it names
+-- What an instruction requires of the shape, of the variables that are set, and of its names.
 pub record IsRight (d : Draft) (t : Transition) (shape : List Sort) (set : VariableSet) (x : Instruction) : Type 0 where
   pub under : length (takes d.signals t.process.variables x) ≤ length shape
   pub sort : Agree (takes d.signals t.process.variables x) shape
@@ -25,18 +25,18 @@ pub record IsRight (d : Draft) (t : Transition) (shape : List Sort) (set : Varia
   pub divisors : All (λ z. pos 1 ≤ℤ z) (divisors_in x)
   pub outputs : KeepsOutput d t x
 
--- each instruction of a straight stretch gets what it wants
+-- Each instruction of a straight stretch has what it requires.
 abbrev pub AreRight : Draft → Transition → List Sort → VariableSet → List Instruction → Type 0
 AreRight d t shape set [] = Unit {0}
 AreRight d t shape set (x ∷ is) =
     IsRight d t shape set x × AreRight d t (shape_after d.signals t.process.variables t.parameters x shape) (set_after x set) is
 
--- the code goes on behind the instruction alone
+-- The code goes on only at the next place.
 pub record IsStep (x : Instruction) : Type 0 where
   pub jumping : jumps x ≡ []
   pub going : (k : ℕ) → behind x k ≡ (k + 1) ∷ []
 
--- instructions behind which the code goes on
+-- Instructions that each go on at the next place.
 abbrev pub AreSteps : List Instruction → Type 0
 AreSteps [] = Unit {0}
 AreSteps (x ∷ is) = IsStep x × AreSteps is

@@ -1,4 +1,4 @@
--- Stretches of code that go straight on: what they leave, how deep they are, and how many instructions and effects they have.
+-- Stretches of code that go straight on: the operands they leave, their depth, their size and their effects.
 use Rattle.std.proofs.Common.{◌≡◌, ℕ, ◌+◌, ◌≤◌, max, List, [], ◌∷◌, ◌++◌, length, refl, sym, ap, ◌∙◌, subst, arith, length-append}
 use Rattle.std.specs.Prelude.{sum_by}
 use Rattle.std.proofs.lemmas.List.Sums.{sum_by-cons, sum_by-append}
@@ -30,12 +30,12 @@ module _ (ss : List DraftSignal) (xs : List DraftVariable) (ps : List Sort) wher
   left_shape shape [] = shape
   left_shape shape (x ∷ is) = left_shape (after x shape) is
 
-  -- the greatest shape at their places and behind them
+  -- The greatest shape at the places of the instructions and after them.
   abbrev pub deepest : List Sort → List Instruction → ℕ
   deepest shape [] = length shape
   deepest shape (x ∷ is) = max (length shape) (deepest (after x shape) is)
 
-  -- instructions that go straight on from one shape and set to others
+  -- Instructions that go straight on, from one shape and set to others.
   pub record Leads (shape : List Sort) (m : VariableSet) (code : List Instruction) (shape2 : List Sort) (m2 : VariableSet) (d n e : ℕ) : Type 0 where
     pub steps : AreSteps code
     pub leaves : left_shape shape code ≡ shape2
@@ -56,7 +56,7 @@ module _ (ss : List DraftSignal) (xs : List DraftVariable) (ps : List Sort) wher
   deep_joined shape [] b = let h = least shape b in omega (arith, h)
   deep_joined shape (x ∷ a) b = let h = deep_joined (after x shape) a b in omega (arith, h)
 
-  -- one behind another
+  -- One stretch after another.
   pub joined : {s s1 s2 : List Sort} {m m1 m2 : VariableSet} {a b : List Instruction} {d1 d2 n1 n2 e1 e2 : ℕ} → Leads s m a s1 m1 d1 n1 e1 → Leads s1 m1 b s2 m2 d2 n2 e2 → Leads s m (a ++ b) s2 m2 (max d1 d2) (n1 + n2) (e1 + e2)
   joined {s} {s1} {s2} {m} {m1} {m2} {a} {b} {d1} {d2} {n1} {n2} {e1} {e2} h k = record {
     steps = steps_append a b h.steps k.steps;
@@ -73,7 +73,7 @@ module _ (ss : List DraftSignal) (xs : List DraftVariable) (ps : List Sort) wher
   pub one : (x : Instruction) (s : List Sort) (m : VariableSet) → IsStep x → Leads s m (x ∷ []) (after x s) (set_after x m) (max (length s) (length (after x s))) 1 (effects_of x)
   one x s m step = record { steps = (step, tt); leaves = refl; sets_to = refl; depth_is = refl; cost_is = refl; effects_is = omega (arith, sum_by-cons effects_of x []) }
 
-  -- the same in other words
+  -- As above, with values that are equal to these.
   pub told : {s s1 s2 : List Sort} {m m1 m2 : VariableSet} {code : List Instruction} {d d2 n n2 e e2 : ℕ} → Leads s m code s1 m1 d n e → s1 ≡ s2 → m1 ≡ m2 → d ≡ d2 → n ≡ n2 → e ≡ e2 → Leads s m code s2 m2 d2 n2 e2
   told h a b f g i = record {
     steps = h.steps;

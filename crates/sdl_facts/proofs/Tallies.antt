@@ -1,4 +1,4 @@
--- The count at the place of a text is what the text counts, with what is counted at the place behind it.
+-- The count at the place of a text is the count of the text, with the count at the place after it.
 use Rattle.std.proofs.Common.{◌≡◌, ℕ, ◌+◌, ◌<◌, ◌≤◌, max, Bool, true, false, cond, List, [], ◌∷◌, ◌++◌, length, map, Some, refl, sym, ap, ◌∙◌, arith}
 use Rattle.std.specs.Prelude.{slice_get}
 use Rattle.std.specs.List.{sum_by, list_any}
@@ -34,12 +34,12 @@ range_goes n k (IsValue x) = refl
 range_goes n k (Compared at s x) = refl
 range_goes n k (Between low high) = refl
 
--- a list that is the first, or the second
+-- Each truth value has an answer, if the question is a Boolean one.
 both_answered : (c : Scope) (q : Tree) (choice : Choice) → is_answered (variables_of c.process) q choice ≡ true → is_truth c q ≡ true → answers_both choice ≡ true
 both_answered c q choice h e =
     sym (ap (λ b. cond b (answers_both choice) (has_else choice)) e) ∙ and_second (has_values choice) (cond (is_truth c q) (answers_both choice) (has_else choice)) h
 
--- v is what is counted; a place reads r of the places where it goes on, which is v ahead of it
+-- v are the counts. A place reads r from the places where it goes on; for later places r is v.
 module _ (code : List Instruction) (w : Instruction → ℕ) (v : ℕ → ℕ) (r : ℕ → ℕ → ℕ) (ahead : (k j : ℕ) → k < j → r k j ≡ v j)
     (counted : (k : ℕ) (x : Instruction) → slice_get code k ≡ Some x → v k ≡ w x + greatest (map (r k) (successors x k))) where
   to_none : (k : ℕ) (x : Instruction) → slice_get code k ≡ Some x → successors x k ≡ [] → v k ≡ w x
@@ -54,7 +54,7 @@ module _ (code : List Instruction) (w : Instruction → ℕ) (v : ℕ → ℕ) (
       let g : greatest (map (r k) (successors x k)) ≡ max (r k n) (max (r k m) 0) = ap (λ js. greatest (map (r k) js)) f in
       omega (arith, h, g)
 
-  -- instructions behind which the code goes on
+  -- Instructions that each go on at the next place.
   pub steps_count : (xs : List Instruction) (pc end : ℕ) → HasAt code pc xs → AreSteps xs → pc + length xs ≡ end → v pc ≡ sum_by w xs + v end
   steps_count [] pc end has steps e = let f : pc ≡ end = omega (arith, e) in let g = ap v f in omega (arith, g)
   steps_count (x ∷ xs) pc end has steps e =
@@ -65,7 +65,7 @@ module _ (code : List Instruction) (w : Instruction → ℕ) (v : ℕ → ℕ) (
       omega (arith, rest, here, on, sum_by-cons w x xs)
 
   module _ (c : Scope) (a : ℕ) (weighs : IsWeight c w a) (to : ℕ → ℕ) (join : List ℕ → ℕ) (start : ℕ) where
-    -- what a jump reads where the connection stands
+    -- The count that a jump reads at the place of the connection.
     abbrev pub Lands : tree_join.Join → Type 0
     Lands j = (k : ℕ) → start ≤ k → r k (to (number_or_zero (connector_at c j.connector))) ≡ join j.connector.name
 
@@ -106,7 +106,7 @@ module _ (code : List Instruction) (w : Instruction → ℕ) (v : ℕ → ℕ) (
             e ∙ ap (tally c w a join body) k
         by_test false f has le = e ∙ tally_over c w a join body (v mid) (a + v after) f
 
-    -- a DECISION behind its question
+    -- A DECISION after its question.
     decision_count : (choice : Choice) (q : Tree) (b : Bool) (m n f s : ℕ) (after : Bool → ℕ) → is_truth c q ≡ b
         → HasAt code m (cond b (pick_code c n choice ∷ bodies_code c to n (after true) choice) (tests_code c s choice ++ (else_code c to f (after false) choice ++ answers_code c to s (after false) choice)))
         → (is_truth c q ≡ true → HasAt code m (pick_code c n choice ∷ bodies_code c to n (after true) choice) → v m ≡ a + pick_tally c w a join choice (v (after true)))
@@ -193,7 +193,7 @@ module _ (code : List Instruction) (w : Instruction → ℕ) (v : ℕ → ℕ) (
           refl (omega arith) (omega arith) le_m (integer_answered c q choice named.0.answered g) named.1 lands.0) in
           question ∙ ap (λ n. sum_by w (tree_code c q) + n) (chosen ∙ ap (λ k. cond b (a + pick_tally c w a join choice k) (case_tally c w a join choice k)) last)
 
-      -- the bodies of a Boolean DECISION, one behind another
+      -- The bodies of a Boolean DECISION, one after another.
       bodies_count : (choice : Choice) (q : Tree) (n after : ℕ) → HasAt code n (bodies_code c to n after choice) → n + bodies_size (variables_of c.process) choice ≤ after → start ≤ n → NamedChoice c q choice → ChoiceJoin Lands choice
           → bodies_most c v n choice ≡ pick_tally c w a join choice (v after)
       bodies_count nothing_else q n after has lt le named lands = refl
@@ -216,7 +216,7 @@ module _ (code : List Instruction) (w : Instruction → ℕ) (v : ℕ → ℕ) (
           let last = bodies_count others q k after (has_back code mid (leave_code after body) y k len_y has_mid) (omega (arith, lt)) (omega (arith, le)) named.2 lands.1 in
           omega (arith, first, last)
 
-      -- the answers to an Integer question: their tests at m, the body of ELSE at f, theirs from s on
+      -- The answers to an Integer question: tests at m, the body of ELSE at f, the bodies of the answers from s on.
       case_count : (choice : Choice) (q : Tree) (m f s after : ℕ) → HasAt code m (tests_code c s choice) → HasAt code f (else_code c to f after choice) → HasAt code s (answers_code c to s after choice)
           → m + tests_size choice ≡ f → f + else_size c choice ≤ s → s + bodies_size (variables_of c.process) choice ≤ after + else_size c choice → start ≤ m → has_else choice ≡ true → NamedChoice c q choice → ChoiceJoin Lands choice
           → v m ≡ case_tally c w a join choice (v after)

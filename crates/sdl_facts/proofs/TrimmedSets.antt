@@ -10,7 +10,7 @@ use Rattle.sdl_facts.specs.Facts.{tree_sets, action_sets, ranges_sets, tests_set
 use Rattle.sdl_emit.proofs.Trimming.{goes_same}
 use Rattle.sdl_trimmed.specs.Trimmed.{kept, trimmed, trimmed_choice}
 
--- ---- what is set behind it
+-- ---- the variables that are set after a text
 
 module _ (c : Scope) where
   kept_left : (a : PlainAction) (t : Text) (m : VariableSet) → left c m (kept a t) ≡ left c (action_set c m a) t
@@ -45,7 +45,7 @@ module _ (c : Scope) where
   choice_left_same choice m =
       ap (λ x. meet x (else_left c m (trimmed_choice choice))) (answers_left_same choice m everything) ∙ ap (λ x. meet (answers_left c m everything choice) x) (else_left_same choice m)
 
--- ---- the JOINs with what is set there
+-- ---- the JOINs, with the variables that are set there
 
 module _ (c : Scope) where
   kept_met : (a : PlainAction) (t : Text) (m : VariableSet) (es : List VariableSet) → met c m (kept a t) es ≡ met c (action_set c m a) t es
@@ -79,7 +79,7 @@ module _ (c : Scope) where
     else_met_same (otherwise body) m es = met_same body m es
     else_met_same (answer at rs body others) m es = else_met_same others m es
 
--- ---- the sets at its places
+-- ---- the sets at the places of a text
 
 leave_same : (t : Text) (m : VariableSet) → leave_sets m (trimmed t) ≡ leave_sets m t
 leave_same t m = ap (λ b. cond {A = List VariableSet} b (m ∷ []) []) (goes_same t)

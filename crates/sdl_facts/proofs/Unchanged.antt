@@ -1,4 +1,4 @@
--- A connection that begins with every variable changes no set: nothing joined it so far, or all is set at each JOIN to it.
+-- A connection that begins with every variable changes no set: no JOIN to it is seen, or all is set at each.
 use Rattle.std.proofs.Common.{◌≡◌, ℕ, zero, suc, ◌^◌, Bool, true, false, cond, List, [], ◌∷◌, length, map, Option, Some, None, refl, sym, ap, ◌∙◌, subst}
 use Rattle.std.specs.Prelude.{slice_get, slice_set}
 use Rattle.std.specs.Int.Bits.{bit_and, bit_or, and_self}
@@ -70,7 +70,7 @@ set_kept (x ∷ es) zero e h all (suc k) = all (suc k)
 set_kept (x ∷ es) (suc n) e h all zero = all 0
 set_kept (x ∷ es) (suc n) e h all (suc k) = set_kept es n e h (λ i. all (suc i)) k
 
--- before any JOIN
+-- Before any JOIN, each set has every variable.
 pub start_kept : (xs : List PlainConnection) → AreOfAll (map (λ x. everything) xs)
 start_kept [] k = everything_kept
 start_kept (x ∷ xs) zero = everything_kept
@@ -81,7 +81,7 @@ by_sort P true es fs h k = h
 by_sort P false es fs h k = k
 
 module _ (c : Scope) where
-  -- ---- what is set behind a text that begins with every variable
+  -- ---- the variables that are set after a text that begins with every variable
 
   tasks_full : (m : VariableSet) (ts : List PlainAssignment) → IsFull m → IsFull (tasks_set c m ts)
   tasks_full m [] h = h
@@ -118,7 +118,7 @@ module _ (c : Scope) where
   choice_full m choice h =
       meet_full (answers_left c m everything choice) (else_left c m choice) (answers_full m everything choice h everything_full) (else_full m choice h)
 
-  -- ---- its JOINs change nothing
+  -- ---- the JOINs of such a text change nothing
 
   end_same : (m : VariableSet) (e : End) (es : List VariableSet) → IsFull m → AreOfAll es → end_met c m e es ≡ es
   end_same m (NextState n) es h all = refl
@@ -157,7 +157,7 @@ module _ (c : Scope) where
       by_found None = refl
       by_found (Some x) = met_same (entry_at es n) x.text es (subst IsFull (sym e) everything_full) all
 
-  -- ---- sets of variables that there may be stay such
+  -- ---- sets of possible variables stay so
 
   end_kept : (m : VariableSet) (e : End) (es : List VariableSet) → AreOfAll es → AreOfAll (end_met c m e es)
   end_kept m (NextState n) es all = all
@@ -198,7 +198,7 @@ module _ (c : Scope) where
   connections_kept [] es all = all
   connections_kept (n ∷ ns) es all = connection_kept n (connections_met c ns es) (connections_kept ns es all)
 
--- where the sets of no connections are asked for, a JOIN leaves them so
+-- If there are no entries, a JOIN changes nothing.
 pub none_met : (es : List VariableSet) (n : ℕ) (m : VariableSet) → length es ≡ 0 → es ≡ met_at es n m
 none_met [] n m e = refl
 none_met (x ∷ es) n m e = absurd (let k : ⊥ = cc in k)

@@ -1,5 +1,4 @@
--- What is claimed of each place of a piece: the operands that are there, and the variables that are
--- set.
+-- The claims about each place of a piece: the operands, and the variables that are set.
 use Rattle.std.specs.Prelude.{ℕ, if◌then◌else◌, List, [], ◌∷◌, ◌++◌, Option, None, Some}
 use Rattle.sdl_ast.specs.declared.expression.Identifier.{Identifier}
 use Rattle.sdl_ast.specs.declared.tree.Range.{Range}
@@ -22,15 +21,15 @@ use Rattle.sdl_meaning.specs.Code.{number_or_zero, text_at}
 use Rattle.sdl_facts.specs.Reads.{action_set, left, choice_left, places_set}
 use Rattle.sdl_facts.specs.Entries.{entry_at, piece_entries}
 
--- The operands at each place, from a place with these on. What stands in front of a body, or of
--- what a DECISION or a connection goes on with, leaves none; so the order of the code is enough.
+-- The operands at each place, from a place with these on. No operands are left before a body, or
+-- before the code after a DECISION, or before a connection. So the order of the code is enough.
 abbrev pub shapes_from :
     List DraftSignal → List DraftVariable → List Sort → List Sort → List Instruction
     → List (List Sort)
 shapes_from ss xs ps shape [] = []
 shapes_from ss xs ps shape (i ∷ is) = shape ∷ shapes_from ss xs ps (shape_after ss xs ps i shape) is
 
--- ---- the variables that are set at each place of the code of a text that begins with these set
+-- ---- the variables set at each place of the code of a text, which begins with these set
 
 -- an expression sets nothing
 abbrev pub tree_sets : VariableSet → Tree → List VariableSet
@@ -61,18 +60,18 @@ action_sets c m (output at xs to) = sendings_sets m xs
 action_sets c m (set_timer at t n) = tree_sets m t ++ m ∷ []
 action_sets c m (reset_timer at n) = m ∷ []
 
--- a test for each range
+-- The places of the tests, one for each range.
 abbrev pub ranges_sets : VariableSet → List Range → List VariableSet
 ranges_sets m [] = []
 ranges_sets m (r ∷ rs) = m ∷ ranges_sets m rs
 
--- and the drop before ELSE
+-- The places of the tests, and of the drop before ELSE.
 abbrev pub tests_sets : VariableSet → Choice → List VariableSet
 tests_sets m nothing_else = []
 tests_sets m (otherwise body) = m ∷ []
 tests_sets m (answer at rs body others) = ranges_sets m rs ++ tests_sets m others
 
--- a body that goes on ends with a jump
+-- A body that goes on ends with a jump.
 abbrev pub leave_sets : VariableSet → Text → List VariableSet
 leave_sets m body = if goes_on body then m ∷ [] else []
 
@@ -87,40 +86,40 @@ abbrev mutual
       else tests_sets m choice ++ (else_sets c m choice ++ answers_sets c m choice)))
       ++ text_sets c (choice_left c m choice) rest
 
-  -- in the body of ELSE
+  -- The places of the body of ELSE.
   pub else_sets : Scope → VariableSet → Choice → List VariableSet
   else_sets c m nothing_else = []
   else_sets c m (otherwise body) = text_sets c m body ++ leave_sets (left c m body) body
   else_sets c m (answer at rs body others) = else_sets c m others
 
-  -- in the bodies of the answers
+  -- The places of the bodies of the answers.
   pub answers_sets : Scope → VariableSet → Choice → List VariableSet
   answers_sets c m nothing_else = []
   answers_sets c m (otherwise body) = []
   answers_sets c m (answer at rs body others) =
       (text_sets c m body ++ leave_sets (left c m body) body) ++ answers_sets c m others
 
--- a DECISION with its bodies
+-- The places of a DECISION with its bodies.
 abbrev pub decision_sets : Scope → VariableSet → Tree → Choice → List VariableSet
 decision_sets c m q choice = tree_sets m q ++ (if is_truth c q
     then m ∷ (answers_sets c m choice ++ else_sets c m choice)
     else tests_sets m choice ++ (else_sets c m choice ++ answers_sets c m choice))
 
--- a parameter is fetched, and stored
+-- Each place with a name loads a parameter and stores it.
 abbrev pub places_sets : Scope → VariableSet → List (Option Identifier) → List VariableSet
 places_sets c m [] = []
 places_sets c m (None ∷ rest) = places_sets c m rest
 places_sets c m (Some n ∷ rest) =
     m ∷ m ∷ places_sets c (with_variable m (number_or_zero (variable_at c n))) rest
 
--- connections by their numbers, one behind another
+-- The places of connections by their numbers, one after another.
 abbrev pub connections_sets : Scope → List VariableSet → List ℕ → List VariableSet
 connections_sets c es [] = []
 connections_sets c es (n ∷ ns) =
     text_sets c (entry_at es n) (text_at c n) ++ connections_sets c es ns
 
--- a piece with these connections, where each connection stands in an order behind those that it
--- joins
+-- The places of a piece with these connections. In `order` each connection comes after those that
+-- it joins.
 abbrev pub piece_sets : Scope → VariableSet → Piece → List ℕ → List ℕ → List VariableSet
 piece_sets c m q order ns =
     places_sets c m q.places

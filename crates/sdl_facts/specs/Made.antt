@@ -1,4 +1,4 @@
--- What the compiler makes of a transition.
+-- The results of the compiler for a transition.
 use Rattle.std.specs.Prelude.{◌≡◌, ℕ, ◌≤◌, List, [], map}
 use Rattle.plain_laws.specs.Limits.{MOST_EFFECTS, MOST_INSTRUCTIONS, MOST_OPERANDS}
 use Rattle.turn_code.specs.declared.value.Sort.{Sort}
@@ -22,14 +22,14 @@ pub record IsLongestOf (c : Scope) (q : Piece) (k : Cert) : Type 0 where
   pub depth : k.depth ≡ piece_depth c.process q
   pub effects : k.effects ≡ piece_effects c.process q
 
--- the code of a transition, with each connection to which it comes once
+-- The code of a transition, with each connection that it leads to only once.
 pub record IsCodeOf (c : Scope) (q : Piece) (instructions : List Instruction) : Type 0 where
   pub numbers : List ℕ
   pub placed : ArePlaced c q.text numbers
   pub code : instructions ≡ piece_code c q numbers
 
--- What is said of each place but counts, where these connections stand in the piece: the operands
--- that are there, and the variables that are set on every way.
+-- The facts of each place except counts, if these connections follow in the piece: the operands,
+-- and the variables that are set on every way.
 pub record AreFactsOf (c : Scope) (ps : List Sort) (entry : VariableSet) (q : Piece)
     (numbers : List ℕ) (instructions : List Instruction) (fs : List PlaceFacts) : Type 0 where
   pub order : List ℕ
@@ -39,8 +39,8 @@ pub record AreFactsOf (c : Scope) (ps : List Sort) (entry : VariableSet) (q : Pi
       ≡ shapes_from (drafted_signals c.block) (drafted_variables c.process) ps [] instructions
   pub settled : map (λ (f : PlaceFacts). f.set) fs ≡ piece_sets c entry q order numbers
 
--- What is counted at each place: its own and the greatest where the code goes on; the first place
--- counts the longest path.
+-- The counts at each place: those of its instruction and the greatest count where the code goes on.
+-- The first place counts the longest path.
 pub record AreCountsOf (c : Scope) (q : Piece) (instructions : List Instruction)
     (fs : List PlaceFacts) : Type 0 where
   pub counts : AreCounts (weight Instructions) instructions (map (λ (f : PlaceFacts). f.count) fs)
@@ -48,8 +48,8 @@ pub record AreCountsOf (c : Scope) (q : Piece) (instructions : List Instruction)
   pub longest : number_at (map (λ (f : PlaceFacts). f.count) fs) 0 ≡ piece_budget c.process q
   pub most : number_at (map (λ (f : PlaceFacts). f.effects) fs) 0 ≡ piece_effects c.process q
 
--- the piece of a transition whose parameters have these sorts, and which begins with these
--- variables set
+-- The piece of a transition whose parameters have these sorts, and which begins with these
+-- variables set.
 pub record IsPieceOf (c : Scope) (ps : List Sort) (entry : VariableSet) (q : Piece)
     (d : DraftPiece) : Type 0 where
   pub code : IsCodeOf c q d.code

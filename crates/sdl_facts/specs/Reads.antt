@@ -1,4 +1,4 @@
--- Which variables a transition reads, and which are set on its way.
+-- The variables that a transition reads, and those that are set on its way.
 use Rattle.std.specs.Prelude.{◌≡◌, List, [], ◌∷◌, Option, Some, None, slice_get, bit_and}
 use Rattle.sdl_ast.specs.declared.expression.Identifier.{Identifier}
 use Rattle.sdl_ast.specs.declared.tree.End.{End}
@@ -13,7 +13,7 @@ use Rattle.turn_code.specs.Sets.{Has, IsWithin, with_variable}
 use Rattle.sdl_meaning.specs.Outcomes.{Scope, variable_at, state_at}
 use Rattle.sdl_meaning.specs.Code.{number_or_zero}
 
--- the variables that a part of a text reads are set where it reads them
+-- The variables that a part of a text reads are set there.
 abbrev pub ReadTree : Scope → VariableSet → Tree → Type 0
 ReadTree c m (number at k) = Unit {0}
 ReadTree c m (truth at b) = Unit {0}
@@ -41,13 +41,13 @@ ReadAction c m (output at xs to) = ReadSendings c m xs
 ReadAction c m (set_timer at t n) = ReadTree c m t
 ReadAction c m (reset_timer at n) = Unit {0}
 
--- the variables that are set after assignments
+-- The variables that are set after assignments.
 abbrev pub tasks_set : Scope → VariableSet → List PlainAssignment → VariableSet
 tasks_set c m [] = m
 tasks_set c m (a ∷ rest) =
     tasks_set c (with_variable m (number_or_zero (variable_at c a.variable))) rest
 
--- and after an action: a TASK alone sets some
+-- The variables that are set after an action. Only a TASK sets any.
 abbrev pub action_set : Scope → VariableSet → PlainAction → VariableSet
 action_set c m (task at ts) = tasks_set c m ts
 action_set c m (output at xs to) = m
@@ -63,8 +63,8 @@ abbrev pub meet : VariableSet → VariableSet → VariableSet
 meet a b = record { 0 = bit_and a.0 b.0 }
 
 abbrev mutual
-  -- The variables that are set where a text runs off its end, whichever of its bodies were taken.
-  -- Where it doesn't run off, nothing comes there, and all are.
+  -- The variables that are set where a text runs off its end, for any choice of bodies. If it
+  -- doesn't run off its end, these are all variables.
   pub left : Scope → VariableSet → Text → VariableSet
   left c m falls = m
   left c m (ends e) = everything
@@ -72,24 +72,24 @@ abbrev mutual
   left c m (decides at q choice rest) =
       left c (meet (answers_left c m everything choice) (else_left c m choice)) rest
 
-  -- what is in a set and what the bodies of all answers leave that go on
+  -- The variables of a set that all bodies of answers leave set, if they go on.
   pub answers_left : Scope → VariableSet → VariableSet → Choice → VariableSet
   answers_left c m all nothing_else = all
   answers_left c m all (otherwise body) = all
   answers_left c m all (answer at ranges body others) =
       answers_left c m (meet all (left c m body)) others
 
-  -- what the body of ELSE leaves
+  -- The variables that are set after the body of ELSE.
   pub else_left : Scope → VariableSet → Choice → VariableSet
   else_left c m nothing_else = everything
   else_left c m (otherwise body) = left c m body
   else_left c m (answer at ranges body others) = else_left c m others
 
--- what is left behind a DECISION
+-- The variables that are set after a DECISION.
 abbrev pub choice_left : Scope → VariableSet → Choice → VariableSet
 choice_left c m choice = meet (answers_left c m everything choice) (else_left c m choice)
 
--- what is said of the state where a transition ends is so
+-- The set of the state in which a transition ends is within the variables that are set there.
 abbrev pub EndsSet : Scope → List DraftState → VariableSet → End → Type 0
 EndsSet c ss m (NextState n) =
     (s : DraftState) → slice_get ss (number_or_zero (state_at c n.state)) ≡ Some s
@@ -110,7 +110,7 @@ abbrev mutual
   ReadChoice c ss m (otherwise body) = ReadText c ss m body
   ReadChoice c ss m (answer at ranges body others) = ReadText c ss m body × ReadChoice c ss m others
 
--- the variables that are set after INPUT's places
+-- The variables that are set after the places of INPUT.
 abbrev pub places_set : Scope → VariableSet → List (Option Identifier) → VariableSet
 places_set c m [] = m
 places_set c m (None ∷ rest) = places_set c m rest

@@ -1,4 +1,4 @@
--- What comes with a transition, and what the compiler asks of it.
+-- The setting of a transition, and what the compiler requires of the transition.
 use Rattle.std.specs.Prelude.{◌≡◌, ℕ, ◌≤◌, List, [], ◌∷◌, length}
 use Rattle.plain_laws.specs.Limits.{MOST_PARAMETERS}
 use Rattle.sdl_ast.specs.Views.{block_of, process_of}
@@ -14,8 +14,8 @@ use Rattle.sdl_meaning.specs.Outcomes.{Scope}
 use Rattle.sdl_facts.specs.Made.{IsSmall}
 use Rattle.sdl_meaning.specs.Declarations.{drafted_signals, drafted_variables}
 
--- the variables are those of the process, the signals those of the block; the order, the measures
--- and the copies are those of its connections
+-- The variables are those of the process, the signals those of the block. The order, the measures
+-- and the copies are those of the connections of the process.
 pub record IsSetting (s : Setting) : Type 0 where
   pub variables : s.variables.now ≡ drafted_variables (process_of s.names.now.process.now)
   pub signals : s.signals.now ≡ drafted_signals (block_of s.names.now.block.now)
@@ -23,8 +23,8 @@ pub record IsSetting (s : Setting) : Type 0 where
   pub measured : AreMeasures (process_of s.names.now.process.now) s.measures.now
   pub copied : AreTrimmed (process_of s.names.now.process.now).connections s.copies.now
 
--- a transition whose names are all there and whose sorts are right, with places for parameters of
--- these sorts, within the limits
+-- A transition with known names and right sorts, places for parameters of these sorts, and within
+-- the limits.
 pub record IsReadyPiece (c : Scope) (q : Piece) (ps : List Sort) : Type 0 where
   pub named : NamedPiece c q
   pub sorted : AreSorted c q.text
@@ -32,12 +32,12 @@ pub record IsReadyPiece (c : Scope) (q : Piece) (ps : List Sort) : Type 0 where
   pub few : length q.places ≤ MOST_PARAMETERS
   pub small : IsSmall c q
 
--- how many effects code has from its first place on
+-- How many effects the code may have from its first place on.
 abbrev pub effects_from : List PlaceFacts → ℕ
 effects_from [] = 0
 effects_from (f ∷ fs) = f.effects
 
--- and how many instructions may run
+-- How many instructions may run from the first place on.
 abbrev pub count_from : List PlaceFacts → ℕ
 count_from [] = 0
 count_from (f ∷ fs) = f.count

@@ -1,4 +1,4 @@
-//! What is counted at the places of code, from its end on.
+//! Counts at the places of code, made from its end on.
 ghost use Rattle.std.specs.Prelude.{◌≡◌, ℕ, ◌+◌, ◌≤◌, length, map, IfOk};
 ghost use Rattle.turn_code.specs.Code.{successors};
 ghost use Rattle.turn_code.specs.Rules.{greatest};
@@ -7,7 +7,7 @@ ghost use Rattle.plain_laws.specs.Limits.{MOST_INSTRUCTIONS};
 
 use turn_code::Instruction;
 
-/// What is counted.
+/// What to count.
 #[derive(Clone, Copy)]
 pub enum Counted {
     /// Each instruction.
@@ -30,7 +30,7 @@ fn weight(counted: Counted, instruction: Instruction) -> u32
     }
 }
 
-/// The count of a place; 0 where there is none.
+/// The count of a place; 0 if there is none.
 fn count_at(counts: &[u32], place: usize) -> u32
     ensures { result ≡ number_at counts.now place }
 {
@@ -40,7 +40,7 @@ fn count_at(counts: &[u32], place: usize) -> u32
     }
 }
 
-/// The greatest count where the code goes on behind the instruction at a place.
+/// The greatest count of the places where the code goes on after the instruction at a place.
 fn greatest_next(counts: &[u32], instruction: Instruction, place: usize) -> u32
     requires { place ≤ 65535 }
     ensures { result ≡ greatest (map (number_at counts.now) (successors instruction place)) }
@@ -61,8 +61,8 @@ fn greatest_next(counts: &[u32], instruction: Instruction, place: usize) -> u32
     }
 }
 
-/// Counts from the end of the code on: each place its own, and the greatest of the places where the
-/// code goes on. `known` says what the places count to which the code goes back.
+/// Counts from the end of the code on: for each place its own instruction and the greatest count of the places where
+/// the code goes on. `known` has the counts of the places to which the code goes back.
 pub fn count_places(counted: Counted, code: &[Instruction], known: Vec<u32>) -> Vec<u32>
     requires size { length known.items ≡ length code.now }
     requires short { length code.now ≤ MOST_INSTRUCTIONS }

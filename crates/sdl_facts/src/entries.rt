@@ -1,4 +1,4 @@
-//! Which variables are set as each connection begins, and so at each place of a piece.
+//! The variables that are set as each connection begins, and so at each place of a piece.
 ghost use Rattle.std.specs.Prelude.{◌≡◌, ◌++◌, true, OnOk, IfOk, map};
 ghost use Rattle.sdl_ast.specs.Views.{connection_of, process_of};
 ghost use Rattle.sdl_trimmed.specs.Trimmed.{AreTrimmed};
@@ -17,7 +17,7 @@ use sdl_emit::{Body, Names};
 use std::alloc::{AllocError, Global};
 use turn_code::VariableSet;
 
-/// Each connection has all variables, before any JOIN to it is seen.
+/// The sets of the connections before any JOIN is seen: every variable for each.
 fn start_entries(alloc: Global, connections: &[Connection]) -> Result<Vec<VariableSet>, AllocError>
     ensures { IfOk result (λ v. v.items ≡ map (λ x. everything) (map connection_of connections.now)) }
 {
@@ -25,7 +25,7 @@ fn start_entries(alloc: Global, connections: &[Connection]) -> Result<Vec<Variab
     Ok(entries)
 }
 
-/// With which set a connection begins.
+/// The set with which a connection begins.
 fn entry_of(entries: &[VariableSet], number: usize) -> VariableSet
     ensures { result ≡ entry_at entries.now number }
 {
@@ -35,7 +35,7 @@ fn entry_of(entries: &[VariableSet], number: usize) -> VariableSet
     }
 }
 
-/// The JOINs of a connection. `sets` keeps its memory from one connection to the next.
+/// Meets the JOINs of a connection. `sets` keeps its memory from one connection to the next.
 fn meet_connection(
     sets: &mut Vec<VariableSet>,
     entries: &mut Vec<VariableSet>,
@@ -55,15 +55,15 @@ fn meet_connection(
     Ok(())
 }
 
-/// Whether these are all variables.
+/// Whether the set has every variable.
 fn is_everything(set: VariableSet) -> bool
     ensures { result ≡ true → set ≡ everything }
 {
     set.0 == u32::MAX
 }
 
-/// A connection that begins with every variable is passed over, since its JOINs change nothing: nothing joined it so far, or all
-/// variables are set at each JOIN to it.
+/// Passes over a connection that begins with every variable, since its JOINs change nothing: nothing joins it so far,
+/// or all variables are set at each JOIN to it.
 fn meet_if_joined(
     sets: &mut Vec<VariableSet>,
     entries: &mut Vec<VariableSet>,
@@ -83,7 +83,7 @@ fn meet_if_joined(
     meet_connection(sets, entries, names, copies, number)
 }
 
-/// The JOINs of all connections: each is joined only from those behind it in the order.
+/// Meets the JOINs of all connections. Each is joined only from those after it in the order.
 fn meet_connections(
     alloc: Global,
     entries: &mut Vec<VariableSet>,
@@ -105,7 +105,7 @@ fn meet_connections(
     Ok(())
 }
 
-/// The sets at the places of a connection.
+/// Adds the sets at the places of a connection.
 fn mark_connection(
     alloc: Global,
     sets: &mut Vec<VariableSet>,
@@ -126,7 +126,7 @@ fn mark_connection(
     Ok(())
 }
 
-/// The sets at the places of these connections, one behind another.
+/// Adds the sets at the places of these connections, one after another.
 fn mark_connections(
     alloc: Global,
     sets: &mut Vec<VariableSet>,
@@ -145,9 +145,9 @@ fn mark_connections(
     Ok(())
 }
 
-/// What comes with the code of a transition: INPUT's places, the variables that are set as it begins, an order of the
-/// process's connections in which each stands behind those that it joins, the copies of those connections, and which of them
-/// stand in the piece.
+/// The setting of the code of a transition: the places of INPUT and the variables that are set as it begins. `order`
+/// has each connection of the process after those that it joins, `copies` their copies, and `numbers` those that are in
+/// the piece.
 #[derive(Drop)]
 pub struct Standing<'a> {
     pub places: &'a [Option<Identifier>],
@@ -157,7 +157,7 @@ pub struct Standing<'a> {
     pub numbers: &'a [usize],
 }
 
-/// The variables that are set at each place of a piece.
+/// The variables that are set at each place of a piece. Fails only if memory runs out.
 pub fn place_sets(
     alloc: Global,
     names: &Names,

@@ -1,4 +1,4 @@
-//! What is claimed of the places of a piece.
+//! The facts about the places of a piece.
 ghost use Rattle.std.specs.Prelude.{◌≡◌, [], length, map, drop, IfOk, slice_get};
 ghost use Rattle.std.specs.Option.{option_to_list};
 ghost use Rattle.turn_code.specs.Transitions.{parameters_of};
@@ -15,7 +15,7 @@ use turn_code::{
     VariableNumber, VariableSet,
 };
 
-/// The sort of the variable with a number, if there is one.
+/// The sort of the variable with this number, if there is one.
 fn sort_at(variables: &[DraftVariable], variable: VariableNumber) -> Option<Sort>
     ensures { option_to_list result ≡ sorts_at variables.now variable.0 }
 {
@@ -32,8 +32,8 @@ fn parameter_count(signals: &[DraftSignal], signal: SignalNumber) -> usize
     }
 }
 
-/// What is said of each place but its operands: which variables are set, how many instructions may run from there on, and
-/// how many effects they may have.
+/// The facts about each place except its operands: the variables that are set, how many instructions may run from there
+/// on, and how many effects they may have.
 #[derive(Drop)]
 pub struct Marks<'a> {
     pub sets: &'a [VariableSet],
@@ -62,7 +62,7 @@ fn taken(signals: &[DraftSignal], variables: &[DraftVariable], instruction: Inst
     }
 }
 
-/// The sort of the operand that an instruction gives.
+/// The sort of the operand that an instruction puts, if it puts one.
 fn given(variables: &[DraftVariable], parameters: &[Sort], instruction: Instruction) -> Option<Sort>
     ensures { option_to_list result ≡ gives variables.now parameters.now instruction }
 {
@@ -82,7 +82,7 @@ fn given(variables: &[DraftVariable], parameters: &[Sort], instruction: Instruct
     }
 }
 
-/// A shape without so many of its topmost operands: empty where there are no more.
+/// A shape without its topmost `count` operands; empty if it has no more.
 fn without_first(shape: &[Sort], count: usize) -> &[Sort]
     ensures { result.now ≡ drop count shape.now }
 {
@@ -93,7 +93,7 @@ fn without_first(shape: &[Sort], count: usize) -> &[Sort]
     }
 }
 
-/// The shape that an instruction leaves.
+/// The shape after an instruction.
 fn next_shape(
     alloc: Global,
     signals: &[DraftSignal],
@@ -112,8 +112,8 @@ fn next_shape(
     Ok(next)
 }
 
-/// The facts of each place: the operands that are there, and what is said elsewhere of the variables that are set, the
-/// count and the effects.
+/// The facts about each place: the operands, and the variables that are set, the count and the effects as `marks` has
+/// them. Fails only if memory runs out.
 pub fn place_facts(
     alloc: Global,
     setting: &Setting,

@@ -1,4 +1,4 @@
-//! What is said of each place of a piece: operands, variables that are set, and what is counted from there on.
+//! The facts about each place of a piece: operands, variables that are set, and counts from there on.
 #![tactic(auto)]
 
 mod counts;

@@ -1,4 +1,4 @@
-//! Which variables are set at each place of a text, and which at the JOINs in it.
+//! The variables that are set at each place of a text, and at the JOINs in it.
 ghost use Rattle.std.specs.Prelude.{◌≡◌, [], ◌∷◌, ◌++◌, ◌&&◌, ◌||◌, IsSome, OnOk, IfOk};
 ghost use Rattle.sdl_ast.specs.Plain.{Text, falls};
 ghost use Rattle.sdl_ast.specs.Views.{text_of, statement_of, choice_of, else_choice};
@@ -20,7 +20,7 @@ use sdl_sound::{both, one_of};
 use std::alloc::AllocError;
 use turn_code::VariableSet;
 
-/// One JOIN more to a connection, at which these variables are set.
+/// Meets one more JOIN to a connection, at which these variables are set.
 fn meet_entry(entries: &mut Vec<VariableSet>, number: usize, set: VariableSet)
     ensures { entries.new.items ≡ met_at entries.old.items number set }
 {
@@ -29,7 +29,7 @@ fn meet_entry(entries: &mut Vec<VariableSet>, number: usize, set: VariableSet)
     }
 }
 
-/// One JOIN more, where the sets of connections are asked for: its connection is looked up only there.
+/// Meets one more JOIN, if there are entries for connections. Only then it looks up the connection.
 #[tactic(auto, using(crate::proofs::Unchanged::none_met))]
 fn meet_join(entries: &mut Vec<VariableSet>, names: &Names, join: &Join, set: VariableSet)
     requires { IsSome (connector_at (scope_in names.now) join.now.connector) }
@@ -40,7 +40,7 @@ fn meet_join(entries: &mut Vec<VariableSet>, names: &Names, join: &Join, set: Va
     }
 }
 
-/// Nothing is behind an end.
+/// Adds the set at an end. Nothing follows an end.
 fn mark_end(
     sets: &mut Vec<VariableSet>,
     entries: &mut Vec<VariableSet>,
@@ -60,14 +60,14 @@ fn mark_end(
     Ok(everything())
 }
 
-/// What is behind a text: the variables that are set there, and whether the text may run off its end.
+/// The end of a text: the variables that are set there, and whether the text may run off its end.
 #[derive(Clone, Copy)]
 pub(crate) struct Behind {
     set: VariableSet,
     goes_on: bool,
 }
 
-/// A body with the jump that ends it where it goes on.
+/// Adds the sets of a body and, if it goes on, of its jump.
 #[cycle(marks)]
 fn mark_body(
     sets: &mut Vec<VariableSet>,
@@ -89,7 +89,7 @@ fn mark_body(
     Ok(behind)
 }
 
-/// The body of ELSE, if there is one, and what is behind it.
+/// Adds the sets of the body of ELSE, if there is one. Returns what is set after it.
 #[cycle(marks)]
 fn mark_else(
     sets: &mut Vec<VariableSet>,
@@ -113,7 +113,7 @@ fn mark_else(
     }
 }
 
-/// The bodies of the answers, and what is behind all of them.
+/// Adds the sets of the bodies of the answers. Returns what is set after all of them.
 #[cycle(marks)]
 fn mark_answers(
     sets: &mut Vec<VariableSet>,
@@ -141,7 +141,7 @@ fn mark_answers(
     })
 }
 
-/// What is behind a DECISION, from what is behind its answers and behind ELSE.
+/// What is set after a DECISION, from what is set after its answers and after ELSE.
 fn behind_all(answered: Behind, otherwise: Behind) -> Behind
     ensures set { result.set ≡ meet answered.set otherwise.set }
     ensures goes { result.goes_on ≡ (answered.goes_on || otherwise.goes_on) }
@@ -152,7 +152,7 @@ fn behind_all(answered: Behind, otherwise: Behind) -> Behind
     }
 }
 
-/// A DECISION, and what is behind it.
+/// Adds the sets of a DECISION. Returns what is set after it.
 #[cycle(marks)]
 fn mark_decision(
     sets: &mut Vec<VariableSet>,
@@ -181,7 +181,7 @@ fn mark_decision(
     }
 }
 
-/// One statement, alone, and what is behind it.
+/// Adds the sets of one statement. Returns what is set after it.
 #[cycle(marks)]
 fn mark_statement(
     sets: &mut Vec<VariableSet>,
@@ -205,8 +205,8 @@ fn mark_statement(
     }
 }
 
-/// The sets at each place of a transition that begins with this one, and what is behind it. The set
-/// of each connection that it joins is cut down to what is set there.
+/// Adds the sets at each place of a transition that begins with `set`. Returns what is set after it. Cuts the set of
+/// each connection that it joins down to what is set there.
 #[cycle(marks)]
 pub(crate) fn mark_text(
     sets: &mut Vec<VariableSet>,

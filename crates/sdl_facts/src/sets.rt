@@ -1,4 +1,4 @@
-//! The set of variables that are set, at each instruction of an action, of the tests of a DECISION and of INPUT's places.
+//! The variables that are set at each instruction of an action, of the tests of a DECISION and of the places of INPUT.
 ghost use Rattle.std.specs.Prelude.{◌≡◌, ◌<◌, [], ◌∷◌, ◌++◌, OnOk, IfOk, map};
 ghost use Rattle.sdl_ast.specs.Views.{tree_of, assignment_of, sending_of, action_of, choice_of};
 ghost use Rattle.sdl_sound.specs.Longest.{is_division};
@@ -29,7 +29,7 @@ pub(crate) fn meet(one: VariableSet, other: VariableSet) -> VariableSet
     VariableSet(one.0 & other.0)
 }
 
-/// The set with a variable in it too.
+/// The set with one more variable.
 fn with(set: VariableSet, variable: VariableNumber) -> VariableSet
     requires { variable.0 < MOST_VARIABLES }
     ensures { result ≡ with_variable set variable.0 }
@@ -37,7 +37,7 @@ fn with(set: VariableSet, variable: VariableNumber) -> VariableSet
     VariableSet(set.0 | (1 << variable.0))
 }
 
-/// The set at one instruction more.
+/// Adds the set of one more instruction.
 pub(crate) fn mark(sets: &mut Vec<VariableSet>, set: VariableSet) -> Result<(), AllocError>
     ensures { OnOk result (sets.new.items ≡ sets.old.items ++ set ∷ []) }
 {
@@ -45,7 +45,7 @@ pub(crate) fn mark(sets: &mut Vec<VariableSet>, set: VariableSet) -> Result<(), 
     Ok(())
 }
 
-/// The set is the same at each instruction of an expression.
+/// Adds the sets of an expression: the same set at each instruction.
 pub(crate) fn mark_expression(
     sets: &mut Vec<VariableSet>,
     expression: &Expression,
@@ -78,7 +78,7 @@ pub(crate) fn mark_expression(
     }
 }
 
-/// The set is the same at each instruction of the parameters of a signal.
+/// Adds the sets of the parameters of a signal: the same set at each instruction.
 fn mark_parameters(
     sets: &mut Vec<VariableSet>,
     parameters: &[Expression],
@@ -92,7 +92,7 @@ fn mark_parameters(
     Ok(())
 }
 
-/// The set is the same at each instruction of sendings.
+/// Adds the sets of sendings: the same set at each instruction.
 fn mark_sendings(
     sets: &mut Vec<VariableSet>,
     sendings: &[Sending],
@@ -107,7 +107,7 @@ fn mark_sendings(
     Ok(())
 }
 
-/// The sets at assignments, and the one behind them.
+/// Adds the sets of assignments. Returns the set after them.
 fn mark_assignments(
     sets: &mut Vec<VariableSet>,
     names: &Names,
@@ -127,7 +127,7 @@ fn mark_assignments(
     Ok(set)
 }
 
-/// The sets at an action, and the one behind it.
+/// Adds the sets of an action. Returns the set after it.
 pub(crate) fn mark_action(
     sets: &mut Vec<VariableSet>,
     names: &Names,
@@ -156,7 +156,7 @@ pub(crate) fn mark_action(
     }
 }
 
-/// A test for each range.
+/// Adds the sets of the tests, one for each range.
 fn mark_ranges(
     sets: &mut Vec<VariableSet>,
     ranges: &[Range],
@@ -170,7 +170,7 @@ fn mark_ranges(
     Ok(())
 }
 
-/// The tests of an Integer DECISION, and the drop before ELSE.
+/// Adds the sets of the tests of an Integer DECISION, and of the drop before ELSE.
 pub(crate) fn mark_tests(
     sets: &mut Vec<VariableSet>,
     decision: &Decision,
@@ -187,7 +187,7 @@ pub(crate) fn mark_tests(
     }
 }
 
-/// INPUT's places, each with a name fetches its parameter and stores it; and the set behind them.
+/// Adds the sets of the places of INPUT: a named place loads a parameter and stores it. Returns the set after them.
 pub(crate) fn mark_places(
     sets: &mut Vec<VariableSet>,
     names: &Names,

@@ -1,13 +1,12 @@
-//! What the transitions of a process come with.
+//! The setting of the transitions of a process.
 
 use sdl_ast::Transition;
 use sdl_emit::{Measure, Names};
 use turn_code::{DraftSignal, DraftVariable, Sort, VariableSet};
 
-/// What comes with a transition: the names that it may use, its process's variables, its block's
-/// signals, the sorts of its parameters, the variables that are set as it begins, its process's
-/// connections in an order in which each stands behind all that it joins, what they measure, and
-/// their copies.
+/// The setting of a transition: the names that may occur, the variables of the process, the signals of the block, the
+/// sorts of the parameters, and the variables set as it begins. `order` has each connection of the process after those
+/// that it joins; `measures` and `copies` are those of the connections.
 #[derive(Drop)]
 pub struct Setting<'a> {
     pub names: &'a Names<'a>,

@@ -1,4 +1,4 @@
-//! What is counted at each place of a piece.
+//! The counts at each place of a piece.
 ghost use Rattle.std.specs.Prelude.{◌≡◌, ℕ, ◌<◌, ◌≤◌, length as length_of, replicate, All, Contains, IfOk};
 ghost use Rattle.sdl_ast.specs.Views.{text_of};
 ghost use Rattle.sdl_facts.specs.declared.counts.Counted.TheVariants.{Instructions, Effects};
@@ -24,14 +24,14 @@ pub struct Counts {
     pub effects: Vec<u32>,
 }
 
-/// The connections that stand in a piece, and the place of each.
+/// The connections in a piece, and the place of each.
 #[derive(Drop)]
 pub struct Layout<'a> {
     pub numbers: &'a [usize],
     pub targets: &'a [usize],
 }
 
-/// What a connection is known to count.
+/// The known count of a connection.
 fn measured(counted: Counted, measures: &[Measure], number: usize) -> u32
     ensures { result ≡ measured counted measures.now number }
 {
@@ -44,7 +44,7 @@ fn measured(counted: Counted, measures: &[Measure], number: usize) -> u32
     }
 }
 
-/// The place of the connection with a number; 0 where none is known.
+/// The place of the connection with this number; 0 if none is known.
 fn target(targets: &[usize], number: usize) -> usize
     ensures { result ≡ places_by targets.now number }
 {
@@ -54,7 +54,7 @@ fn target(targets: &[usize], number: usize) -> usize
     }
 }
 
-/// What the connections count, each at its place; 0 elsewhere.
+/// The counts of the connections, each at its place; 0 elsewhere.
 fn known_counts(
     alloc: Global,
     measures: &[Measure],
@@ -76,7 +76,7 @@ fn known_counts(
     Ok(known)
 }
 
-/// One count of each place of a piece.
+/// One count for each place of a piece.
 fn count_piece(
     alloc: Global,
     setting: &Setting,
@@ -99,7 +99,7 @@ fn count_piece(
     Ok(count_places(counted, code, known))
 }
 
-/// What is counted at each place of a piece.
+/// The counts at each place of a piece: instructions and effects. Fails only if memory runs out.
 pub fn piece_counts(
     alloc: Global,
     setting: &Setting,

@@ -4,7 +4,7 @@ use Rattle.std.proofs.lemmas.List.{drop_more, map_push}
 use Rattle.turn_code.specs.declared.draft.PlaceFacts.{PlaceFacts}
 use Rattle.sdl_facts.proofs.facts.place_facts.Goals as goal
 
--- one place more: what is said of it is the next of what was said elsewhere
+-- One more place: its fact is the next of those given.
 one_more : {A B : Type 0} (read : A → B) (old new : List A) (x : A) (said all : List B) (k : ℕ) (d : B) → new ≡ old ++ x ∷ [] → k < length said → read x ≡ get_or said k d
     → map read old ++ drop k said ≡ all → map read new ++ drop (k + 1) said ≡ all
 one_more read old new x said all k d more lt is before =
