@@ -1,4 +1,4 @@
--- A drawing of a process, put together.
+-- The drawing of a process, composed of its pieces.
 use Rattle.std.proofs.Common.{◌≡◌, ◌∙◌, ℕ, true, List, [], ◌∷◌, map, refl, ap}
 use Rattle.draw_text.specs.Plain.{PlainBlock, PlainProcess}
 use Rattle.draw_sets.specs.declared.frames.Line.{Line}

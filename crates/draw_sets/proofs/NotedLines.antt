@@ -1,4 +1,4 @@
--- Lines with what is said below each of them.
+-- Lines with notes below each of them.
 use Rattle.std.proofs.Common.{◌≡◌, refl, ◌∙◌, ℕ, ◌+◌, ◌<◌, ◌≤◌, ◌==◌, Bool, true, false, List, [], ◌∷◌, ◌++◌, length, drop, get_or, sym, ap, codes, append_assoc, append-nil}
 use Rattle.std.specs.List.{flat_map}
 use Rattle.std.proofs.lemmas.List.{at_drop_more, flat_map_more, drop_all}
@@ -17,7 +17,7 @@ indented_more begins next lines out new all i d within is grown h =
     ∙ (append_assoc out (spaced begins b) (indented (b == 10) rest)
     ∙ (ap (λ y. out ++ y) (sym (at_drop_more (indented begins) lines i d within)) ∙ h)))
 
--- at the end of the lines: behind an end, or behind the last line, whose end comes
+-- ---- at the end of the lines: after a line end, or after a last line that lacks its end
 
 pub indented_whole : (begins : Bool) (lines out all : List ℕ) (i : ℕ) → length lines ≤ i → begins ≡ true → out ++ indented begins (drop i lines) ≡ all → out ≡ all
 indented_whole begins lines out all i past is h =
@@ -28,7 +28,7 @@ pub indented_closed : (begins : Bool) (lines out new all : List ℕ) (i : ℕ) �
 indented_closed begins lines out new all i past is grown h =
     grown ∙ (ap (λ x. out ++ indented x []) (sym is) ∙ (ap (λ x. out ++ indented begins x) (sym (drop_all i lines past)) ∙ h))
 
--- a line, its end, and what is said below it, one after another
+-- a line, its end, and the notes below it, one after another
 pub below : (old line notes one two new : List ℕ) → one ≡ old ++ line → two ≡ one ++ 10 ∷ [] → new ≡ two ++ indented true notes → IsBelow old line new
 below old line notes one two new first second third = record {
   notes = notes;
@@ -37,7 +37,7 @@ below old line notes one two new first second third = record {
       ∙ (append_assoc (old ++ line) (10 ∷ []) (indented true notes) ∙ append_assoc old line (10 ∷ indented true notes)));
 }
 
--- ---- what stands in one line
+-- ---- bytes within one line
 
 pub none_in_line : (line : List ℕ) → line ≡ [] → All IsInLine line
 none_in_line line none = All-same IsInLine line [] none (All-nil IsInLine)
@@ -121,7 +121,7 @@ ended all rest line shown text new done same h is = record {
   written = is ∙ (ap (λ x. text ++ x) same ∙ ap (λ x. x ++ line) h.written);
 }
 
--- lines alone, with nothing said of them
+-- lines without notes
 pub unnoted : (lines : List ℕ) → AreNoted lines lines
 unnoted lines = record {
   behind = lines;

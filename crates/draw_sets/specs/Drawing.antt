@@ -1,4 +1,4 @@
--- The drawing of a process: its parts with their places, of which no two overlap, in SVG.
+-- The drawing of a process in SVG: its parts with their places, no two of which overlap.
 use Rattle.std.specs.Prelude.{◌≡◌, ℕ, ◌+◌, ◌==◌, Bool, true, ◌&&◌, ◌||◌, nat_le, List, []}
 use Rattle.std.specs.Prelude.{◌∷◌, ◌++◌, map, codes, if◌then◌else◌}
 use Rattle.std.specs.List.{flat_map, list_all}
@@ -27,25 +27,25 @@ place_drawn d = d.place
 
 -- ---- places
 
--- a stretch ends where another one begins, or before it
+-- the stretch ends at or before the start of another one
 abbrev pub ends_before : ℕ → ℕ → ℕ → Bool
 ends_before start length other = nat_le (start + length) other
 
--- two places have no point in common but at their edges; what has no width has no points
+-- two places share no point except on their edges; a place of no width has no points
 abbrev pub are_apart : Placed → Placed → Bool
 are_apart p q =
     p.width == 0 || q.width == 0
     || ends_before p.left p.width q.left || ends_before q.left q.width p.left
     || ends_before p.top p.height q.top || ends_before q.top q.height p.top
 
--- each two of these places are apart
+-- every two of these places are apart
 abbrev pub all_apart : List Placed → Bool
 all_apart [] = true
 all_apart (p ∷ places) = list_all (are_apart p) places && all_apart places
 
 -- ---- SVG
 
--- a symbol with what is written in it
+-- a symbol with the words written in it
 unfoldable pub drawn_text : PlainDrawn → List ℕ
 drawn_text d =
     if is_symbol d.part.kind
@@ -58,7 +58,7 @@ unfoldable pub view_text : ℕ → ℕ → List ℕ
 view_text across along =
     numbered (codes "\" viewBox=\"0 0 ") across ++ numbered (codes " ") along ++ codes "\">\n"
 
--- how large the page is
+-- the size of the page
 unfoldable pub head_text : ℕ → ℕ → List ℕ
 head_text across along =
     svg_text ++ numbered (codes " width=\"") across ++ numbered (codes "\" height=\"") along
@@ -73,14 +73,14 @@ title_style = codes "<text class=\"title\" x=\"20\" y=\"26\">PROCESS "
 unfoldable pub title_text : List ℕ → List ℕ
 title_text process = page_text ++ title_style ++ process ++ codes "</text>\n"
 
--- the lines first, then the symbols
+-- a drawing's text: the lines first, then the symbols
 abbrev pub drawing_text : List ℕ → List ℕ → ℕ → ℕ → List Line → List PlainDrawn → List ℕ
 drawing_text style process across along lines drawn =
     head_text across along ++ style ++ title_text process ++ flat_map line_text lines
     ++ flat_map drawn_text drawn ++ codes "</svg>\n"
 
--- The bytes are a drawing of the process: of exactly its parts, in their order, no two of which
--- overlap, with some lines on a page of some size.
+-- The bytes are a drawing of the process: exactly its parts, in their order, no two of which
+-- overlap, and some lines, on a page of some size.
 pub record IsDrawing (b : PlainBlock) (p : PlainProcess) (bytes : List ℕ) : Type 0 where
   pub drawn : List PlainDrawn
   pub lines : List Line

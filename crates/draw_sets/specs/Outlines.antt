@@ -1,4 +1,4 @@
--- Symbols as SDL-GR has them (Z.100), and lines, in SVG.
+-- Symbols as SDL-GR draws them (Z.100), and lines, in SVG.
 use Rattle.std.specs.Prelude.{ℕ, ◌/◌, ◌-◌, ◌==◌, List, [], ◌++◌, codes, if◌then◌else◌}
 use Rattle.std.specs.List.{flat_map}
 use Rattle.std.specs.Fmt.{decimal}
@@ -21,14 +21,14 @@ box_text head p round =
     ++ numbered (codes "\" width=\"") p.width ++ numbered (codes "\" height=\"") p.height
     ++ numbered (codes "\" rx=\"") round ++ codes "\"/>\n"
 
--- a notch on the right
+-- a box with a notch on its right side
 abbrev pub input_text : Placed → List ℕ
 input_text p =
     corner_text (codes "<path class=\"input\" d=\"") p ++ numbered (codes "h") p.width
     ++ numbered (codes "l-10 ") (p.height / 2) ++ numbered (codes "l10 ") (p.height / 2)
     ++ numbered (codes "h-") p.width ++ codes "z\"/>\n"
 
--- a point on the right of a box that is so wide
+-- a box of this width, with a point on its right side
 unfoldable pub pointed_text : Placed → ℕ → List ℕ
 pointed_text p across =
     corner_text (codes "<path class=\"output\" d=\"") p ++ numbered (codes "h") across
@@ -38,31 +38,31 @@ pointed_text p across =
 abbrev pub output_text : Placed → List ℕ
 output_text p = pointed_text p (p.width - 10)
 
--- a box that leans
+-- a box with slanted sides
 abbrev pub save_text : Placed → List ℕ
 save_text p =
     corner_text (codes "<path class=\"save\" d=\"") p ++ numbered (codes "l10 ") p.height
     ++ numbered (codes "h") (p.width - 10) ++ numbered (codes "l-10 -") p.height
     ++ codes "z\"/>\n"
 
--- the upper sides of a box on a corner
+-- the upper sides of a box that stands on a corner
 unfoldable pub upper_text : Placed → List ℕ
 upper_text p =
     corner_text (codes "<path class=\"question\" d=\"") p ++ numbered (codes "m0 ") (p.height / 2)
     ++ numbered (codes "l") (p.width / 2) ++ numbered (codes " -") (p.height / 2)
 
--- its lower sides
+-- the lower sides of a box that stands on a corner
 unfoldable pub lower_text : Placed → List ℕ
 lower_text p =
     numbered (codes "l") (p.width / 2) ++ numbered (codes " ") (p.height / 2)
     ++ numbered (codes "l-") (p.width / 2) ++ numbered (codes " ") (p.height / 2)
     ++ codes "z\"/>\n"
 
--- a box on a corner
+-- a box that stands on a corner
 abbrev pub question_text : Placed → List ℕ
 question_text p = upper_text p ++ lower_text p
 
--- two lines that cross
+-- two crossed lines
 abbrev pub stop_text : Placed → List ℕ
 stop_text p =
     corner_text (codes "<path class=\"stop\" d=\"") p ++ numbered (codes "l") p.width
@@ -93,13 +93,13 @@ outline_text kinds.Fork p = []
 outline_text kinds.Branch p = []
 outline_text kinds.Meet p = []
 
--- a byte of what is written, as an entity where it has to be one; at a line feed the next line
+-- a byte of the words in a symbol, as an entity if needed; a line feed begins a new line
 abbrev pub letter : ℕ → ℕ → List ℕ
 letter middle b =
     if b == 10 then numbered (codes "</tspan><tspan x=\"") middle ++ codes "\" dy=\"14\">"
     else entity b
 
--- what is written in a symbol
+-- the words written in a symbol
 abbrev pub written_text : Placed → List ℕ → List ℕ
 written_text p bytes =
     numbered (codes "<text y=\"") p.base ++ numbered (codes "\"><tspan x=\"") p.middle

@@ -6,14 +6,14 @@ ghost use Rattle.draw_sets.specs.Drawing.{ends_before, are_apart, all_apart, pla
 use crate::frames::Placed;
 use crate::layout::Drawn;
 
-/// Whether a stretch ends where another one begins, or before it.
+/// Whether a stretch ends at or before the start of another one.
 fn ends_before(start: u32, length: u32, other: u32) -> bool
     ensures { result ≡ nat_le (start + length) other }
 {
     u64::from(start) + u64::from(length) <= u64::from(other)
 }
 
-/// Whether two places have no point in common but at their edges.
+/// Whether two places share no point except on their edges.
 fn are_apart(one: &Placed, other: &Placed) -> bool
     ensures { result ≡ are_apart one.now other.now }
 {
@@ -37,7 +37,7 @@ fn is_apart_from(one: &Placed, others: &[Drawn<'_>]) -> bool
     true
 }
 
-/// Whether each two places are apart.
+/// Whether every two places are apart.
 pub(crate) fn all_apart(drawn: &[Drawn<'_>]) -> bool
     ensures { result ≡ all_apart (map place_drawn drawn.now) }
 {

@@ -1,11 +1,11 @@
-//! A line, and lines below it, which stand further in.
+//! A line, and indented lines below it.
 ghost use Rattle.std.specs.Prelude.{◌≡◌, ◌++◌, true, All, OnOk};
 ghost use Rattle.draw_sets.specs.Noting.{spaced, indented, IsBelow, IsInLine};
 
 use draw_text::push_bytes;
 use std::alloc::AllocError;
 
-/// A byte of a line, with four spaces in front where the line begins with it.
+/// Appends a byte of a line, with four spaces before it if it begins the line.
 fn push_spaced(text: &mut Vec<u8>, begins: bool, byte: u8) -> Result<(), AllocError>
     ensures { OnOk result (text.new.items ≡ text.old.items ++ spaced begins byte) }
 {
@@ -18,7 +18,7 @@ fn push_spaced(text: &mut Vec<u8>, begins: bool, byte: u8) -> Result<(), AllocEr
     Ok(())
 }
 
-/// Lines behind what is there, each with four spaces in front; the last one gets an end.
+/// Appends lines to `text`, each with four spaces before it; the last one gets an end.
 fn push_indented(text: &mut Vec<u8>, lines: &[u8]) -> Result<(), AllocError>
     ensures { OnOk result (text.new.items ≡ text.old.items ++ indented true lines.now) }
 {
@@ -34,7 +34,7 @@ fn push_indented(text: &mut Vec<u8>, lines: &[u8]) -> Result<(), AllocError>
     Ok(())
 }
 
-/// A line, and lines below it.
+/// Appends a line, and notes below it.
 pub(crate) fn push_below(text: &mut Vec<u8>, line: &[u8], notes: &[u8]) -> Result<(), AllocError>
     ensures { OnOk result (IsBelow text.old.items line.now text.new.items) }
 {
@@ -44,7 +44,7 @@ pub(crate) fn push_below(text: &mut Vec<u8>, line: &[u8], notes: &[u8]) -> Resul
     Ok(())
 }
 
-/// A byte behind what is there, if it ends no line.
+/// Appends a byte to `text`, if it ends no line.
 fn push_in_line(text: &mut Vec<u8>, byte: u8) -> Result<(), AllocError>
     ensures { OnOk result (All IsInLine text.old.items → All IsInLine text.new.items) }
 {
@@ -54,7 +54,7 @@ fn push_in_line(text: &mut Vec<u8>, byte: u8) -> Result<(), AllocError>
     Ok(())
 }
 
-/// The bytes of a name behind what is there.
+/// Appends the bytes of a name to `text`.
 pub(crate) fn push_name(text: &mut Vec<u8>, name: &[u8]) -> Result<(), AllocError>
     ensures { OnOk result (All IsInLine text.old.items → All IsInLine text.new.items) }
 {

@@ -12,7 +12,7 @@ use std::alloc::Global;
 use std::io::{Read, Write};
 use std::str;
 
-/// Draws a picture of a block, which is sound.
+/// Draws a picture of a sound block. Returns the exit status.
 fn draw_tree<W: Write>(alloc: Global, block: &Block, picture: &Picture<'_>, writer: &mut W) -> u8
     ensures { (result ≡ 0) ⊎ (result ≡ 2) ⊎ (result ≡ 4) }
 {
@@ -22,7 +22,7 @@ fn draw_tree<W: Write>(alloc: Global, block: &Block, picture: &Picture<'_>, writ
     }
 }
 
-/// Draws a picture of the block of a text that is accepted.
+/// Draws a picture of the block of an accepted text. Returns the exit status.
 fn draw_accepted<W: Write>(alloc: Global, text: &str, picture: &Picture<'_>, writer: &mut W) -> u8
     ensures { (result ≡ 0) ⊎ (result ≡ 2) ⊎ (result ≡ 4) }
 {
@@ -35,7 +35,7 @@ fn draw_accepted<W: Write>(alloc: Global, text: &str, picture: &Picture<'_>, wri
     }
 }
 
-/// Draws a picture of the set of a text, or says why it is refused.
+/// Draws a picture of the block of a text, or writes why the text is refused. Returns the exit status.
 fn draw_from_text<W: Write>(alloc: Global, text: &str, picture: &Picture<'_>, writer: &mut W) -> u8
     ensures { (result ≡ 0) ⊎ (result ≡ 2) ⊎ (result ≡ 4) }
 {
@@ -45,7 +45,7 @@ fn draw_from_text<W: Write>(alloc: Global, text: &str, picture: &Picture<'_>, wr
     }
 }
 
-/// Draws a picture of the set of a text that was read, or says why it is refused.
+/// Draws a picture of the block of a text that was read, or writes why it is refused. Returns the exit status.
 fn draw_read<W: Write>(alloc: Global, read: &TextRead, picture: &Picture<'_>, writer: &mut W) -> u8
     ensures { (result ≡ 0) ⊎ (result ≡ 2) ⊎ (result ≡ 4) }
 {
@@ -65,10 +65,10 @@ fn draw_read<W: Write>(alloc: Global, read: &TextRead, picture: &Picture<'_>, wr
     }
 }
 
-/// Draws a picture of a set, or of one of its processes, in one write. The text is read whole before anything is written.
-///
-/// Gives the exit status: 0 where the picture was written; 2 after a line `refused CODE Name ..` alone, where the text is refused, as
-/// `check` prints it, or `refused B10 NoActor` where no process has that name; 4 where memory, a read or a write fails.
+/// Draws a picture of a process set, or of one of its processes, in one write. It reads the whole text before it
+/// writes.  Returns the exit status. 0: the picture was written. 2: only a line was written: `refused CODE Name ..` as
+/// `check` prints it, or `refused B10 NoActor` if no process has that name. 4: out of memory, or a read or write
+/// failed.
 pub fn draw<R: Read + Drop, W: Write>(
     alloc: Global,
     set: SetWord<R>,

@@ -1,12 +1,12 @@
-//! Columns and forks as they are laid out, with the lines between symbols.
+//! The layout of columns and forks, with the lines between symbols.
 use crate::measures::{ANSWER_GAP, COLUMN_GAP, Extent, ROW_GAP};
 use crate::page::Page;
 use crate::sizes::{Size, size_of_part};
 use draw_text::{Kind, Part};
 use std::alloc::{AllocError, Global};
 
-/// Where a symbol stands: its box, the middle between its left and its right, and the base of its first line. What isn't a symbol has no
-/// width.
+/// The place of a symbol: its box, its horizontal middle, and the baseline of its first line of text. A part that is no
+/// symbol has no width.
 #[derive(Clone, Copy, Debug, PartialEq, Eq)]
 pub struct Placed {
     pub left: u32,
@@ -17,7 +17,7 @@ pub struct Placed {
     pub base: u32,
 }
 
-/// Where what isn't a symbol stands.
+/// The place of a part that is no symbol.
 const NOWHERE: Placed = Placed {
     left: 0,
     top: 0,
@@ -41,7 +41,7 @@ pub struct Line {
 struct Column {
     axis: u32,
     y: u32,
-    /// Whether something goes on from there.
+    /// Whether the column goes on from there.
     is_open: bool,
 }
 
@@ -50,21 +50,21 @@ struct Column {
 struct Fork {
     /// The axis of the column that forks.
     axis: u32,
-    /// Where the next branch begins.
+    /// The x coordinate where the next branch begins.
     next: u32,
-    /// Where branches part, and where they meet.
+    /// The y coordinates where the branches part and where they meet.
     rail: u32,
     meet: u32,
-    /// From where to where they part.
+    /// The range of x coordinates over which they part.
     low: u32,
     high: u32,
-    /// From where to where they meet, and whether some do.
+    /// The range of x coordinates over which they meet, and whether any do.
     meet_low: u32,
     meet_high: u32,
     meets: bool,
 }
 
-/// A fork of nothing.
+/// A fork without branches.
 const NO_FORK: Fork = Fork {
     axis: 0,
     next: 0,
@@ -77,7 +77,7 @@ const NO_FORK: Fork = Fork {
     meets: false,
 };
 
-/// What is laid out so far.
+/// The layout so far.
 #[derive(Drop)]
 pub(crate) struct Frames {
     page: Page,
@@ -87,7 +87,7 @@ pub(crate) struct Frames {
     lines: Vec<Line>,
 }
 
-/// Whether a column goes on behind a symbol.
+/// Whether a column goes on after a symbol.
 fn goes_on(kind: Kind) -> bool {
     match kind {
         Kind::NextState | Kind::Join | Kind::Stop | Kind::Save => false,
@@ -96,7 +96,7 @@ fn goes_on(kind: Kind) -> bool {
 }
 
 impl Frames {
-    /// Nothing is laid out.
+    /// An empty layout.
     pub(crate) fn new(alloc: Global) -> Frames {
         Frames {
             page: Page::new(),
@@ -111,7 +111,7 @@ impl Frames {
         }
     }
 
-    /// The lines, and how wide and how high the page is.
+    /// The lines, and the width and the height of the page.
     pub(crate) fn into_parts(self) -> (Vec<Line>, u32, u32) {
         let Frames {
             page,
@@ -123,7 +123,7 @@ impl Frames {
         (lines, page.across(), page.along())
     }
 
-    /// A line down the axis of the column, if something goes on there.
+    /// Adds a line down the axis of the column, if the column goes on there.
     fn go_down(&mut self, to_y: u32) -> Result<(), AllocError> {
         let Column { axis, y, is_open } = self.column;
         if is_open {
@@ -137,7 +137,7 @@ impl Frames {
         Ok(())
     }
 
-    /// A line across.
+    /// Adds a horizontal line.
     fn go_across(&mut self, y: u32, from: u32, to: u32) -> Result<(), AllocError> {
         self.lines.push(Line {
             x: from,
@@ -148,7 +148,7 @@ impl Frames {
         Ok(())
     }
 
-    /// The column forks.
+    /// Begins a fork of the column.
     fn begin_fork(&mut self, extent: Extent) -> Result<(), AllocError> {
         let Column { axis, y, .. } = self.column;
         let rail = y.saturating_add(ROW_GAP);
@@ -169,7 +169,7 @@ impl Frames {
         Ok(())
     }
 
-    /// The branch ends where it meets the others, if something goes on there.
+    /// Ends a branch where it meets the others, if it goes on there.
     fn end_branch(&mut self) -> Result<(), AllocError> {
         self.go_down(self.fork.meet)?;
         if self.column.is_open {
@@ -180,7 +180,7 @@ impl Frames {
         Ok(())
     }
 
-    /// The next branch begins.
+    /// Begins the next branch.
     fn begin_branch(&mut self, extent: Extent) -> Result<(), AllocError> {
         self.end_branch()?;
         let axis = self.fork.next.saturating_add(extent.left);
@@ -195,7 +195,7 @@ impl Frames {
         Ok(())
     }
 
-    /// The branches meet.
+    /// Joins the branches of a fork.
     fn end_fork(&mut self) -> Result<(), AllocError> {
         self.end_branch()?;
         let fork = self.fork;
@@ -212,7 +212,7 @@ impl Frames {
         Ok(())
     }
 
-    /// A symbol below what stands in the column.
+    /// Puts a symbol below the last one of the column.
     fn put_symbol(&mut self, kind: Kind, size: Size) -> Result<Placed, AllocError> {
         let gap = match kind {
             Kind::Answer => ANSWER_GAP,
@@ -232,7 +232,7 @@ impl Frames {
         })
     }
 
-    /// A part behind those that are laid out, with the room that it takes. Gives its place.
+    /// Lays out the next part, with the room that it takes. Returns its place.
     pub(crate) fn put(&mut self, part: &Part, extent: Extent) -> Result<Placed, AllocError> {
         match part.kind {
             Kind::Fork => {

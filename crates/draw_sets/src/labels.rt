@@ -1,17 +1,17 @@
-//! Ways as lines of labels.
+//! Ways as the lines of labels.
 use crate::nodes::Gone;
 use draw_text::{Kind, Part, push_bytes, push_escaped};
 use std::alloc::{AllocError, Global};
 
-/// How many characters a line has before it is broken.
+/// The number of characters after which a line is broken.
 const MOST_CHARACTERS: usize = 34;
 
-/// How a word looks.
+/// The style of a word.
 #[derive(Clone, Copy)]
 pub(crate) enum Look {
-    /// What an INPUT takes.
+    /// The stimuli of an INPUT.
     Input,
-    /// What an INPUT takes that has no effect.
+    /// The stimuli of an INPUT whose transition has no effect.
     Quiet,
     /// A question with an answer.
     Guard,
@@ -23,7 +23,7 @@ pub(crate) enum Look {
     Save,
 }
 
-/// What stands before a word.
+/// The markup before a word.
 fn opening(look: Look) -> &'static [u8] {
     match look {
         Look::Input => b"<b>",
@@ -35,7 +35,7 @@ fn opening(look: Look) -> &'static [u8] {
     }
 }
 
-/// What stands behind a word.
+/// The markup after a word.
 fn closing(look: Look) -> &'static [u8] {
     match look {
         Look::Input => b"</b>",
@@ -49,7 +49,7 @@ fn closing(look: Look) -> &'static [u8] {
 #[derive(Drop)]
 pub(crate) struct Label {
     text: Vec<u8>,
-    /// How many characters the line has.
+    /// The number of characters on the current line.
     used: usize,
 }
 
@@ -62,23 +62,23 @@ impl Label {
         }
     }
 
-    /// What is written.
+    /// The text written so far.
     pub(crate) fn as_bytes(&self) -> &[u8] {
         &self.text
     }
 
-    /// Whether nothing is written.
+    /// Whether nothing is written yet.
     pub(crate) fn is_empty(&self) -> bool {
         self.text.len() == 0
     }
 
-    /// The line ends.
+    /// Ends the line.
     pub(crate) fn end_line(&mut self) -> Result<(), AllocError> {
         self.used = 0;
         push_bytes(&mut self.text, b"<br align=\"left\"/>")
     }
 
-    /// Room for a word, in the next line where this one has none.
+    /// Makes room for a word, on the next line if this one has none.
     fn make_room(&mut self, count: usize) -> Result<(), AllocError> {
         if self.used == 0 {
             return Ok(());
@@ -90,7 +90,7 @@ impl Label {
         push_bytes(&mut self.text, b"&#160;&#160;")
     }
 
-    /// A word behind what is there.
+    /// Appends a word.
     fn word(&mut self, look: Look, word: &[u8]) -> Result<(), AllocError> {
         if word.len() == 0 {
             return Ok(());
@@ -102,7 +102,7 @@ impl Label {
         push_bytes(&mut self.text, closing(look))
     }
 
-    /// The lines of a text behind what is there, each as a word.
+    /// Appends the lines of a text, each as a word.
     fn words(&mut self, look: Look, lines: &[u8]) -> Result<(), AllocError> {
         let mut from: usize = 0;
         for (index, byte) in lines.iter().enumerate() {
@@ -120,7 +120,7 @@ impl Label {
     }
 }
 
-/// What an answer is for, without its parentheses.
+/// The values of an answer, without its parentheses.
 fn bare_answer(answer: &[u8]) -> &[u8] {
     if answer.len() > 2 && answer[0] == b'(' {
         &answer[1..answer.len() - 1]
@@ -139,7 +139,7 @@ fn guard(alloc: Global, question: &[u8], answer: &[u8]) -> Result<Vec<u8>, Alloc
     Ok(text)
 }
 
-/// Text in one line.
+/// A text joined to one line.
 fn in_one_line(alloc: Global, lines: &[u8]) -> Result<Vec<u8>, AllocError> {
     let mut text = Vec::new(alloc);
     for byte in lines {
@@ -148,7 +148,7 @@ fn in_one_line(alloc: Global, lines: &[u8]) -> Result<Vec<u8>, AllocError> {
     Ok(text)
 }
 
-/// A symbol of a way behind what is there; the question is the last one before it.
+/// Appends a symbol of a way to `label`; `question` is the last question before it.
 fn push_symbol(
     alloc: Global,
     label: &mut Label,
@@ -179,7 +179,7 @@ fn push_symbol(
     }
 }
 
-/// A way as a line behind what is there.
+/// Appends a way to `label` as a line.
 pub(crate) fn push_way(
     alloc: Global,
     label: &mut Label,

@@ -15,7 +15,7 @@ pub(crate) struct Drawn<'a> {
     pub(crate) place: Placed,
 }
 
-/// Parts with their places, lines, and how wide and how high the page is.
+/// Parts with their places, lines, and the width and the height of the page.
 #[derive(Drop)]
 pub(crate) struct Layout<'a> {
     pub(crate) drawn: Vec<Drawn<'a>>,
@@ -24,7 +24,7 @@ pub(crate) struct Layout<'a> {
     pub(crate) along: u32,
 }
 
-/// The parts with their places, in their order.
+/// Returns the parts with their places, in their order.
 pub(crate) fn lay_out<'a>(alloc: Global, parts: &'a [Part]) -> Result<Layout<'a>, AllocError>
     ensures { IfOk result (λ l. map part_drawn l.drawn.items ≡ map part_of parts.now) }
 {

@@ -1,5 +1,5 @@
-//! The command `draw`: pictures of a set and of its processes. A process is drawn as SDL-GR has it (Z.100), in SVG, laid out by
-//! whole numbers in a font of one width, or by its states, in Graphviz's language.
+//! The command `draw`: pictures of a process set and of its processes. It draws a process as SDL-GR does (Z.100), in
+//! SVG, laid out in whole numbers with a fixed-width font, or by its states, in Graphviz's language.
 #![tactic(auto)]
 
 mod apart;

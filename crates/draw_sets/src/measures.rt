@@ -1,21 +1,21 @@
-//! How much room columns and forks take.
+//! The room that columns and forks take, in SVG units.
 use crate::sizes::size_of_part;
 use draw_text::{Kind, Part};
 use std::alloc::{AllocError, Global};
 
-/// What stands between a symbol and the next one below it.
+/// The gap between a symbol and the next one below it.
 pub(crate) const ROW_GAP: u32 = 14;
 
-/// What stands between two columns.
+/// The gap between two columns.
 pub(crate) const COLUMN_GAP: u32 = 16;
 
-/// What stands above an answer.
+/// The gap above an answer.
 pub(crate) const ANSWER_GAP: u32 = 4;
 
-/// What stands between branches and where they meet.
+/// The gap between branches and where they meet.
 pub(crate) const MEET_GAP: u32 = 10;
 
-/// How far something reaches to the left and to the right of its axis, and how high it is.
+/// The room to the left and to the right of an axis, and the height.
 #[derive(Clone, Copy, Debug, PartialEq, Eq)]
 pub(crate) struct Extent {
     pub(crate) left: u32,
@@ -30,7 +30,7 @@ pub(crate) const NO_ROOM: Extent = Extent {
     height: 0,
 };
 
-/// A column, and the fork of which it is a branch, read from the last part on.
+/// A column, and the fork that it is a branch of, measured from the last part backwards.
 #[derive(Clone, Copy)]
 struct Level {
     column: Extent,
@@ -38,14 +38,14 @@ struct Level {
     first: u32,
     /// How far the last branch reaches to the right.
     last: u32,
-    /// How wide the branches are with what stands between them.
+    /// The width of the branches, with the gaps between them.
     across: u32,
-    /// How high the highest branch is.
+    /// The height of the highest branch.
     height: u32,
     has_branch: bool,
 }
 
-/// A column of nothing, in a fork without branches.
+/// An empty column, in a fork without branches.
 const NO_BRANCH: Level = Level {
     column: NO_ROOM,
     first: 0,
@@ -56,7 +56,7 @@ const NO_BRANCH: Level = Level {
 };
 
 impl Level {
-    /// The level with something on top of its column.
+    /// The level with another part on top of its column.
     fn under(self, extent: Extent) -> Level {
         Level {
             column: Extent {
@@ -68,7 +68,7 @@ impl Level {
         }
     }
 
-    /// The level with its column as one branch more.
+    /// The level with its column added as a branch.
     fn with_branch(self) -> Level {
         let column = self.column;
         let own = column.left.saturating_add(column.right);
@@ -91,7 +91,7 @@ impl Level {
         }
     }
 
-    /// The room that the fork takes. Its axis stands in the middle between the axes of its first and its last branch.
+    /// The room that the fork takes. Its axis is in the middle between the axes of its first and its last branch.
     fn fork(self) -> Extent {
         let last_axis = self.across.saturating_sub(self.last);
         let left = self.first.saturating_add(last_axis) / 2;
@@ -117,7 +117,7 @@ fn symbol_extent(part: &Part) -> Extent {
     }
 }
 
-/// What is measured so far, from the last part on.
+/// The measurements so far, from the last part backwards.
 #[derive(Drop)]
 struct Measuring {
     outer: Vec<Level>,
@@ -125,8 +125,8 @@ struct Measuring {
 }
 
 impl Measuring {
-    /// One part more, before those that were measured. Gives the room that it takes: for a branch and for the head of a tree that of its
-    /// whole column.
+    /// Measures the part before those already measured. Returns the room that it takes; for a branch, and for the head
+    /// of a tree, that of its whole column.
     fn take(&mut self, part: &Part) -> Result<Extent, AllocError> {
         match part.kind {
             Kind::Meet => {
@@ -158,7 +158,7 @@ impl Measuring {
     }
 }
 
-/// The room that each part takes, the last part's first.
+/// The room that each part takes, that of the last part first.
 pub(crate) fn measure(alloc: Global, parts: &[Part]) -> Result<Vec<Extent>, AllocError> {
     let mut extents = Vec::new(alloc);
     let mut measuring = Measuring {

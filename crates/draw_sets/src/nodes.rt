@@ -3,7 +3,7 @@ use crate::state_pieces::{Owner, Piece};
 use draw_text::{Identifier, Kind, Name, NameTable, Names, Part, Way, push_bytes};
 use std::alloc::{AllocError, Global};
 
-/// Where ways begin.
+/// The start of ways.
 #[derive(Clone, Copy)]
 pub(crate) enum Node {
     /// START.
@@ -14,7 +14,7 @@ pub(crate) enum Node {
     Connection(Name),
 }
 
-/// A way, and the parts through which it leads.
+/// A way, and the parts that it passes.
 #[derive(Clone, Copy)]
 pub(crate) struct Gone<'a> {
     pub(crate) parts: &'a [Part],
@@ -29,7 +29,7 @@ pub(crate) struct NodeWays<'a> {
 }
 
 impl Gone<'_> {
-    /// The symbol that the way ends with.
+    /// The symbol at the end of the way.
     pub(crate) fn last(&self) -> Option<&Part> {
         match self.way.symbols.last() {
             Some(index) => self.parts.get(*index),
@@ -37,7 +37,7 @@ impl Gone<'_> {
         }
     }
 
-    /// Whether the way ends with a symbol of this kind, in which this is written.
+    /// Whether the way ends with a symbol of this kind and this text.
     pub(crate) fn ends_with(&self, kind: Kind, text: &[u8]) -> bool {
         match self.last() {
             Some(part) => part.kind == kind && part.text.as_slice() == text,
@@ -45,7 +45,7 @@ impl Gone<'_> {
         }
     }
 
-    /// Whether something is done on the way.
+    /// Whether the way has an effect.
     pub(crate) fn has_effect(&self) -> bool {
         if self.way.is_short {
             return true;
@@ -61,7 +61,7 @@ impl Gone<'_> {
     }
 }
 
-/// Whether something is done there. A TASK of quoted texts alone does nothing, and has nothing written in it.
+/// Whether a part has an effect. A TASK that has only quoted texts has none, and its symbol is empty.
 fn does_something(part: &Part) -> bool {
     match part.kind {
         Kind::Task | Kind::Output => !part.text.is_empty(),
@@ -69,7 +69,7 @@ fn does_something(part: &Part) -> bool {
     }
 }
 
-/// Whether one of these names is this one.
+/// Whether this name is one of these.
 fn has_name(ids: &[Identifier], name: Name) -> bool {
     for id in ids {
         if id.name.folded() == name.folded() {
@@ -79,7 +79,7 @@ fn has_name(ids: &[Identifier], name: Name) -> bool {
     false
 }
 
-/// Whether ways begin at a node.
+/// Whether an owner's ways begin at a node.
 fn is_owner(owner: &Owner<'_>, node: &Node) -> bool {
     match owner {
         Owner::Start => match node {
@@ -174,7 +174,7 @@ pub(crate) fn nodes_of<'a>(
     Ok(nodes)
 }
 
-/// Whether some way of a node comes to a connection.
+/// Whether a way of the node ends at a connection.
 fn joins(node: &NodeWays<'_>, connection: &[u8]) -> bool {
     for gone in &node.gone {
         if gone.ends_with(Kind::Join, connection) {
@@ -184,7 +184,7 @@ fn joins(node: &NodeWays<'_>, connection: &[u8]) -> bool {
     false
 }
 
-/// How many nodes have a way that comes to a connection.
+/// The number of nodes with a way that ends at a connection.
 pub(crate) fn joining(nodes: &[NodeWays<'_>], connection: &[u8]) -> usize {
     let mut count: usize = 0;
     for node in nodes {
@@ -195,7 +195,7 @@ pub(crate) fn joining(nodes: &[NodeWays<'_>], connection: &[u8]) -> usize {
     count
 }
 
-/// The identifier of a node behind what is there.
+/// Appends the identifier of a node to `text`.
 pub(crate) fn push_node_id(text: &mut Vec<u8>, node: Node) -> Result<(), AllocError> {
     match node {
         Node::Start => push_bytes(text, b"start"),

@@ -1,4 +1,4 @@
-//! The statements in which transitions of two texts differ, below the lines that name these.
+//! The statements in which transitions of two texts differ, below the lines that name the transitions.
 ghost use Rattle.std.specs.Prelude.{◌∷◌, All, List, ℕ, IfOk, OnOk};
 ghost use Rattle.draw_sets.specs.Noting.{AreAdded, AreNoted, AreWritten, IsBegun, IsBelow, IsInLine};
 
@@ -7,15 +7,15 @@ use crate::rows::{Row, Section, sections_of};
 use draw_text::push_bytes;
 use std::alloc::{AllocError, Global};
 
-/// Through how many connections a JOIN is followed.
+/// The number of connections through which a JOIN is followed.
 const FOLLOWED: usize = 16;
 
-/// Whether two names differ in the case of letters alone.
+/// Whether two names differ at most in the case of letters.
 fn same(one: &[u8], other: &[u8]) -> bool {
     one.eq_ignore_ascii_case(other)
 }
 
-/// How many statements are the same at the beginning.
+/// The number of equal statements at the beginning.
 fn alike(one: &[Row], other: &[Row]) -> usize {
     let mut count: usize = 0;
     for (left, right) in one.iter().zip(other.iter()) {
@@ -27,7 +27,7 @@ fn alike(one: &[Row], other: &[Row]) -> usize {
     count
 }
 
-/// How many statements are the same at the end.
+/// The number of equal statements at the end.
 fn alike_at_end(one: &[Row], other: &[Row]) -> usize {
     let mut count: usize = 0;
     for (left, right) in one.iter().rev().zip(other.iter().rev()) {
@@ -39,18 +39,18 @@ fn alike_at_end(one: &[Row], other: &[Row]) -> usize {
     count
 }
 
-/// Whether all statements are the same.
+/// Whether all statements are equal.
 fn are_alike(one: &[Row], other: &[Row]) -> bool {
     one.len() == other.len() && alike(one, other) == one.len()
 }
 
-/// The number of a line.
+/// Appends a line number.
 fn push_line(alloc: Global, text: &mut Vec<u8>, line: usize) -> Result<(), AllocError> {
     let digits = format!(in alloc; "{line} ")?;
     push_bytes(text, digits.as_bytes())
 }
 
-/// The lines of statements, but for so many at the beginning and at the end.
+/// Appends the lines of statements, except `first` at the beginning and `last` at the end.
 fn push_rows(
     alloc: Global,
     text: &mut Vec<u8>,
@@ -71,7 +71,7 @@ fn push_rows(
     Ok(())
 }
 
-/// The lines of the statements that differ: from the first that does to the last.
+/// Appends the lines from the first statement that differs to the last.
 fn push_changes(
     alloc: Global,
     text: &mut Vec<u8>,
@@ -85,7 +85,7 @@ fn push_changes(
     push_rows(alloc, text, b"+ ", news, first, last)
 }
 
-/// Whether one of some names is this one.
+/// Whether a name is one of these.
 fn is_among(names: &[Vec<u8>], name: &[u8]) -> bool {
     for other in names {
         if same(other, name) {
@@ -95,7 +95,7 @@ fn is_among(names: &[Vec<u8>], name: &[u8]) -> bool {
     false
 }
 
-/// The transition that is called so.
+/// The transition with a title.
 fn titled<'a>(sections: &'a [Section], title: &[u8]) -> Option<&'a Section> {
     for section in sections {
         if is_among(&section.titles, title) {
@@ -120,7 +120,7 @@ fn connection<'a>(sections: &'a [Section], process: &[u8], name: &[u8]) -> Optio
     None
 }
 
-/// Whether a statement of these leads to a connection.
+/// Whether one of these statements jumps to a connection.
 fn joins(rows: &[Row], name: &[u8]) -> bool {
     for row in rows {
         if !row.joined.is_empty() && same(&row.joined, name) {
@@ -130,7 +130,7 @@ fn joins(rows: &[Row], name: &[u8]) -> bool {
     false
 }
 
-/// As many marks as there are sections, none of them set.
+/// A mark for each section, none of them set.
 fn no_marks(alloc: Global, sections: &[Section]) -> Result<Vec<bool>, AllocError> {
     let mut marks = Vec::new(alloc);
     for _ in sections {
@@ -154,7 +154,7 @@ fn is_marked(marks: &[bool], index: usize) -> bool {
     }
 }
 
-/// Marks the connections of a process that some statements lead to.
+/// Marks the connections of a process to which some statements jump.
 fn mark_joined(marks: &mut Vec<bool>, sections: &[Section], process: &[u8], rows: &[Row]) {
     for (index, section) in sections.iter().enumerate() {
         if !section.connection.is_empty()
@@ -166,7 +166,7 @@ fn mark_joined(marks: &mut Vec<bool>, sections: &[Section], process: &[u8], rows
     }
 }
 
-/// Marks what the marked connections lead to.
+/// Marks the connections to which the marked connections jump.
 fn mark_more(marks: &mut Vec<bool>, sections: &[Section], process: &[u8]) {
     for (index, section) in sections.iter().enumerate() {
         if is_marked(marks, index) {
@@ -175,7 +175,7 @@ fn mark_more(marks: &mut Vec<bool>, sections: &[Section], process: &[u8]) {
     }
 }
 
-/// The connections that a transition comes to.
+/// The connections that a transition reaches.
 fn reached(alloc: Global, sections: &[Section], from: &Section) -> Result<Vec<bool>, AllocError> {
     let mut marks = no_marks(alloc, sections)?;
     mark_joined(&mut marks, sections, &from.process, &from.rows);
@@ -185,7 +185,7 @@ fn reached(alloc: Global, sections: &[Section], from: &Section) -> Result<Vec<bo
     Ok(marks)
 }
 
-/// Whether the connection of the other text with the name of this one has other statements.
+/// Whether the connection of this name in the other text has other statements.
 fn is_changed(section: &Section, news: &[Section]) -> bool {
     match connection(news, &section.process, &section.connection) {
         Some(other) => !are_alike(&section.rows, &other.rows),
@@ -193,7 +193,7 @@ fn is_changed(section: &Section, news: &[Section]) -> bool {
     }
 }
 
-/// The lines of the changed connections that a transition comes to. These are marked.
+/// Appends the lines of the changed connections that a transition reaches, and marks these.
 fn push_blamed(
     alloc: Global,
     text: &mut Vec<u8>,
@@ -214,7 +214,7 @@ fn push_blamed(
     Ok(())
 }
 
-/// What a line of a transition that means something else calls it: its first two words behind the sign; nothing for another line.
+/// The title on the line of a changed transition: its first two words after the sign; empty for any other line.
 fn title_in(alloc: Global, line: &[u8]) -> Result<Vec<u8>, AllocError> {
     let mut title = Vec::new(alloc);
     let mut spaces: usize = 0;
@@ -232,7 +232,7 @@ fn title_in(alloc: Global, line: &[u8]) -> Result<Vec<u8>, AllocError> {
     Ok(title)
 }
 
-/// The statements that differ of a transition of both texts, by its line; nothing for another line.
+/// The statements in which a transition of both texts differs, by its line; empty for any other line.
 fn notes_of(
     alloc: Global,
     blamed: &mut Vec<bool>,
@@ -253,7 +253,7 @@ fn notes_of(
     Ok(notes)
 }
 
-/// A line, and below it the statements that differ where it is that of a transition of both texts.
+/// Appends a line; if it is that of a transition of both texts, with the statements that differ below it.
 fn push_noted(
     alloc: Global,
     text: &mut Vec<u8>,
@@ -268,7 +268,7 @@ fn push_noted(
     push_below(text, line, &notes)
 }
 
-/// The name of a connection with its process.
+/// The name of a connection, after that of its process.
 fn connection_name(alloc: Global, section: &Section) -> Result<Vec<u8>, AllocError>
     ensures { IfOk result (λ name. All IsInLine name.items) }
 {
@@ -279,7 +279,7 @@ fn connection_name(alloc: Global, section: &Section) -> Result<Vec<u8>, AllocErr
     Ok(name)
 }
 
-/// The lines of a connection of both texts, with the statements that differ.
+/// Appends the lines of a connection of both texts, with the statements that differ.
 fn push_connection(
     alloc: Global,
     text: &mut Vec<u8>,
@@ -296,7 +296,7 @@ fn push_connection(
     Ok(())
 }
 
-/// The connection of the other text with the name of this one, where it is marked.
+/// The connection of this name in the other text, if the section is marked.
 fn marked<'a>(is_marked: bool, section: &Section, news: &'a [Section]) -> Option<&'a Section> {
     if is_marked {
         connection(news, &section.process, &section.connection)
@@ -305,7 +305,7 @@ fn marked<'a>(is_marked: bool, section: &Section, news: &'a [Section]) -> Option
     }
 }
 
-/// The lines of a connection, where it is marked and both texts have it.
+/// Appends the lines of a connection, if it is marked and both texts have it.
 fn push_marked(
     alloc: Global,
     text: &mut Vec<u8>,
@@ -321,7 +321,7 @@ fn push_marked(
     }
 }
 
-/// The lines of the marked connections, with the statements that differ.
+/// Appends the lines of the marked connections, with the statements that differ.
 fn push_connections(
     alloc: Global,
     text: &mut Vec<u8>,
@@ -337,7 +337,7 @@ fn push_connections(
     Ok(())
 }
 
-/// A byte of a line that is begun. Where it ends the line this goes out, with the statements that differ below it.
+/// Adds a byte to the current line. At a line end, the line is written with the statements that differ below it.
 fn push_byte(
     alloc: Global,
     text: &mut Vec<u8>,
@@ -358,7 +358,7 @@ fn push_byte(
     Ok(())
 }
 
-/// Lines, with the statements that differ below each. The connections that they come to are marked.
+/// Returns lines, with the statements that differ below each, and marks the connections that they reach.
 fn lines_noted(
     alloc: Global,
     blamed: &mut Vec<bool>,
@@ -377,12 +377,9 @@ fn lines_noted(
     Ok(text)
 }
 
-/// The lines of transitions that two texts differ in, each as it is given: below one that both texts have the statements that differ,
-/// with their lines, and the connections with other statements that it comes to; behind all lines these connections.
-///
-/// # Errors
-///
-/// Want of memory.
+/// Returns the lines of transitions in which two texts differ, each unchanged. Below the line of a transition that both
+/// texts have are the statements that differ, with their line numbers, and the changed connections that it reaches.
+/// These connections follow after all lines.  # Errors  Out of memory.
 pub fn with_statements(
     alloc: Global,
     old_text: &str,

@@ -7,7 +7,7 @@ use crate::frames::{Line, Placed};
 use draw_text::{Kind, push_bytes, push_entity, push_number};
 use std::alloc::{AllocError, Global};
 
-/// A number, with something before it, behind what is there.
+/// Appends a text and a number to `text`.
 pub(crate) fn push_numbered(
     alloc: Global,
     text: &mut Vec<u8>,
@@ -20,7 +20,7 @@ pub(crate) fn push_numbered(
     push_number(alloc, text, number)
 }
 
-/// The point where an outline begins, behind what is there.
+/// Appends the point where an outline begins to `text`.
 fn push_corner(
     alloc: Global,
     text: &mut Vec<u8>,
@@ -34,7 +34,7 @@ fn push_corner(
     push_numbered(alloc, text, b" ", place.top)
 }
 
-/// A box with rounded corners, behind what is there.
+/// Appends a box with rounded corners to `text`.
 fn push_box(
     alloc: Global,
     text: &mut Vec<u8>,
@@ -52,7 +52,7 @@ fn push_box(
     push_bytes(text, b"\"/>\n")
 }
 
-/// A box with a notch on its right, behind what is there.
+/// Appends a box with a notch on its right to `text`.
 fn push_input(alloc: Global, text: &mut Vec<u8>, place: &Placed) -> Result<(), AllocError>
     ensures { OnOk result (text.new.items ≡ text.old.items ++ input_text place.now) }
 {
@@ -64,7 +64,7 @@ fn push_input(alloc: Global, text: &mut Vec<u8>, place: &Placed) -> Result<(), A
     push_bytes(text, b"z\"/>\n")
 }
 
-/// A box that is so wide, with a point on its right, behind what is there.
+/// Appends a box of this width, with a point on its right side, to `text`.
 #[tactic(auto, unfolding(crate::specs::Outlines::pointed_text))]
 fn push_pointed(
     alloc: Global,
@@ -82,14 +82,14 @@ fn push_pointed(
     push_bytes(text, b"z\"/>\n")
 }
 
-/// A box with a point on its right, behind what is there.
+/// Appends a box with a point on its right side to `text`.
 fn push_output(alloc: Global, text: &mut Vec<u8>, place: &Placed) -> Result<(), AllocError>
     ensures { OnOk result (text.new.items ≡ text.old.items ++ output_text place.now) }
 {
     push_pointed(alloc, text, place, place.width.saturating_sub(10))
 }
 
-/// A box that leans, behind what is there.
+/// Appends a box with slanted sides to `text`.
 fn push_save(alloc: Global, text: &mut Vec<u8>, place: &Placed) -> Result<(), AllocError>
     ensures { OnOk result (text.new.items ≡ text.old.items ++ save_text place.now) }
 {
@@ -101,7 +101,7 @@ fn push_save(alloc: Global, text: &mut Vec<u8>, place: &Placed) -> Result<(), Al
     push_bytes(text, b"z\"/>\n")
 }
 
-/// The upper sides of a box that stands on a corner, behind what is there.
+/// Appends the upper sides of a box that stands on a corner to `text`.
 #[tactic(auto, unfolding(crate::specs::Outlines::upper_text))]
 fn push_upper(alloc: Global, text: &mut Vec<u8>, place: &Placed) -> Result<(), AllocError>
     ensures { OnOk result (text.new.items ≡ text.old.items ++ upper_text place.now) }
@@ -112,7 +112,7 @@ fn push_upper(alloc: Global, text: &mut Vec<u8>, place: &Placed) -> Result<(), A
     push_numbered(alloc, text, b" -", place.height / 2)
 }
 
-/// The lower sides of a box that stands on a corner, behind what is there.
+/// Appends the lower sides of a box that stands on a corner to `text`.
 #[tactic(auto, unfolding(crate::specs::Outlines::lower_text))]
 fn push_lower(alloc: Global, text: &mut Vec<u8>, place: &Placed) -> Result<(), AllocError>
     ensures { OnOk result (text.new.items ≡ text.old.items ++ lower_text place.now) }
@@ -124,7 +124,7 @@ fn push_lower(alloc: Global, text: &mut Vec<u8>, place: &Placed) -> Result<(), A
     push_bytes(text, b"z\"/>\n")
 }
 
-/// A box that stands on a corner, behind what is there.
+/// Appends a box that stands on a corner to `text`.
 fn push_question(alloc: Global, text: &mut Vec<u8>, place: &Placed) -> Result<(), AllocError>
     ensures { OnOk result (text.new.items ≡ text.old.items ++ question_text place.now) }
 {
@@ -132,7 +132,7 @@ fn push_question(alloc: Global, text: &mut Vec<u8>, place: &Placed) -> Result<()
     push_lower(alloc, text, place)
 }
 
-/// Two lines that cross, behind what is there.
+/// Appends two crossed lines to `text`.
 fn push_stop(alloc: Global, text: &mut Vec<u8>, place: &Placed) -> Result<(), AllocError>
     ensures { OnOk result (text.new.items ≡ text.old.items ++ stop_text place.now) }
 {
@@ -145,7 +145,7 @@ fn push_stop(alloc: Global, text: &mut Vec<u8>, place: &Placed) -> Result<(), Al
     push_bytes(text, b"\"/>\n")
 }
 
-/// The outline of a symbol behind what is there.
+/// Appends the outline of a symbol to `text`.
 fn push_outline(
     alloc: Global,
     text: &mut Vec<u8>,
@@ -175,7 +175,7 @@ fn push_outline(
     }
 }
 
-/// A byte of what is written in a symbol, behind what is there; at a line feed the next line begins.
+/// Appends a byte of the words in a symbol to `text`; a line feed begins a new line.
 fn push_letter(alloc: Global, text: &mut Vec<u8>, middle: u32, byte: u8) -> Result<(), AllocError>
     ensures { OnOk result (text.new.items ≡ text.old.items ++ letter middle byte) }
 {
@@ -187,7 +187,7 @@ fn push_letter(alloc: Global, text: &mut Vec<u8>, middle: u32, byte: u8) -> Resu
     }
 }
 
-/// What is written in a symbol, byte by byte, behind what is there.
+/// Appends the words in a symbol to `text`, byte by byte.
 fn push_letters(
     alloc: Global,
     text: &mut Vec<u8>,
@@ -202,7 +202,7 @@ fn push_letters(
     Ok(())
 }
 
-/// What is written in a symbol, behind what is there.
+/// Appends the words in a symbol to `text`.
 fn push_written(
     alloc: Global,
     text: &mut Vec<u8>,
@@ -218,7 +218,7 @@ fn push_written(
     push_bytes(text, b"</tspan></text>\n")
 }
 
-/// A symbol, with what is written in it, behind what is there.
+/// Appends a symbol, with the words in it, to `text`.
 pub(crate) fn push_drawn(
     alloc: Global,
     text: &mut Vec<u8>,
@@ -232,7 +232,7 @@ pub(crate) fn push_drawn(
     push_written(alloc, text, place, bytes)
 }
 
-/// A line behind what is there.
+/// Appends a line to `text`.
 #[tactic(auto, unfolding(crate::specs::Outlines::line_text))]
 fn push_line(alloc: Global, text: &mut Vec<u8>, line: &Line) -> Result<(), AllocError>
     ensures { OnOk result (text.new.items ≡ text.old.items ++ line_text line.now) }
@@ -244,7 +244,7 @@ fn push_line(alloc: Global, text: &mut Vec<u8>, line: &Line) -> Result<(), Alloc
     push_bytes(text, b"\"/>\n")
 }
 
-/// Lines behind what is there.
+/// Appends lines to `text`.
 pub(crate) fn push_lines(
     alloc: Global,
     text: &mut Vec<u8>,

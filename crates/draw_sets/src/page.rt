@@ -1,26 +1,26 @@
-//! Where the trees of a drawing stand.
+//! The places of the trees of a drawing.
 use crate::measures::Extent;
 
-/// What is left free at the edges.
+/// The width of the margins.
 const MARGIN: u32 = 20;
 
-/// Where the first row begins, below the title.
+/// The y coordinate of the first row, below the title.
 const FIRST_ROW: u32 = 40;
 
-/// How wide a row is at most, but where one tree alone is wider.
+/// The largest width of a row, unless a single tree is wider.
 const MOST_ACROSS: u32 = 1500;
 
-/// What stands between two trees, and between two rows.
+/// The gap between two trees, and between two rows.
 const TREE_GAP: u32 = 32;
 
-/// Trees in rows, and how large the page is.
+/// Trees in rows, and the size of the page.
 #[derive(Clone, Copy)]
 pub(crate) struct Page {
-    /// Where the next tree begins.
+    /// The x coordinate where the next tree begins.
     left: u32,
-    /// Where the row begins.
+    /// The y coordinate where the row begins.
     top: u32,
-    /// How high the row is so far.
+    /// The height of the row so far.
     height: u32,
     /// How far the rows reach to the right.
     right: u32,
@@ -37,7 +37,7 @@ impl Page {
         }
     }
 
-    /// The page with a row below the last one, where a tree has no room in that.
+    /// The page with a new row below the last one, if a tree has no room in that.
     fn with_room(self, across: u32) -> Page {
         let right = self.left.saturating_add(across);
         if self.left == MARGIN || right <= MOST_ACROSS {
@@ -54,7 +54,7 @@ impl Page {
         }
     }
 
-    /// Gives a tree its place. Gives the axis of the tree, and where it begins.
+    /// Places a tree. Returns the tree's axis, and the y coordinate where it begins.
     pub(crate) fn place(&mut self, extent: Extent) -> (u32, u32) {
         let across = extent.left.saturating_add(extent.right);
         let page = self.with_room(across);
@@ -68,12 +68,12 @@ impl Page {
         (page.left.saturating_add(extent.left), page.top)
     }
 
-    /// How wide the page is.
+    /// The width of the page.
     pub(crate) fn across(&self) -> u32 {
         self.right.saturating_add(MARGIN)
     }
 
-    /// How high the page is.
+    /// The height of the page.
     pub(crate) fn along(&self) -> u32 {
         self.top.saturating_add(self.height).saturating_add(MARGIN)
     }

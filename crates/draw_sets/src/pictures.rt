@@ -12,18 +12,18 @@ use sdl_rules::Resolved;
 use std::alloc::Global;
 use std::io::Write;
 
-/// What is to be drawn.
+/// The picture to draw.
 #[derive(Clone, Copy, PartialEq, Eq, Debug)]
 pub enum Picture<'a> {
-    /// The processes of the set, and what routes bring from one to another.
+    /// The processes of the set, and the signals that routes carry between them.
     Block,
-    /// The process with this name, as SDL-GR has it.
+    /// The process with this name, as SDL-GR draws it.
     Flow(&'a str),
     /// The states of the process with this name, and the ways from one to another.
     States(&'a str),
 }
 
-/// Writes a picture. Gives the exit status.
+/// Writes a picture. Returns the exit status.
 fn write_picture<W: Write>(writer: &mut W, picture: &[u8]) -> u8
     ensures printed { result ≡ 0 → Appends (W.contents writer.old) (W.contents writer.new) picture.now }
     ensures status { (result ≡ 0) ⊎ (result ≡ 4) }
@@ -34,14 +34,14 @@ fn write_picture<W: Write>(writer: &mut W, picture: &[u8]) -> u8
     }
 }
 
-/// The process that a word names.
+/// The process with a name.
 fn process_named<'a, 'b>(resolved: &'a Resolved<'b>, word: &str) -> Option<&'a ProcessTable<'b>> {
     let name = Name::new(word.as_bytes())?;
     let number = resolved.processes().number(name)?;
     resolved.tables().get(number)
 }
 
-/// Draws a process as SDL-GR has it.
+/// Draws a process as SDL-GR does. Returns the exit status.
 fn flow_of<W: Write>(alloc: Global, names: &Names<'_, '_>, writer: &mut W) -> u8
     ensures { (result ≡ 0) ⊎ (result ≡ 4) }
 {
@@ -52,7 +52,7 @@ fn flow_of<W: Write>(alloc: Global, names: &Names<'_, '_>, writer: &mut W) -> u8
     }
 }
 
-/// Draws the states of a process.
+/// Draws the states of a process. Returns the exit status.
 fn states_of<W: Write>(alloc: Global, names: &Names<'_, '_>, writer: &mut W) -> u8
     ensures { (result ≡ 0) ⊎ (result ≡ 4) }
 {
@@ -62,7 +62,7 @@ fn states_of<W: Write>(alloc: Global, names: &Names<'_, '_>, writer: &mut W) -> 
     }
 }
 
-/// Draws a block.
+/// Draws a block. Returns the exit status.
 fn block_picture<W: Write>(alloc: Global, resolved: &Resolved<'_>, writer: &mut W) -> u8
     ensures printed { result ≡ 0 → Appends (W.contents writer.old) (W.contents writer.new) (block_text (block_of resolved.now)) }
     ensures status { (result ≡ 0) ⊎ (result ≡ 4) }
@@ -73,14 +73,14 @@ fn block_picture<W: Write>(alloc: Global, resolved: &Resolved<'_>, writer: &mut 
     }
 }
 
-/// Says that no process has the name. Gives the exit status.
+/// Writes that no process has the name. Returns the exit status.
 fn no_process<W: Write>(alloc: Global, writer: &mut W) -> u8
     ensures { (result ≡ 2) ⊎ (result ≡ 4) }
 {
     refuse(alloc, writer, &"refused B10 NoActor")
 }
 
-/// Draws the process with a name as SDL-GR has it, or says that there is none.
+/// Draws the process with a name as SDL-GR does, or writes that there is none. Returns the exit status.
 fn flow_picture<W: Write>(alloc: Global, resolved: &Resolved<'_>, word: &str, writer: &mut W) -> u8
     ensures { (result ≡ 0) ⊎ (result ≡ 2) ⊎ (result ≡ 4) }
 {
@@ -96,7 +96,7 @@ fn flow_picture<W: Write>(alloc: Global, resolved: &Resolved<'_>, word: &str, wr
     }
 }
 
-/// Draws the states of the process with a name, or says that there is none.
+/// Draws the states of the process with a name, or writes that there is none. Returns the exit status.
 fn states_picture<W: Write>(
     alloc: Global,
     resolved: &Resolved<'_>,
@@ -117,7 +117,7 @@ fn states_picture<W: Write>(
     }
 }
 
-/// Draws a picture of a sound block. Gives the exit status.
+/// Draws a picture of a sound block. Returns the exit status.
 pub(crate) fn draw_resolved<W: Write>(
     alloc: Global,
     resolved: &Resolved<'_>,

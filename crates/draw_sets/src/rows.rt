@@ -1,4 +1,4 @@
-//! The statements of a text, by the transition or the connection that they stand in.
+//! The statements of a text, by the transition or connection that contains them.
 use draw_text::{Kind, Names, Part, process_parts, push_bytes};
 use sdl_lex::{line_of, tokens};
 use sdl_rules::{Resolved, resolve};
@@ -8,11 +8,11 @@ use std::alloc::{AllocError, Global};
 /// A statement.
 #[derive(Drop)]
 pub(crate) struct Row {
-    /// Its line, from 1.
+    /// Its line number, from 1.
     pub(crate) line: usize,
-    /// The statement, in one line.
+    /// The statement, joined to one line.
     pub(crate) text: Vec<u8>,
-    /// The connection that a JOIN leads to; nothing for another statement.
+    /// The connection to which a JOIN jumps; empty for any other statement.
     pub(crate) joined: Vec<u8>,
 }
 
@@ -21,15 +21,15 @@ pub(crate) struct Row {
 pub(crate) struct Section {
     /// The name of its process.
     pub(crate) process: Vec<u8>,
-    /// What the transition is called, for each of its states and inputs.
+    /// The titles of the transition, one for each of its states and inputs.
     pub(crate) titles: Vec<Vec<u8>>,
-    /// The name of the connection; nothing for a transition.
+    /// The name of the connection; empty for a transition.
     pub(crate) connection: Vec<u8>,
     /// The statements, in the order of the text.
     pub(crate) rows: Vec<Row>,
 }
 
-/// The word of a statement, with the space behind it.
+/// The keyword of a statement, with the space after it.
 fn word_of(kind: Kind) -> &'static [u8] {
     match kind {
         Kind::Output => b"OUTPUT ",
@@ -41,7 +41,7 @@ fn word_of(kind: Kind) -> &'static [u8] {
     }
 }
 
-/// What stands between the lines of a statement, once it is in one.
+/// The separator between the lines of a statement when they are joined to one.
 fn between(kind: Kind) -> &'static [u8] {
     match kind {
         Kind::Task => b", ",
@@ -49,7 +49,7 @@ fn between(kind: Kind) -> &'static [u8] {
     }
 }
 
-/// A statement in one line.
+/// A statement joined to one line.
 fn one_line(alloc: Global, part: &Part) -> Result<Vec<u8>, AllocError> {
     let mut line = Vec::new(alloc);
     push_bytes(&mut line, word_of(part.kind))?;
@@ -63,7 +63,7 @@ fn one_line(alloc: Global, part: &Part) -> Result<Vec<u8>, AllocError> {
     Ok(line)
 }
 
-/// The connection that a statement leads to; nothing for one that is no JOIN.
+/// The connection to which a statement jumps; empty if it is no JOIN.
 fn joined_by(alloc: Global, part: &Part) -> Result<Vec<u8>, AllocError> {
     match part.kind {
         Kind::Join => Vec::from_slice(alloc, part.text.as_slice()),
@@ -71,7 +71,7 @@ fn joined_by(alloc: Global, part: &Part) -> Result<Vec<u8>, AllocError> {
     }
 }
 
-/// The line of a statement; 0 for ELSE, whose place isn't known.
+/// The line number of a statement; 0 for ELSE, whose place isn't known.
 fn line_at(source: &str, place: u32) -> usize {
     if place == 0 {
         0
@@ -91,7 +91,7 @@ fn row_of(alloc: Global, source: &str, part: &Part) -> Result<Row, AllocError> {
     })
 }
 
-/// The names with which lines begin.
+/// The names at the beginnings of lines.
 fn names_in(alloc: Global, text: &[u8]) -> Result<Vec<Vec<u8>>, AllocError> {
     let mut names = Vec::new(alloc);
     let mut name = Vec::new(alloc);
@@ -120,7 +120,7 @@ fn named(alloc: Global, one: &[u8], mark: &[u8], other: &[u8]) -> Result<Vec<u8>
     Ok(name)
 }
 
-/// What the inputs of a state are called, behind what there is.
+/// Appends the titles of a state's inputs.
 fn push_titles(
     alloc: Global,
     titles: &mut Vec<Vec<u8>>,
@@ -134,7 +134,7 @@ fn push_titles(
     Ok(())
 }
 
-/// What a transition of these states and inputs is called.
+/// The titles of a transition of these states and inputs.
 fn input_titles(
     alloc: Global,
     process: &[u8],
@@ -168,7 +168,7 @@ fn section_of(
     })
 }
 
-/// What START is called.
+/// The title of START.
 fn start_titles(alloc: Global, process: &[u8]) -> Result<Vec<Vec<u8>>, AllocError> {
     let title = named(alloc, process, b" ", b"START")?;
     let mut titles = Vec::new(alloc);
@@ -176,7 +176,7 @@ fn start_titles(alloc: Global, process: &[u8]) -> Result<Vec<Vec<u8>>, AllocErro
     Ok(titles)
 }
 
-/// The line of the last statement; 0 where there is none.
+/// The line number of the last statement; 0 if there is none.
 fn last_line(rows: &[Row]) -> usize {
     match rows.last() {
         Some(row) => row.line,
@@ -184,7 +184,7 @@ fn last_line(rows: &[Row]) -> usize {
     }
 }
 
-/// A statement more in the last section. ELSE has the line of the statement before it.
+/// Adds a statement to the last section. ELSE gets the line number of the statement before it.
 fn push_row(sections: &mut Vec<Section>, mut row: Row) -> Result<(), AllocError> {
     match sections.pop() {
         Some(mut section) => {
@@ -199,7 +199,7 @@ fn push_row(sections: &mut Vec<Section>, mut row: Row) -> Result<(), AllocError>
     }
 }
 
-/// A statement more in the last section, but for a TASK that does nothing.
+/// Adds a statement to the last section, except a TASK that does nothing.
 fn push_statement(
     alloc: Global,
     source: &str,
@@ -213,7 +213,7 @@ fn push_statement(
     push_row(sections, row)
 }
 
-/// A part of a process: a section more, or a statement more in the last one.
+/// Adds a part of a process: as a new section, or as a statement of the last one.
 fn push_part(
     alloc: Global,
     source: &str,
@@ -243,7 +243,7 @@ fn push_part(
     }
 }
 
-/// The sections of a process, behind what there is.
+/// Appends the sections of a process.
 fn push_sections(
     alloc: Global,
     source: &str,
@@ -280,7 +280,7 @@ fn block_sections(
     Ok(sections)
 }
 
-/// The transitions and connections of a text that is accepted, with their statements; none where it isn't.
+/// Returns the transitions and connections of an accepted text, with their statements; none if it is refused.
 pub(crate) fn sections_of(alloc: Global, source: &str) -> Result<Vec<Section>, AllocError> {
     let Ok(tokens) = tokens(alloc, source) else {
         return Ok(Vec::new(alloc));

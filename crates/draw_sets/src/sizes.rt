@@ -1,29 +1,29 @@
-//! How large symbols are.
+//! The sizes of symbols, in SVG units.
 use draw_text::{Kind, Part};
 
-/// How wide a character is.
+/// The width of a character.
 const CHARACTER: u32 = 7;
 
-/// How high a line is.
+/// The height of a line.
 pub(crate) const LINE: u32 = 14;
 
-/// How wide and how high a symbol is, and where its first line stands below its top.
+/// The width and height of a symbol, and the baseline of its first line below its top.
 #[derive(Clone, Copy, Debug, PartialEq, Eq)]
 pub(crate) struct Size {
-    /// An even number.
+    /// The width, an even number.
     pub(crate) width: u32,
     pub(crate) height: u32,
     pub(crate) base: u32,
 }
 
-/// How many characters the longest line has, and how many lines there are.
+/// The number of characters of the longest line, and the number of lines.
 #[derive(Clone, Copy)]
 struct Written {
     longest: u32,
     lines: u32,
 }
 
-/// What is written in a symbol, by its size.
+/// The size of the text in a symbol, in characters and lines.
 fn text_size(text: &[u8]) -> Written {
     let mut longest: u32 = 0;
     let mut here: u32 = 0;
@@ -40,7 +40,7 @@ fn text_size(text: &[u8]) -> Written {
     Written { longest, lines }
 }
 
-/// What stands left and right of the text of a symbol, and what stands above and below it, together.
+/// The margins of a symbol's text: left and right together, and above and below together.
 #[derive(Clone, Copy)]
 struct Margins {
     across: u32,
@@ -89,7 +89,7 @@ fn is_round(kind: Kind) -> bool {
     }
 }
 
-/// How much wider than its text a symbol is whose sides slant.
+/// The extra width of a symbol whose sides slant.
 fn slant(kind: Kind, across: u32) -> u32 {
     match kind {
         Kind::Question => across / 2,
@@ -97,7 +97,7 @@ fn slant(kind: Kind, across: u32) -> u32 {
     }
 }
 
-/// How large a symbol is.
+/// The size of a symbol.
 pub(crate) fn size_of_part(part: &Part) -> Size {
     let written = text_size(&part.text);
     let margins = margins_of(part.kind);

@@ -5,7 +5,7 @@ use crate::state_pieces::pieces_of;
 use draw_text::{Name, Names, push_bytes};
 use std::alloc::{AllocError, Global};
 
-/// What a diagram begins with, behind what is there.
+/// Appends the text that a diagram begins with to `text`.
 fn push_head(text: &mut Vec<u8>, process: Name) -> Result<(), AllocError> {
     push_bytes(
         text,
@@ -23,7 +23,7 @@ fn push_head(text: &mut Vec<u8>, process: Name) -> Result<(), AllocError> {
     )
 }
 
-/// The nodes behind what is there.
+/// Appends the nodes to `text`.
 fn push_nodes(alloc: Global, text: &mut Vec<u8>, nodes: &[NodeWays<'_>]) -> Result<(), AllocError> {
     for node in nodes {
         push_node(alloc, text, node)?;
@@ -31,7 +31,7 @@ fn push_nodes(alloc: Global, text: &mut Vec<u8>, nodes: &[NodeWays<'_>]) -> Resu
     Ok(())
 }
 
-/// The edges of all nodes behind what is there.
+/// Appends the edges of all nodes to `text`.
 fn push_all_edges(
     alloc: Global,
     text: &mut Vec<u8>,
@@ -43,9 +43,9 @@ fn push_all_edges(
     Ok(())
 }
 
-/// The state diagram of a process in Graphviz's language: START, its states in the order of the text and its connections; for each
-/// two of them an edge with a line for each way from the one to the other. Ways from a state to itself stand in its box. Of a
-/// transition with more than 64 ways a line says the answers that lead to an end, and `..` for the rest.
+/// Returns the state diagram of a process in Graphviz's language: START, its states in the order of the text, and its
+/// connections. An edge from one to another has a line for each way. Ways from a state to itself are in its box. For a
+/// transition with more than 64 ways, a line has only the answers that lead to an end, and `..` for the rest.
 pub fn draw_states(alloc: Global, names: &Names<'_, '_>) -> Result<Vec<u8>, AllocError> {
     let pieces = pieces_of(alloc, names)?;
     let nodes = nodes_of(alloc, names, &pieces)?;

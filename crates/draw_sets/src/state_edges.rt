@@ -4,10 +4,10 @@ use crate::nodes::{Gone, Node, NodeWays, joining, push_node_id};
 use draw_text::{Kind, Name, Part, push_bytes};
 use std::alloc::{AllocError, Global};
 
-/// How many nodes may come to the circle of a connection; else it is drawn beside each.
+/// The largest number of nodes with ways to the circle of a connection; with more, a circle is drawn beside each node.
 const MOST_JOINING: usize = 2;
 
-/// Adds the ways of a state that end as this says, those with an effect or those without.
+/// Adds the ways from a state back to itself: those with an effect, or those without.
 fn add_loops(
     alloc: Global,
     label: &mut Label,
@@ -46,7 +46,7 @@ fn is_save(gone: &Gone<'_>) -> bool {
     }
 }
 
-/// What stands in the box of a state below its name: its SAVEs, and the ways that lead back to it.
+/// The content of a state's box below its name: its SAVEs, and the ways that lead back to it.
 fn inside(alloc: Global, node: &NodeWays<'_>, state: &[u8]) -> Result<Label, AllocError> {
     let mut label = Label::new(alloc);
     add_saves(alloc, &mut label, node)?;
@@ -55,7 +55,7 @@ fn inside(alloc: Global, node: &NodeWays<'_>, state: &[u8]) -> Result<Label, All
     Ok(label)
 }
 
-/// The box of a state behind what is there.
+/// Appends the box of a state to `text`.
 fn push_state(
     alloc: Global,
     text: &mut Vec<u8>,
@@ -82,7 +82,7 @@ fn push_state(
     push_bytes(text, b"</table>>];\n")
 }
 
-/// A node behind what is there.
+/// Appends a node to `text`.
 pub(crate) fn push_node(
     alloc: Global,
     text: &mut Vec<u8>,
@@ -107,7 +107,7 @@ pub(crate) fn push_node(
     }
 }
 
-/// Whether two ways end at one place.
+/// Whether two ways end at the same node.
 fn is_same_end(one: &Gone<'_>, other: &Gone<'_>) -> bool {
     match one.last() {
         Some(part) => other.ends_with(part.kind, &part.text),
@@ -115,7 +115,7 @@ fn is_same_end(one: &Gone<'_>, other: &Gone<'_>) -> bool {
     }
 }
 
-/// Whether one of these ways ends where this one does.
+/// Whether one of these ways ends at the same node as this one.
 fn is_seen(before: &[Gone<'_>], gone: &Gone<'_>) -> bool {
     for other in before {
         if is_same_end(other, gone) {
@@ -125,7 +125,7 @@ fn is_seen(before: &[Gone<'_>], gone: &Gone<'_>) -> bool {
     false
 }
 
-/// The lines of all ways that end where this one does.
+/// The lines of all ways that end at the same node as this one.
 fn lines_of(alloc: Global, node: &NodeWays<'_>, gone: &Gone<'_>) -> Result<Label, AllocError> {
     let mut label = Label::new(alloc);
     for other in &node.gone {
@@ -136,7 +136,7 @@ fn lines_of(alloc: Global, node: &NodeWays<'_>, gone: &Gone<'_>) -> Result<Label
     Ok(label)
 }
 
-/// The circle of a connection beside a node, behind what is there: its identifier.
+/// Appends the identifier of a connection's circle beside a node to `text`.
 fn push_beside(text: &mut Vec<u8>, node: Node, connection: &[u8]) -> Result<(), AllocError> {
     push_bytes(text, b"o_")?;
     push_bytes(text, connection)?;
@@ -144,7 +144,7 @@ fn push_beside(text: &mut Vec<u8>, node: Node, connection: &[u8]) -> Result<(), 
     push_node_id(text, node)
 }
 
-/// The node of a STOP, or the circle of a connection beside a node, where the edge wants one.
+/// Appends the node of a STOP, or of a connection's circle beside a node, if the edge needs one.
 fn push_own_target(
     text: &mut Vec<u8>,
     nodes: &[NodeWays<'_>],
@@ -167,7 +167,7 @@ fn push_own_target(
     }
 }
 
-/// The identifier of the node at which ways end, behind what is there.
+/// Appends the identifier of the node at which ways end to `text`.
 fn push_target(
     text: &mut Vec<u8>,
     nodes: &[NodeWays<'_>],
@@ -190,7 +190,7 @@ fn push_target(
     }
 }
 
-/// The edge of all ways of a node that end where this one does, behind what is there.
+/// Appends the edge of all ways of a node that end at the same node as this one to `text`.
 fn push_edge(
     alloc: Global,
     text: &mut Vec<u8>,
@@ -210,7 +210,7 @@ fn push_edge(
     push_bytes(text, b">];\n")
 }
 
-/// Whether ways that end with this symbol stand in the box of the node.
+/// Whether ways that end with this symbol are written in the box of the node.
 fn is_inside(node: Node, last: &Part) -> bool {
     match (node, last.kind) {
         (_, Kind::Save) => true,
@@ -219,7 +219,7 @@ fn is_inside(node: Node, last: &Part) -> bool {
     }
 }
 
-/// The edges of a node behind what is there, in the order of their first ways.
+/// Appends the edges of a node to `text`, in the order of their first ways.
 pub(crate) fn push_edges(
     alloc: Global,
     text: &mut Vec<u8>,

@@ -5,7 +5,7 @@ use draw_text::{
 };
 use std::alloc::{AllocError, Global};
 
-/// Whose ways they are.
+/// The owner of ways.
 #[derive(Clone, Copy)]
 pub(crate) enum Owner<'a> {
     /// START.
@@ -24,7 +24,7 @@ pub(crate) struct Piece<'a> {
     pub(crate) ways: Vec<Way>,
 }
 
-/// Adds ways behind those that there are.
+/// Appends further ways to `ways`.
 fn add_ways(ways: &mut Vec<Way>, more: Vec<Way>) -> Result<(), AllocError> {
     for way in more {
         ways.push(way)?;
@@ -35,7 +35,7 @@ fn add_ways(ways: &mut Vec<Way>, more: Vec<Way>) -> Result<(), AllocError> {
 /// The ways of the branches of a STATE part, one branch after another.
 fn branch_ways(alloc: Global, parts: &[Part]) -> Result<Vec<Way>, AllocError> {
     let mut ways = Vec::new(alloc);
-    // behind the names of the states, and where they fork
+    // after the names of the states, and the fork
     let mut from: usize = 2;
     for _ in 0..parts.len() {
         let Some(branch) = next_branch(parts, from) else {

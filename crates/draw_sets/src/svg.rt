@@ -10,7 +10,7 @@ use crate::outlines::{push_drawn, push_lines, push_numbered};
 use draw_text::{Name, Names, is_symbol, process_parts, push_bytes};
 use std::alloc::{AllocError, Global};
 
-/// How symbols look.
+/// The style of symbols.
 const STYLE: &[u8] = b"<style>
 text { font: 11px 'DejaVu Sans Mono', monospace; text-anchor: middle; fill: #000 }
 rect, path { stroke: #222; fill: #fff }
@@ -25,7 +25,7 @@ rect, path { stroke: #222; fill: #fff }
 </style>
 ";
 
-/// A part of the drawing behind what is there, if it is a symbol.
+/// Appends a part of the drawing to `text`, if it is a symbol.
 #[tactic(auto, unfolding(crate::specs::Drawing::drawn_text))]
 fn push_part(alloc: Global, text: &mut Vec<u8>, drawn: &Drawn<'_>) -> Result<(), AllocError>
     ensures { OnOk result (text.new.items ≡ text.old.items ++ drawn_text (drawn_of drawn.now)) }
@@ -37,7 +37,7 @@ fn push_part(alloc: Global, text: &mut Vec<u8>, drawn: &Drawn<'_>) -> Result<(),
     }
 }
 
-/// The symbols of a drawing behind what is there.
+/// Appends the symbols of a drawing to `text`.
 fn push_parts(alloc: Global, text: &mut Vec<u8>, drawn: &[Drawn<'_>]) -> Result<(), AllocError>
     ensures { OnOk result (text.new.items ≡ text.old.items ++ flat_map drawn_text (map drawn_of drawn.now)) }
 {
@@ -47,7 +47,7 @@ fn push_parts(alloc: Global, text: &mut Vec<u8>, drawn: &[Drawn<'_>]) -> Result<
     Ok(())
 }
 
-/// What a drawing begins with, behind what is there.
+/// Appends the text that a drawing begins with to `text`.
 #[tactic(auto, unfolding(crate::specs::Drawing::svg_text))]
 fn push_svg(text: &mut Vec<u8>) -> Result<(), AllocError>
     ensures { OnOk result (text.new.items ≡ text.old.items ++ svg_text) }
@@ -55,7 +55,7 @@ fn push_svg(text: &mut Vec<u8>) -> Result<(), AllocError>
     push_bytes(text, b"<svg xmlns=\"http://www.w3.org/2000/svg\"")
 }
 
-/// What of the page is shown: all, behind what is there.
+/// Appends the visible area to `text`: the whole page.
 #[tactic(auto, unfolding(crate::specs::Drawing::view_text))]
 fn push_view(alloc: Global, text: &mut Vec<u8>, across: u32, along: u32) -> Result<(), AllocError>
     ensures { OnOk result (text.new.items ≡ text.old.items ++ view_text across along) }
@@ -65,7 +65,7 @@ fn push_view(alloc: Global, text: &mut Vec<u8>, across: u32, along: u32) -> Resu
     push_bytes(text, b"\">\n")
 }
 
-/// How large a drawing is, behind what is there.
+/// Appends the size of a drawing to `text`.
 #[tactic(auto, unfolding(crate::specs::Drawing::head_text))]
 fn push_size(alloc: Global, text: &mut Vec<u8>, across: u32, along: u32) -> Result<(), AllocError>
     ensures { OnOk result (text.new.items ≡ text.old.items ++ head_text across along) }
@@ -76,7 +76,7 @@ fn push_size(alloc: Global, text: &mut Vec<u8>, across: u32, along: u32) -> Resu
     push_view(alloc, text, across, along)
 }
 
-/// The ground of the page behind what is there.
+/// Appends the background of the page to `text`.
 #[tactic(auto, unfolding(crate::specs::Drawing::page_text))]
 fn push_page(text: &mut Vec<u8>) -> Result<(), AllocError>
     ensures { OnOk result (text.new.items ≡ text.old.items ++ page_text) }
@@ -87,7 +87,7 @@ fn push_page(text: &mut Vec<u8>) -> Result<(), AllocError>
     )
 }
 
-/// What stands before the name of the process, behind what is there.
+/// Appends the markup before the name of the process to `text`.
 #[tactic(auto, unfolding(crate::specs::Drawing::title_style))]
 fn push_title_style(text: &mut Vec<u8>) -> Result<(), AllocError>
     ensures { OnOk result (text.new.items ≡ text.old.items ++ title_style) }
@@ -95,7 +95,7 @@ fn push_title_style(text: &mut Vec<u8>) -> Result<(), AllocError>
     push_bytes(text, b"<text class=\"title\" x=\"20\" y=\"26\">PROCESS ")
 }
 
-/// The name of the process behind what is there.
+/// Appends the name of the process to `text`.
 #[tactic(auto, unfolding(crate::specs::Drawing::title_text))]
 fn push_title(text: &mut Vec<u8>, process: Name) -> Result<(), AllocError>
     ensures { OnOk result (text.new.items ≡ text.old.items ++ title_text process) }
@@ -106,7 +106,7 @@ fn push_title(text: &mut Vec<u8>, process: Name) -> Result<(), AllocError>
     push_bytes(text, b"</text>\n")
 }
 
-/// A layout in SVG, in which symbols look as the style says.
+/// A layout as SVG, with symbols in this style.
 fn drawing_of(
     alloc: Global,
     style: &[u8],
@@ -125,8 +125,8 @@ fn drawing_of(
     Ok(text)
 }
 
-/// A process as SDL-GR has it, in SVG: START, then its STATE parts and then its CONNECTIONs, each with a symbol for each statement
-/// in the order of the text. No two symbols overlap: of a layout in which some did there would be no drawing.
+/// Returns a process as SDL-GR draws it, in SVG: START, the STATE parts and the CONNECTIONs, each with a symbol for
+/// each statement, in the order of the text. Returns none if two symbols of the layout overlap.
 pub fn draw_flow(alloc: Global, names: &Names<'_, '_>) -> Result<Option<Vec<u8>>, AllocError>
     ensures { IfOk result (λ o. IfSome o (λ v. IsDrawing (block_of names.now.block.now) (process_of names.now.process.now) v.items)) }
 {
