@@ -1,4 +1,4 @@
--- One offer after another.
+-- Offers in succession.
 use Rattle.std.proofs.Common.{◌≡◌, ℕ, ◌+◌, ◌-◌, ◌<◌, ◌≤◌, suc, Option, Some, None, refl, sym, ap, ◌∙◌, arith}
 use Rattle.actor_machine.specs.Ledger.{Ledger}
 use Rattle.actor_machine.specs.declared.reply.Refusal.{Refusal}

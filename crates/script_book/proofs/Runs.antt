@@ -1,4 +1,4 @@
--- A run, one command more.
+-- A run with one more command.
 use Rattle.std.proofs.Common.{◌≡◌, ℕ, ◌+◌, ◌<◌, List, [], ◌∷◌, ◌++◌, length, map, take, drop, get_or, append_assoc, Option, Some, refl, sym, ap, subst, ◌∙◌}
 use Rattle.std.specs.List.{flat_map}
 use Rattle.std.specs.Io.KnownBytes.{Appends}
@@ -14,7 +14,7 @@ use Rattle.actor_machine.specs.Ledger.{Ledger}
 use Rattle.script_book.specs.Answers.{Answered, obeyed}
 use Rattle.script_book.specs.Played.{Goes, prints, holds, IsRun, IsMissedBy, IsMissed}
 
--- an expectation that holds
+-- An expectation that holds.
 pub run_held : (b : Ledger) (before : List PlainSaid) (said : PlainSaid) (text : List ℕ) (first written : Option (List ℕ)) (now : Ledger) (last : Option (List ℕ))
     → said.command ≡ expect text → last ≡ Some text → IsRun b before first written now last → IsRun b (before ++ said ∷ []) first written now last
 run_held b before said text first written now last is same run =
@@ -22,7 +22,7 @@ run_held b before said text first written now last is same run =
     let Q : Option (List ℕ) → Type 0 = λ l. Goes b (before ++ said ∷ []) run.lines now l in
     record { lines = run.lines; goes = subst Q (sym same) (holds said is (subst P same run.goes)); written = run.written }
 
--- a command that printed its line
+-- A command that printed its line.
 pub run_printed : (b : Ledger) (before : List PlainSaid) (said : PlainSaid) (line : List ℕ) (first old new : Option (List ℕ)) (now next : Ledger)
     (last latest : Option (List ℕ)) → ((text : List ℕ) → said.command ≡ expect text → ⊥) → line ≡ (obeyed now said.command).line
     → next ≡ (obeyed now said.command).book → Appends old new (line_of line) → latest ≡ Some line → IsRun b before first old now last
@@ -41,7 +41,7 @@ run_printed b before said line first old new now next last latest none says make
           (Appends-trans first old new (flat_map line_of run.lines) (line_of answer.line) run.written (subst W says written));
     }
 
--- what is no expectation reads as none
+-- A command other than `expect` isn't read as an expectation.
 pub no_expectation : (c : Command) → ((x : _) → c ≡ code.Expect x → ⊥) → (text : List ℕ) → plain_command c ≡ expect text → ⊥
 no_expectation (code.Offer o) others text is = cc
 no_expectation (code.Flood n o) others text is = cc
@@ -52,7 +52,7 @@ no_expectation code.Rest others text is = cc
 no_expectation (code.Value p x) others text is = cc
 no_expectation (code.Expect x) others text is = others x refl
 
--- one command more of a list
+-- One more command of a list.
 pub run_more : (b : Ledger) (before : List PlainSaid) (items : List Said) (i : ℕ) (x : Said) (first written : Option (List ℕ)) (now : Ledger)
     (last : Option (List ℕ)) → i < length items → x ≡ get_or items i x
     → IsRun b ((before ++ map plain_said (take i items)) ++ plain_said x ∷ []) first written now last
@@ -65,7 +65,7 @@ run_more b before items i x first written now last within is run =
     ∙ ap (λ commands. before ++ commands) (sym (map-append plain_said (take i items) (x ∷ [])) ∙ ap (map plain_said) (sym taken)))
     run
 
--- an expectation that fails behind the commands that were obeyed
+-- An expectation that fails after commands that were obeyed.
 pub run_missed : (b : Ledger) (before : List PlainSaid) (items : List Said) (i : ℕ) (x : Said) (first old new : Option (List ℕ)) (now : Ledger)
     (last : Option (List ℕ)) → i < length items → x ≡ get_or items i x → IsRun b (before ++ map plain_said (take i items)) first old now last
     → IsMissedBy (plain_said x) last old new → IsMissed b (before ++ map plain_said items) first new

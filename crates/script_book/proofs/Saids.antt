@@ -1,4 +1,4 @@
--- What is printed for an event, and whose turn is out.
+-- The line printed for an event, and the actor whose turn is running.
 use Rattle.std.proofs.Common.{◌≡◌, ℕ, List, Option, Some, None, refl, sym, ap, ◌∙◌}
 use Rattle.turn_code.specs.declared.draft.Draft.{Draft}
 use Rattle.turn_machine.specs.Turn.{Turn}
@@ -23,7 +23,7 @@ same_set : (b : Ledger) (e : Event) → (ask b e).book.set ≡ b.set
 unfolding ask_by
 same_set b e = set_kept b e (step b.set (runs b.set) (state_of b) e) (refusal_by (runs b.set) b e)
 
--- the line of what was answered, with the names of the set that the book still has
+-- The line of an answer, with the names of the set, which the book keeps.
 pub line_said : (b now : Ledger) (d : Draft) (p : ℕ) (e f : Event) (r : Reply) (items : List ℕ) → e ≡ f → d ≡ now.set → now ≡ (ask b e).book
     → Says r ≡ (ask b e).answer → items ≡ reply_text d p r → items ≡ (by_event b p f).line
 line_said b now d p e f r items same_event set book says line =
@@ -32,9 +32,9 @@ line_said b now d p e f r items same_event set book says line =
     ∙ (ap (λ (x : Draft). reply_text x p r) same
     ∙ (ap (λ (a : Answer). answer_text b.set p a) says ∙ ap (λ (x : Event). answer_text b.set p (ask b x).answer) same_event))
 
--- ---- turns that are out
+-- ---- running turns
 
--- handing in the turn that an actor has out
+-- Handing in the running turn of an actor.
 event_is : (b : Ledger) (n : ℕ) (t u : Turn) → Some t ≡ turn_out b n → u ≡ t → Finish u.actor ≡ Finish n
 event_is b n t u h k = ap Finish (ap (λ (x : Turn). x.actor) k ∙ own_actor b n t (sym h))
 
@@ -48,7 +48,7 @@ pub finish_line : (b now : Ledger) (d : Draft) (x : Called) (t u : Turn) (r : Re
 finish_line b now d x t u r items h k set book says line =
     line_said b now d x.name.process.0 (Finish u.actor) (Finish x.number) r items (event_is b x.number t u h k) set book (sym says) line
 
--- without a turn that is out
+-- Without a running turn.
 pub stranger_line : (b : Ledger) (x : Called) (r : Refusal) (items : List ℕ) → refusal_by (runs b.set) b (Finish x.number) ≡ Some r → items ≡ refused_text r
     → items ≡ (by_event b x.name.process.0 (Finish x.number)).line
 stranger_line b x r items refused line = line ∙ ap (λ (a : Answer). answer_text b.set x.name.process.0 a) (sym (says b (Finish x.number) r refused))

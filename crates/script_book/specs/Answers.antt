@@ -1,4 +1,4 @@
--- What each command of a book script makes of a book, and the line that it prints.
+-- The effect of each command of a book script on a book, and the line that it prints.
 use Rattle.std.specs.Prelude.{ℕ, zero, suc, List, [], ◌++◌, Option, None, Some, Result, Ok, Err}
 use Rattle.std.specs.Prelude.{option_map, slice_get, codes}
 use Rattle.std.specs.Fmt.{decimal}
@@ -29,7 +29,7 @@ use Rattle.script_lines.specs.Refused.{refused_text}
 
 -- ---- names
 
--- the actor that a word names: an instance of a process
+-- The actor that a word names: an instance of a process.
 abbrev pub actor_named : Ledger → List ℕ → Option Called
 actor_named b word = actor_called b.set word
 
@@ -41,7 +41,7 @@ variable_named b p name = number_of (variable_names b.set p) name
 
 -- ---- answers
 
--- the line of a reply of process p, whose states and inputs it names
+-- The line of a reply, with the names of the states and inputs of process p.
 abbrev pub reply_text : Draft → ℕ → Reply → List ℕ
 reply_text d p reply.Offered = codes "ok"
 reply_text d p (reply.Begun x) = begun_text d p x.place x.number
@@ -51,30 +51,30 @@ reply_text d p (reply.Passed due) = codes "ok due " ++ decimal due
 reply_text d p (reply.Taken x) = taken_text d x
 reply_text d p (reply.Refused r) = refused_text r
 
--- no turn of a book gets stuck
+-- No turn of a book gets stuck, so `Stuck` has no line.
 abbrev pub answer_text : Draft → ℕ → Answer → List ℕ
 answer_text d p (Stuck x) = []
 answer_text d p (Says r) = reply_text d p r
 
--- a book after a command, and the line that the command prints
+-- A book after a command, and the line that the command prints.
 pub record Answered : Type 0 where
   pub book : Ledger
   pub line : List ℕ
 
--- nothing changes
+-- A line, with an unchanged book.
 abbrev pub says : Ledger → List ℕ → Answered
 says b line = record { book = b; line = line }
 
 abbrev pub refused : Ledger → Refusal → Answered
 refused b r = says b (refused_text r)
 
--- an event happens, or is refused
+-- An event happens, or is refused.
 abbrev pub by_event : Ledger → ℕ → Event → Answered
 by_event b p e = record { book = (ask b e).book; line = answer_text b.set p (ask b e).answer }
 
 -- ---- commands on an actor
 
--- its state
+-- The line of a state.
 abbrev pub standing_line : Ledger → ℕ → Option Standing → List ℕ
 standing_line b p None = refused_text NoActor
 standing_line b p (Some s) = standing_text b.set p s
@@ -82,7 +82,7 @@ standing_line b p (Some s) = standing_text b.set p s
 abbrev pub standing_at : Ledger → ℕ → Option Standing
 standing_at b n = option_map (λ (a : Actor). a.standing) (slice_get (state_of b).actors n)
 
--- the line of `state` for an actor, if there is one
+-- The line of `state` for an actor, if it exists.
 abbrev pub state_line : Ledger → Option Called → List ℕ
 state_line b None = refused_text NoActor
 state_line b (Some x) = standing_line b x.name.process.0 (standing_at b x.number)
@@ -93,7 +93,7 @@ called b Finish x = by_event b x.name.process.0 (event.Finish x.number)
 called b Skip x = by_event b x.name.process.0 (event.Skip x.number)
 called b State x = says b (state_line b (Some x))
 
--- the actor of that name, if there is one
+-- The call on the actor with that name, if it exists.
 abbrev pub calls : Ledger → Call → Option Called → Answered
 calls b c None = refused b NoActor
 calls b c (Some x) = called b c x
@@ -114,7 +114,7 @@ value_line b name (Some x) = variable_line b x.number (variable_named b x.name.p
 
 -- ---- offers
 
--- a book after offers, and why the last one was refused, if it was
+-- A book after offers, and why the last one was refused, if it was.
 pub record Took : Type 0 where
   pub book : Ledger
   pub refusal : Option Refusal
@@ -133,27 +133,27 @@ offered_by b values (Some x) (Some s) =
       values = record { items = values };
     }))
 
--- why a call was refused, if it was
+-- Why a call was refused, if it was.
 abbrev pub why : {A : Type 0} → Result A Refusal → Option Refusal
 why (Ok x) = None
 why (Err r) = Some r
 
--- one offer; the names are looked up
+-- One offer; the names are looked up.
 abbrev pub offered : Ledger → PlainOffer → Took
 offered b o = offered_by b o.values (actor_named b o.process) (signal_named b o.signal)
 
--- whether the actor and the signal are there
+-- The refusal if the actor or the signal doesn't exist.
 abbrev pub looked_up : Option Called → Option ℕ → Option Refusal
 looked_up None s = Some NoActor
 looked_up (Some x) None = Some NoRoute
 looked_up (Some x) (Some s) = None
 
--- where the first offer is taken there are a rest and the others
+-- If the first offer is taken, a rest and the other offers follow.
 abbrev pub goes_on : Took → Took → Option Refusal → Took
 goes_on first others None = others
 goes_on first others (Some r) = first
 
--- so many offers, with a rest after each, up to the first that is refused
+-- `k` offers, with a rest after each, up to the first one refused.
 unfoldable pub floods : ℕ → PlainOffer → Ledger → Took
 floods zero o b = record { book = b; refusal = None }
 floods (suc k) o b =
@@ -182,7 +182,7 @@ rested b = record {
 
 -- ---- all commands
 
--- what a command makes of a book, and the line that it prints; `expect` is nothing to a book
+-- The effect of a command on a book, and its line; `expect` has no effect on a book.
 unfoldable pub obeyed : Ledger → PlainCommand → Answered
 obeyed b (offer o) = done (offered b o)
 obeyed b (flood n o) =

@@ -1,4 +1,4 @@
--- What a run of a script has printed, and what it made of its book.
+-- The output of a script's run, and its effect on the book.
 use Rattle.std.specs.Prelude.{◌≡◌, ℕ, List, [], ◌∷◌, ◌++◌, Option, None, Some, option_map, codes}
 use Rattle.std.specs.Fmt.{decimal}
 use Rattle.std.specs.List.{flat_map}
@@ -14,13 +14,13 @@ use Rattle.script_book.specs.Answers.{obeyed}
 use Rattle.script_book.specs.declared.player.Player.{Player}
 use Rattle.script_book.specs.declared.printer.Printer.{Printer}
 
--- the book in which a script begins: that of a set, with the numbers that the first lines set
+-- The book in which a script begins: that of a set, with the numbers of the first lines.
 abbrev pub first_book : Draft → Settings → Ledger
 first_book d s = opened_book d s.ports s.env s.journal
 
--- A run from a book on: the commands that were obeyed, the lines that they printed, the book now,
--- and the line printed last. Each command makes of the book, and prints, what `obeyed` says, but
--- `expect`, which prints nothing and holds where the line before is the one that it names.
+-- A run from a book on: the commands obeyed, their lines, the book now, and the line printed last.
+-- Commands change the book and print as `obeyed` states, except `expect`: it prints nothing and
+-- holds if the line before is its text.
 pub data Goes (b : Ledger) :
     List PlainSaid → List (List ℕ) → Ledger → Option (List ℕ) → Type 0 where
   begins : Goes b [] [] b None
@@ -34,34 +34,33 @@ pub data Goes (b : Ledger) :
       → said.command ≡ expect text → Goes b commands lines now (Some text)
       → Goes b (commands ++ said ∷ []) lines now (Some text)
 
--- the line that was printed last
+-- The line printed last.
 abbrev pub last_in : Printer → Option (List ℕ)
 last_in p = option_map (λ line. line.items) p.last
 
 abbrev pub last_of : Player → Option (List ℕ)
 last_of p = last_in p.printer
 
--- these commands were obeyed, one after another, and what is written grew by their lines, each with
--- its end
+-- These commands were obeyed in order, and the output grew by their lines, each with its end.
 pub record IsRun (b : Ledger) (commands : List PlainSaid) (old new : Option (List ℕ)) (now : Ledger)
     (last : Option (List ℕ)) : Type 0 where
   pub lines : List (List ℕ)
   pub goes : Goes b commands lines now last
   pub written : Appends old new (flat_map line_of lines)
 
--- the same, whatever the book is now, and was printed last
+-- As `IsRun`, for some final book and last line.
 pub record IsWritten (b : Ledger) (commands : List PlainSaid) (old new : Option (List ℕ)) :
     Type 0 where
   pub now : Ledger
   pub last : Option (List ℕ)
   pub run : IsRun b commands old new now last
 
--- the line that says that an expectation failed, by the number of its line
+-- The line that reports a failed expectation, with the number of its line.
 abbrev pub missed_text : ℕ → List ℕ
 missed_text line = codes "failed line " ++ decimal line
 
--- an expectation fails: the line before isn't the one that it names, and what is written grows by
--- the line that says so
+-- An expectation fails: the line before isn't its text, and the output grows by the line that
+-- reports it.
 pub record Misses (line : ℕ) (Expects : List ℕ → Type 0) (last old new : Option (List ℕ)) :
     Type 0 where
   pub text : List ℕ
@@ -72,7 +71,7 @@ pub record Misses (line : ℕ) (Expects : List ℕ → Type 0) (last old new : O
 abbrev pub IsMissedBy : PlainSaid → Option (List ℕ) → Option (List ℕ) → Option (List ℕ) → Type 0
 IsMissedBy said last old new = Misses said.line (λ text. said.command ≡ expect text) last old new
 
--- the commands up to an expectation were obeyed, and that fails; nothing else is written
+-- The commands up to an expectation were obeyed, and that fails; nothing else is written.
 pub record IsMissed (b : Ledger) (commands : List PlainSaid) (old new : Option (List ℕ)) :
     Type 0 where
   pub before : List PlainSaid

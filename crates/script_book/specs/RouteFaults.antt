@@ -1,4 +1,4 @@
--- What is told of a signal of the environment that B3 refuses.
+-- The reason stated for a signal of the environment that B3 refuses.
 use Rattle.std.specs.Prelude.{◌≡◌, ℕ, false, List, Some, None}
 use Rattle.std.specs.List.{list_any}
 use Rattle.actor_machine.specs.Ledger.{Ledger}
@@ -10,7 +10,7 @@ use Rattle.script_book.specs.declared.route_faults.RouteFault.{RouteFault}
 use Rattle.script_book.specs.declared.route_faults.RouteFault.TheVariants.{NoSignal, NoRoute, Count}
 use Rattle.script_book.specs.declared.route_faults.RouteFault.TheVariants.{WrongSort}
 
--- the actor and the signal are there, and no route brings the one to the other's process
+-- The actor and the signal exist, and no route carries the signal to the actor's process.
 pub record IsNotRouted (b : Ledger) (o : PlainOffer) : Type 0 where
   pub actor : Called
   pub signal : ℕ
@@ -19,8 +19,7 @@ pub record IsNotRouted (b : Ledger) (o : PlainOffer) : Type 0 where
   pub not_routed :
       list_any (offers actor.name.process.0 (record { 0 = signal })) b.set.routes ≡ false
 
--- such a fault of what the environment offers is so; of the number and the sorts of values nothing
--- is said
+-- The fault is true of the offer; `Count` and `WrongSort` state nothing.
 abbrev pub IsRouteFault : Ledger → PlainOffer → RouteFault → Type 0
 IsRouteFault b o (NoSignal signal) = signal_named b o.signal ≡ None
 IsRouteFault b o (NoRoute signal process) = IsNotRouted b o

@@ -1,4 +1,4 @@
-//! What is printed for each command.
+//! The lines printed for commands of a book script.
 ghost use Rattle.std.specs.Prelude.{◌≡◌, IfOk, IfSome};
 ghost use Rattle.script_lines.specs.Commands.{plain_command};
 ghost use Rattle.actor_machine.specs.declared.event.Event.TheVariants as event;
@@ -20,7 +20,7 @@ pub fn text_line<L: Display>(alloc: Global, line: &L) -> Result<Vec<u8>, AllocEr
     Vec::from_slice(alloc, text.as_bytes())
 }
 
-/// `ok`, or a refusal.
+/// `ok`, or the line of a refusal.
 fn done(alloc: Global, answered: Result<(), Refusal>) -> Result<Vec<u8>, AllocError>
     ensures { IfOk result (λ v. v.items ≡ done_text (why answered)) }
 {
@@ -30,7 +30,7 @@ fn done(alloc: Global, answered: Result<(), Refusal>) -> Result<Vec<u8>, AllocEr
     }
 }
 
-/// `tick N`.
+/// Obeys `tick N`.
 fn tick(alloc: Global, book: &mut Book, ticks: u32) -> Result<Vec<u8>, AllocError>
     ensures book { book.new ≡ (by_event book.old 0 (event.Advance ticks)).book }
     ensures line { IfOk result (λ v. v.items ≡ (by_event book.old 0 (event.Advance ticks)).line) }
@@ -44,7 +44,7 @@ fn tick(alloc: Global, book: &mut Book, ticks: u32) -> Result<Vec<u8>, AllocErro
     }
 }
 
-/// `env`.
+/// Obeys `env`.
 fn take_env(alloc: Global, book: &mut Book) -> Result<Vec<u8>, AllocError>
     ensures book { book.new ≡ (by_event book.old 0 event.TakeEnv).book }
     ensures line { IfOk result (λ v. v.items ≡ (by_event book.old 0 event.TakeEnv).line) }
@@ -73,7 +73,7 @@ fn variable_line(
     }
 }
 
-/// The line of `value P x`: the value of a variable, by its name, or `unset`; a refusal where there is no such actor.
+/// The line of `value P x`: the value of a variable, by its name, or `unset`; a refusal if there is no such actor.
 pub fn value_line(
     alloc: Global,
     book: &Book,
@@ -88,7 +88,7 @@ pub fn value_line(
     }
 }
 
-/// `rest`: the turns and skips that it had.
+/// Obeys `rest`: the line has the number of its turns and skips.
 fn rested(alloc: Global, book: &mut Book) -> Result<Vec<u8>, AllocError>
     ensures book { book.new ≡ (rested book.old).book }
     ensures line { IfOk result (λ v. v.items ≡ (rested book.old).line) }
@@ -97,7 +97,7 @@ fn rested(alloc: Global, book: &mut Book) -> Result<Vec<u8>, AllocError>
     text_line(alloc, &format_args!("rest {made}"))
 }
 
-/// The line that a command prints; none of its own for `expect`, which is nothing to a link.
+/// Obeys a command and returns its line, which is empty for `expect`: that doesn't affect the link.
 #[tactic(auto, unfolding(crate::specs::Answers::obeyed))]
 pub fn answer(alloc: Global, book: &mut Book, command: &Command<'_>) -> Result<Vec<u8>, AllocError>
     ensures book { book.new ≡ (obeyed book.old (plain_command command.now)).book }

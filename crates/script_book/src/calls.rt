@@ -12,7 +12,7 @@ use script_lines::{
 use std::alloc::{AllocError, Global};
 use turn_machine::run;
 
-/// `begin P`.
+/// Obeys `begin P`.
 fn begin(alloc: Global, book: &mut Book, actor: Called) -> Result<Vec<u8>, AllocError>
     ensures book { book.new ≡ (by_event book.old actor.name.process.0 (event.Begin actor.number)).book }
     ensures line { IfOk result (λ v. v.items ≡ (by_event book.old actor.name.process.0 (event.Begin actor.number)).line) }
@@ -29,7 +29,7 @@ fn begin(alloc: Global, book: &mut Book, actor: Called) -> Result<Vec<u8>, Alloc
     }
 }
 
-/// `finish P`: the job that P has out is made once more, runs, and is handed in.
+/// Obeys `finish P`: the current job of P is created again, run, and handed in.
 fn finish(alloc: Global, book: &mut Book, actor: Called) -> Result<Vec<u8>, AllocError>
     ensures book { book.new ≡ (by_event book.old actor.name.process.0 (event.Finish actor.number)).book }
     ensures line { IfOk result (λ v. v.items ≡ (by_event book.old actor.name.process.0 (event.Finish actor.number)).line) }
@@ -45,7 +45,7 @@ fn finish(alloc: Global, book: &mut Book, actor: Called) -> Result<Vec<u8>, Allo
     }
 }
 
-/// `skip P`.
+/// Obeys `skip P`.
 fn skip(alloc: Global, book: &mut Book, actor: Called) -> Result<Vec<u8>, AllocError>
     ensures book { book.new ≡ (by_event book.old actor.name.process.0 (event.Skip actor.number)).book }
     ensures line { IfOk result (λ v. v.items ≡ (by_event book.old actor.name.process.0 (event.Skip actor.number)).line) }
@@ -56,7 +56,7 @@ fn skip(alloc: Global, book: &mut Book, actor: Called) -> Result<Vec<u8>, AllocE
     }
 }
 
-/// `state P`, of an actor that is there.
+/// Obeys `state P` for an actor that exists.
 fn state(alloc: Global, book: &Book, actor: Called) -> Result<Vec<u8>, AllocError>
     ensures { IfOk result (λ v. v.items ≡ standing_line book.now actor.name.process.0 (standing_at book.now actor.number)) }
 {
@@ -66,7 +66,7 @@ fn state(alloc: Global, book: &Book, actor: Called) -> Result<Vec<u8>, AllocErro
     }
 }
 
-/// The line of `state P`: the state of an actor, by its name; a refusal where there is none.
+/// The line of `state P`: the state of an actor, by its name; a refusal if there is no such actor.
 pub fn state_line(alloc: Global, book: &Book, name: &str) -> Result<Vec<u8>, AllocError>
     ensures { IfOk result (λ v. v.items ≡ state_line book.now (actor_named book.now name.now)) }
 {
@@ -76,7 +76,7 @@ pub fn state_line(alloc: Global, book: &Book, name: &str) -> Result<Vec<u8>, All
     }
 }
 
-/// A call on an actor.
+/// Obeys a call on an actor.
 fn called(alloc: Global, book: &mut Book, call: Call, actor: Called) -> Result<Vec<u8>, AllocError>
     ensures book { book.new ≡ (called book.old call actor).book }
     ensures line { IfOk result (λ v. v.items ≡ (called book.old call actor).line) }
@@ -89,7 +89,7 @@ fn called(alloc: Global, book: &mut Book, call: Call, actor: Called) -> Result<V
     }
 }
 
-/// A call on an actor by its name alone.
+/// Obeys a call on an actor, given by its name.
 pub fn call(alloc: Global, book: &mut Book, call: Call, name: &str) -> Result<Vec<u8>, AllocError>
     ensures book { book.new ≡ (calls book.old call (actor_named book.old name.now)).book }
     ensures line { IfOk result (λ v. v.items ≡ (calls book.old call (actor_named book.old name.now)).line) }

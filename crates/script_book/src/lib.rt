@@ -1,4 +1,4 @@
-//! Book scripts as they run on a link.
+//! Runs book scripts on a link.
 #![tactic(auto)]
 
 mod answers;

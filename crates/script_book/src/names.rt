@@ -1,4 +1,4 @@
-//! Names of actors, signals and variables, as scripts write them: in any case.
+//! Names of actors, signals and variables, without regard to case.
 ghost use Rattle.std.specs.Prelude.{◌≡◌, option_map};
 ghost use Rattle.script_book.specs.Answers.{actor_named, signal_named, variable_named};
 
@@ -13,14 +13,14 @@ pub fn actor_named(book: &Book, word: &str) -> Option<Called>
     actor_called(book.set(), word)
 }
 
-/// The signal of this name.
+/// The signal with this name.
 pub fn signal_named(book: &Book, name: &str) -> Option<SignalNumber>
     ensures { option_map (λ s. s.0) result ≡ signal_named book.now name.now }
 {
     book.set().signal_of(name)
 }
 
-/// The variable of a process of this name.
+/// The variable of a process with this name.
 pub fn variable_named(book: &Book, process: ProcessNumber, name: &str) -> Option<VariableNumber>
     ensures { option_map (λ x. x.0) result ≡ variable_named book.now process.0 name.now }
 {

@@ -1,4 +1,4 @@
-//! What the environment offers.
+//! Offers of signals by the environment.
 ghost use Rattle.std.specs.Prelude.{◌≡◌};
 ghost use Rattle.script_lines.specs.Commands.{plain_offer};
 ghost use Rattle.script_lines.specs.Refused.{refused_text};
@@ -10,7 +10,7 @@ use actor_book::{Book, Refusal, rest};
 use script_lines::Offer;
 use turn_code::{SignalNumber, Value};
 
-/// The environment offers a signal to the actor of that number.
+/// Offers a signal of the environment to the actor with this number.
 fn offer_to(
     book: &mut Book,
     actor: u16,
@@ -27,11 +27,11 @@ fn offer_to(
     }
 }
 
-/// The environment offers a signal; the names are looked up.
+/// Offers a signal of the environment; the names are looked up.
 ///
 /// # Errors
 ///
-/// `B10 NoActor` for an actor, else `B3 NoRoute` for a signal, that isn't there, else the refusals of `Book::offer`. Nothing changes then.
+/// `B10 NoActor` without that actor, else `B3 NoRoute` without that signal, else as `Book::offer`; nothing changes.
 pub fn offer(book: &mut Book, given: &Offer<'_>) -> Result<(), Refusal>
     ensures book { book.new ≡ (offered book.old (plain_offer given.now)).book }
     ensures refusal { why result ≡ (offered book.old (plain_offer given.now)).refusal }
@@ -45,7 +45,7 @@ pub fn offer(book: &mut Book, given: &Offer<'_>) -> Result<(), Refusal>
     offer_to(book, actor.number, signal, &given.values)
 }
 
-/// Whether the actor and the signal are there.
+/// Whether the actor and the signal exist.
 fn look_up(book: &Book, given: &Offer<'_>) -> Result<(), Refusal>
     ensures { why result ≡ looked_up (actor_named book.now given.now.process.now) (signal_named book.now given.now.signal.now) }
 {
@@ -58,7 +58,7 @@ fn look_up(book: &Book, given: &Offer<'_>) -> Result<(), Refusal>
     Ok(())
 }
 
-/// So many offers, with a rest after each, up to the first that is refused.
+/// Makes `times` offers, with a rest after each, up to the first one refused.
 fn offers(book: &mut Book, times: u32, given: &Offer<'_>) -> Result<(), Refusal>
     ensures book { book.new ≡ (floods times (plain_offer given.now) book.old).book }
     ensures refusal { why result ≡ (floods times (plain_offer given.now) book.old).refusal }
@@ -73,11 +73,11 @@ fn offers(book: &mut Book, times: u32, given: &Offer<'_>) -> Result<(), Refusal>
     Ok(())
 }
 
-/// The same; the names are looked up before the first offer, which there may be none of.
+/// Makes `times` offers, with a rest after each. The names are looked up first, even if `times` is 0.
 ///
 /// # Errors
 ///
-/// The first refusal ends it: the offers before it stay made.
+/// The first refusal ends it; the offers before it remain in effect.
 pub fn flood(book: &mut Book, times: u32, given: &Offer<'_>) -> Result<(), Refusal>
     ensures book { let o = plain_offer given.now in
         book.new ≡ (flooded times o book.old (looked_up (actor_named book.old o.process) (signal_named book.old o.signal))).book }

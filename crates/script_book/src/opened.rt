@@ -1,4 +1,4 @@
-//! A link on which commands of a script are obeyed one at a time.
+//! A link that obeys commands of a script one at a time.
 ghost use Rattle.std.specs.Prelude.{◌≡◌, None, IfOk};
 ghost use Rattle.script_lines.specs.Scripts.{AreInRange};
 ghost use Rattle.script_book.specs.Played.{first_book, last_of};
@@ -11,7 +11,7 @@ use script_lines::Settings;
 use std::alloc::{AllocError, Global};
 use turn_check::Verified;
 
-/// A link of the processes of a set, as a script begins with it whose first lines set these numbers. Nothing is printed yet.
+/// A link of the processes of a set, as a script with these settings begins with it. Nothing is printed yet.
 pub fn open_player(alloc: Global, set: &Verified, settings: Settings) -> Result<Player, AllocError>
     requires { AreInRange settings }
     ensures book { IfOk result (λ p. p.book ≡ first_book set.now settings) }

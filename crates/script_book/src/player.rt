@@ -1,4 +1,4 @@
-//! A script as it runs.
+//! Running a book script.
 ghost use Rattle.std.specs.Prelude.{◌≡◌, ◌⊎◌, ◌++◌, ◌∷◌, [], List, ℕ, Option, map, IfOk, true, false};
 ghost use Rattle.actor_machine.specs.Ledger.{Ledger};
 ghost use Rattle.script_lines.specs.Scripts.{PlainSaid, plain_said};
@@ -13,10 +13,10 @@ use script_lines::{Command, Said};
 use std::alloc::Global;
 use std::io::{self, Write};
 
-/// The exit status where an expectation failed.
+/// The exit status if an expectation failed.
 pub const MISSED: u8 = 1;
 
-/// A link, and what is printed for it.
+/// A link, and the printer of its lines.
 #[derive(Drop)]
 pub struct Player {
     pub book: Book,
@@ -24,11 +24,11 @@ pub struct Player {
 }
 
 impl Player {
-    /// Does what a command says. Whether the run goes on: it doesn't behind `failed line N`.
+    /// Obeys a command. Returns whether the run goes on: it ends after `failed line N`.
     ///
     /// # Errors
     ///
-    /// Where a write fails, or memory is wanting.
+    /// If a write fails or memory runs out.
     pub fn obey<W: Write>(
         &mut self,
         alloc: Global,
@@ -57,7 +57,7 @@ impl Player {
         }
     }
 
-    /// Tells why the command that was obeyed last was refused by B3, where it was.
+    /// Writes why B3 refused the command obeyed last, if it did.
     pub fn explain<E: Write>(&self, alloc: Global, said: &Said<'_>, errors: &mut E) {
         let (Command::Offer(given) | Command::Flood(_, given)) = &said.command else {
             return;
@@ -75,12 +75,12 @@ impl Player {
         }
     }
 
-    /// Does what the commands say, in order, up to an expectation that fails. Gives the exit status, 0 or 1 where one failed. Why a signal is
-    /// refused by B3 is told on `errors`.
+    /// Obeys the commands in order, up to an expectation that fails. Returns the exit status: 0, or 1 if one failed.
+    /// The reasons of refusals by B3 are written to `errors`.
     ///
     /// # Errors
     ///
-    /// Where a write fails, or memory is wanting.
+    /// If a write fails or memory runs out.
     pub fn run<W: Write, E: Write>(
         &mut self,
         alloc: Global,

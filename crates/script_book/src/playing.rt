@@ -13,7 +13,7 @@ use std::alloc::Global;
 use std::io::Write;
 use turn_check::Verified;
 
-/// How much a link may hold, as a script sets it.
+/// The limits of a link that a script sets.
 pub(crate) fn limits_of(settings: Settings) -> Limits
     requires { AreInRange settings }
     ensures { result ≡ record { port = settings.ports; env = settings.env; journal = settings.journal } }
@@ -29,7 +29,7 @@ pub(crate) fn limits_of(settings: Settings) -> Limits
     }
 }
 
-/// Does what commands say, in order, up to an expectation that fails. Gives the exit status, 4 where memory or a write fails.
+/// Obeys commands in order, up to an expectation that fails. Returns the exit status: 4 if memory or a write fails.
 fn run_all<W: Write, E: Write>(
     alloc: Global,
     player: &mut Player,
@@ -51,10 +51,10 @@ fn run_all<W: Write, E: Write>(
     }
 }
 
-/// Runs a book script on the processes of a set, and prints a line for each command but `expect`.
+/// Runs a book script on the processes of a set, and prints a line for each command except `expect`.
 ///
-/// Gives the exit status: 0 where each command ran and its line was written, 1 after `failed line N` where an expectation failed, 4 where
-/// memory or a write fails. Nothing is written after a write that failed. Why a signal is refused by B3 is told on `errors` (tests alone show that).
+/// Returns 0 if each command ran and its line was written, 1 after `failed line N` if an expectation failed, 4 if
+/// memory or a write fails, after which nothing is written. `errors` gets the reasons of refusals by B3 (only tested).
 pub fn play_book<W: Write, E: Write>(
     alloc: Global,
     set: &Verified,

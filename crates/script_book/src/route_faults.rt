@@ -1,4 +1,4 @@
-//! Why no route brings a signal from the environment (B3), for a person to read.
+//! Why B3 refuses a signal of the environment, for a person to read.
 ghost use Rattle.std.specs.Prelude.{◌≡◌, ◌==◌, IfSome};
 ghost use Rattle.std.specs.List.{list_any};
 ghost use Rattle.actor_machine.specs.Refusals.{is_environment, is_process, offers};
@@ -13,25 +13,25 @@ use script_lines::Offer;
 use std::fmt;
 use turn_code::{DraftRoute, Party, SignalNumber, Sort, Value};
 
-/// Why a signal of the environment is refused by B3.
+/// Why B3 refuses a signal of the environment.
 #[derive(Clone, Copy, PartialEq, Eq, Debug)]
 pub enum RouteFault<'a> {
     /// The set has no signal of this name.
     NoSignal {
         signal: &'a str,
     },
-    /// No route brings it from the environment to this process.
+    /// No route carries it from the environment to this process.
     NoRoute {
         signal: &'a str,
         process: &'a str,
     },
-    /// It has so many parameters, and so many values are there.
+    /// It has `wanted` parameters, but `there` values are given.
     Count {
         signal: &'a str,
         wanted: usize,
         there: usize,
     },
-    /// The value at this place, counted from 1, isn't of the parameter's sort.
+    /// The value at this place, from 1, isn't of the parameter's sort.
     WrongSort {
         signal: &'a str,
         place: usize,
@@ -89,14 +89,14 @@ fn is_process(number: u8, party: Party) -> bool
     }
 }
 
-/// Whether a signal is among some.
+/// Whether a signal is among these.
 fn carries(signals: &[SignalNumber], signal: SignalNumber) -> bool
     ensures { result ≡ list_any (λ (x : PlainSignal). x.0 == signal.0) signals.now }
 {
     signals.iter().any(|other| other.0 == signal.0)
 }
 
-/// Whether a route brings a signal from the environment to a process.
+/// Whether a route carries a signal from the environment to a process.
 fn offers(number: u8, signal: SignalNumber, route: &DraftRoute) -> bool
     ensures { result ≡ offers number signal route.now }
 {
@@ -105,14 +105,14 @@ fn offers(number: u8, signal: SignalNumber, route: &DraftRoute) -> bool
         && carries(route.signals.as_slice(), signal)
 }
 
-/// Whether some route does.
+/// Whether some route carries a signal from the environment to a process.
 fn some_route_offers(routes: &[DraftRoute], number: u8, signal: SignalNumber) -> bool
     ensures { result ≡ list_any (offers number signal) routes.now }
 {
     routes.iter().any(|route| offers(number, signal, route))
 }
 
-/// Why values aren't those of a signal with parameters of these sorts.
+/// The fault of values that don't fit a signal with parameters of these sorts; none if they fit.
 fn values_fault<'a>(signal: &'a str, sorts: &[Sort], values: &[Value]) -> Option<RouteFault<'a>>
     ensures { (b : Ledger) → (o : PlainOffer) → IfSome result (IsRouteFault b o) }
 {
@@ -135,7 +135,7 @@ fn values_fault<'a>(signal: &'a str, sorts: &[Sort], values: &[Value]) -> Option
     None
 }
 
-/// Why a book refuses by B3 what the environment offers, where it is told.
+/// Why B3 refuses an offer of the environment, if a reason is found.
 pub fn route_fault<'a>(book: &Book, given: &Offer<'a>) -> Option<RouteFault<'a>>
     ensures { IfSome result (IsRouteFault book.now (plain_offer given.now)) }
 {

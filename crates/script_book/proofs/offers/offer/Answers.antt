@@ -7,7 +7,7 @@ use Rattle.script_lines.specs.declared.word.Called.{Called}
 use Rattle.script_book.specs.Answers.{Took, took, offered_by}
 use Rattle.script_book.proofs.offers.offer.Goals as goal
 
--- an offer whose names were found
+-- An offer whose names were found.
 offered_is : (b : Ledger) (us vs : List Value) (x : Called) (s : SignalNumber) (o : Option Called) (p : Option ℕ) → us ≡ vs → Some x ≡ o → Some s.0 ≡ p
     → took b (Offer (record { actor = x.number; signal = s; values = record { items = us } })) ≡ offered_by b vs o p
 offered_is b us vs x s o p g h k =

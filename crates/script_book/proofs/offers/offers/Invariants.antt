@@ -1,4 +1,4 @@
--- The offers that are left come to what all come to.
+-- The remaining offers lead to the result of all offers.
 use Rattle.std.proofs.Common.{◌≡◌, ◌-◌}
 use Rattle.script_lines.specs.Commands.{plain_offer}
 use Rattle.script_book.specs.Answers.{floods}
