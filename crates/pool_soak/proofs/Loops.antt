@@ -1,4 +1,4 @@
--- What a loop over lines has read, and what texts read as.
+-- The lines that a loop has read, and the script that a text reads as.
 use Rattle.std.proofs.Common.{◌≡◌, ℕ, ◌<◌, ◌≤◌, List, ◌∷◌, map, length, None, Some, Ok, Err, refl}
 use Rattle.std.proofs.lemmas.Bool.{lt-ltb, le-ltb}
 use Rattle.plain_text.specs.Reading.{LONGEST}
@@ -8,7 +8,7 @@ use Rattle.script_lines.specs.declared.script.ScriptFault.TheVariants.{BadLine, 
 use Rattle.script_lines.specs.Lines.{PlainLine, texts, plain_line, lines_of, line_at}
 use Rattle.pool_soak.specs.Scripts.{PlainSoak, empty, added, read, soak_of, IsFaultOf, IsBadAt}
 
--- ---- one line more
+-- ---- one more line
 
 read_on : (s t : PlainSoak) (line : Line) (more : List Line) → added s (texts line.words.items) ≡ Some t
     → read s (map plain_line (line ∷ more)) ≡ read t (map plain_line more)

@@ -26,7 +26,7 @@ too_long bytes kept read line keeps more are at =
     long bytes (omega (arith, ap length keeps.first, length-take (LONGEST + 1) bytes))
     ∙ ap Err (sym (at ∙ ap (λ bs. count_by (λ b. b == 10) bs + 1) same))
 
--- a script that was refused has no status 0 or 1
+-- a refused script has neither status 0 nor status 1
 pub turned : (status : ℕ) (old new : Option (List ℕ)) (bytes : List ℕ) → (status ≡ 2) ⊎ (status ≡ 4) → (status ≡ 2 → IsTurnedDown old new bytes)
     → IsEnd status old new bytes
 turned status old new bytes (inl two) down = record {
@@ -40,7 +40,7 @@ turned status old new bytes (inr four) down = record {
   refused = down;
 }
 
--- the end of a script that has a bad line
+-- the end of a run whose script has a bad line
 pub bad_line : (old new : Option (List ℕ)) (bytes : List ℕ) (fault : ScriptFault) → IsUtf8 bytes → IsFaultOf bytes fault → PrintsFault old new fault
     → IsTurnedDown old new bytes
 bad_line old new bytes (BadLine line) utf8 reads printed = inr (record { utf8 = utf8; line = line; reads = reads; printed = printed })
@@ -49,7 +49,7 @@ bad_line old new bytes NoMemory utf8 reads printed = absurd printed
 pub is_not : (b : Bool) → b ≡ false → IsTrue b → ⊥
 is_not b is_false is_true = absurd (false≢true (sym is_false ∙ is_true))
 
--- where the seats agree it is the audit that says no
+-- if the seats agree, only the audit can say no
 pub audit_says_no : (old new : Option (List ℕ)) (agree stand : Bool) → agree ≡ true → agree && stand ≡ false → Appends old new (lines_with agree stand)
     → Appends old new (lines_with true false)
 audit_says_no old new true true agreed wrong printed = absurd (false≢true (sym wrong))

@@ -1,4 +1,4 @@
--- The books that `soak` has worked on.
+-- The books of the links that `soak` serves.
 use Rattle.std.specs.Prelude.{◌≡◌, ℕ, List, length, Option, None, Some}
 use Rattle.std.specs.List.{All}
 use Rattle.plain_laws.specs.Limits.{USUAL_ENVIRONMENT, USUAL_JOURNAL, USUAL_PORT}
@@ -10,8 +10,8 @@ use Rattle.turn_pool.specs.Receipts.{AllStand}
 use Rattle.turn_pool.specs.declared.receipt.Receipt.{Receipt}
 use Rattle.script_check.specs.Loaded.{IsLoaded}
 
--- how many signals each port of a link holds, how many may wait for the environment, and how many
--- events its journal holds: as where nobody says it
+-- the number of signals that each port of a link holds, of signals that may wait for the
+-- environment, and of events that its journal holds: the usual sizes
 abbrev pub PORT : ℕ
 PORT = USUAL_PORT
 
@@ -21,18 +21,18 @@ ENVIRONMENT = USUAL_ENVIRONMENT
 abbrev pub JOURNAL : ℕ
 JOURNAL = USUAL_JOURNAL
 
--- so many links of a set on which nothing has happened
+-- this many new links that run a process set
 pub record AreOpened (set : Draft) (links : ℕ) (books : List Ledger) : Type 0 where
   pub number : length books ≡ links
   pub opened : All (λ book. book ≡ opened_book set PORT ENVIRONMENT JOURNAL) books
 
--- the profile's set, and as many links of it as a script says
+-- the process set `standard`, and as many new links as the script states
 abbrev pub AreBegun : Option ℕ → Draft → List Ledger → Type 0
 AreBegun None set books = ⊥
 AreBegun (Some links) set books = IsLoaded STANDARD.now set × AreOpened set links books
 
--- a client that made so many events has a receipt for each of them, and each one's event stands at
--- its place
+-- the client made this many events and has a receipt for each of them, and each receipt's event is
+-- at its place in a journal
 pub record AreKept (made : ℕ) (books : List Ledger) (receipts : List Receipt) : Type 0 where
   pub number : made ≡ length receipts
   pub stand : AllStand books receipts

@@ -1,4 +1,4 @@
--- What `soak` prints at its end.
+-- The lines that `soak` prints at its end.
 use Rattle.std.specs.Prelude.{ℕ, Bool, true, false, List, codes}
 use Rattle.pool_soak.specs.declared.finding_lines.Finding.{Finding}
 use Rattle.pool_soak.specs.declared.finding_lines.Finding.TheVariants.{SeatsAgree, SeatsDiffer}
@@ -10,7 +10,7 @@ finding_text SeatsDiffer = codes "seats differ"
 finding_text AuditYes = codes "audit yes"
 finding_text AuditNo = codes "audit no"
 
--- what is printed of the seats, and of the receipts
+-- the finding for the seats, and for the receipts
 abbrev pub seats_finding : Bool → Finding
 seats_finding true = SeatsAgree
 seats_finding false = SeatsDiffer

@@ -1,4 +1,4 @@
--- What `soak` prints.
+-- The output of `soak`.
 use Rattle.std.specs.Prelude.{◌≡◌, ◌⊎◌, ℕ, Bool, true, false, List, ◌++◌, Option, Ok, Err, IsUtf8}
 use Rattle.std.specs.Prelude.{codes}
 use Rattle.std.specs.Io.KnownBytes.{Appends}
@@ -9,7 +9,7 @@ use Rattle.script_check.specs.Printed.{line_of}
 use Rattle.pool_soak.specs.Scripts.{PlainSoak, soak_of}
 use Rattle.pool_soak.specs.FindingLines.{finding_text, seats_finding, audit_finding}
 
--- two lines: whether the seats agree, and whether the receipts stand
+-- two lines: whether the seats agree, and whether the receipts hold
 abbrev pub lines_with : Bool → Bool → List ℕ
 lines_with agree stand =
     line_of (finding_text (seats_finding agree)) ++ line_of (finding_text (audit_finding stand))
@@ -23,8 +23,8 @@ pub record IsSoaked (old new : Option (List ℕ)) (bytes : List ℕ) : Type 0 wh
   pub reads : soak_of bytes ≡ Ok script
   pub printed : Appends old new (lines_with true true)
 
--- The bytes are a script, and the second line says no. The first never does: what was counted is
--- what happened.
+-- The bytes are a script, and the second line says no. The first line never does: the counts always
+-- match the journals.
 pub record IsSoakedInVain (old new : Option (List ℕ)) (bytes : List ℕ) : Type 0 where
   pub utf8 : IsUtf8 bytes
   pub script : PlainSoak
@@ -33,19 +33,18 @@ pub record IsSoakedInVain (old new : Option (List ℕ)) (bytes : List ℕ) : Typ
 
 -- ---- a script that was refused
 
--- the line of a fault is written; want of memory has none
+-- the line of a fault is written; running out of memory has no line
 abbrev pub PrintsFault : Option (List ℕ) → Option (List ℕ) → ScriptFault → Type 0
 PrintsFault old new (BadLine line) =
     Appends old new (line_of (codes "refused " ++ script_fault_text (BadLine line)))
 PrintsFault old new NoMemory = ⊥
 
--- the bytes are no text, and what is written grows by the line that says so
+-- the bytes are no text, and the line about that was written
 pub record IsNoText (old new : Option (List ℕ)) (bytes : List ℕ) : Type 0 where
   pub no_text : IsUtf8 bytes → ⊥
   pub printed : Appends old new (line_of (codes "refused F1 NotText"))
 
--- they are a text, and what is written grows by the line of the first of its lines that may not
--- stand where it does
+-- the bytes are a text, and the line about the first bad line was written
 pub record HasBadLine (old new : Option (List ℕ)) (bytes : List ℕ) : Type 0 where
   pub utf8 : IsUtf8 bytes
   pub line : ℕ
@@ -55,7 +54,7 @@ pub record HasBadLine (old new : Option (List ℕ)) (bytes : List ℕ) : Type 0 
 abbrev pub IsTurnedDown : Option (List ℕ) → Option (List ℕ) → List ℕ → Type 0
 IsTurnedDown old new bytes = IsNoText old new bytes ⊎ HasBadLine old new bytes
 
--- ---- what each exit status says of a script's bytes, and of what was written
+-- ---- each exit status, by the bytes of the script and the text written
 
 pub record IsEnd (status : ℕ) (old new : Option (List ℕ)) (bytes : List ℕ) : Type 0 where
   pub held : status ≡ 0 → IsSoaked old new bytes

@@ -11,7 +11,7 @@ use Rattle.script_lines.specs.declared.commands.Offer.{Offer}
 use Rattle.turn_pool.specs.Receipts.{IsTaken}
 use Rattle.turn_pool.specs.declared.receipt.Receipt.{Receipt}
 
--- some book of that link took the signal, which comes to the actor that the offer names
+-- a book of that link took the signal for the actor that the offer names
 pub record IsOffered (set : Draft) (link : ℕ) (offer : Offer) (r : Receipt) : Type 0 where
   pub called : Called
   pub is_called : actor_called set offer.process.now ≡ Some called
@@ -24,13 +24,13 @@ pub record IsOffered (set : Draft) (link : ℕ) (offer : Offer) (r : Receipt) : 
         values = record { items = offer.values.items };
       })) reply.Offered r
 
--- some book of that link let so many ticks pass
+-- a book of that link let this many ticks pass
 pub record HasPassed (link ticks : ℕ) (r : Receipt) : Type 0 where
   pub due : ℕ
   pub taken : IsTaken link (Advance ticks) (reply.Passed due) r
 
--- Behind a command there is no other receipt, and nothing more is counted; or there is one more,
--- which is such a one, and one event more is counted.
+-- After a command, either there is no new receipt and nothing more is counted, or there is one more
+-- receipt, for which P holds, and one more event is counted.
 abbrev pub AddsReceipt : (Receipt → Type 0) → List Receipt → ℕ → List Receipt → ℕ → Type 0
 AddsReceipt P old before new after =
     ((new ≡ old) × (after ≡ before))

@@ -1,4 +1,4 @@
--- What a script of `soak` reads as: how many links there are, and then what happens to them.
+-- The reading of a script of `soak`: the number of links, followed by steps.
 use Rattle.std.specs.Prelude.{ℕ, ◌≡◌, nat_lt, ◌&&◌, if◌then◌else◌, List, [], ◌∷◌, ◌++◌, length, map}
 use Rattle.std.specs.Prelude.{Option, None, Some, option_and_then, Result, Ok, Err, codes}
 use Rattle.std.specs.Int.{is_in_range}
@@ -15,7 +15,7 @@ use Rattle.pool_soak.specs.declared.script.Soak.{Soak}
 use Rattle.pool_soak.specs.declared.script.Step.{Step}
 use Rattle.pool_soak.specs.declared.script.Step.TheVariants as step
 
--- ---- steps, without references
+-- ---- steps without references
 
 pub data PlainStep : Type 0 where
   on : ℕ → PlainStep
@@ -39,7 +39,7 @@ empty = record { links = None; steps = [] }
 
 -- ---- lines
 
--- `links N`, as many as a pool may serve
+-- `links N`, for as many links as a pool may serve
 abbrev pub links_at : List ℕ → ℕ → Option ℕ
 links_at word n =
     if bytes_eq word (codes "links") && is_in_range 1 MOST_LINKS n then Some n else None
@@ -74,7 +74,7 @@ step_else words None = option_and_then step_by (command_of words)
 abbrev pub step_of : List (List ℕ) → Option PlainStep
 step_of words = step_else words (on_of words)
 
--- ---- what a line adds: the number of links stands before all steps, and each step behind it
+-- ---- the effect of a line: the number of links comes before all steps, every step after it
 
 abbrev pub with_step : PlainSoak → Option PlainStep → Option PlainSoak
 with_step s None = None
@@ -101,7 +101,7 @@ abbrev pub read_by : ℕ → (PlainSoak → Result PlainSoak ℕ) → Option Pla
 read_by n go None = Err n
 read_by n go (Some t) = go t
 
--- what lines add one after another, or the number of the first that may not stand there
+-- the script after these lines, or the number of the first bad line
 abbrev pub read : PlainSoak → List PlainLine → Result PlainSoak ℕ
 read s [] = Ok s
 read s (line ∷ more) = read_by line.number (λ t. read t more) (added s line.words)
@@ -110,24 +110,24 @@ abbrev pub known_by : PlainSoak → Option ℕ → Result PlainSoak ℕ
 known_by s (Some n) = Ok s
 known_by s None = Err 1
 
--- a script without any line that says something has its fault in line 1
+-- the fault of a script without significant lines is in line 1
 abbrev pub known : Result PlainSoak ℕ → Result PlainSoak ℕ
 known (Ok s) = known_by s s.links
 known (Err n) = Err n
 
--- what a text reads as, or the number of its first bad line; of a text that is too long that of the
--- first byte too many
+-- the script that a text reads as, or the number of its first bad line; for a text that is too
+-- long, the line of the first byte too many
 unfoldable pub soak_of : List ℕ → Result PlainSoak ℕ
 soak_of text =
     if nat_lt LONGEST (length text) then Err (line_at text LONGEST)
     else known (read empty (lines_of text))
 
--- what a refusal says of a text; want of memory says nothing
+-- the text has this fault; running out of memory states nothing about the text
 abbrev pub IsFaultOf : List ℕ → ScriptFault → Type 0
 IsFaultOf text (BadLine n) = soak_of text ≡ Err n
 IsFaultOf text NoMemory = Unit {0}
 
--- the lines can't all be added: the first that can't has this number
+-- the first line that can't be added has this number
 abbrev pub IsBadAt : PlainSoak → List PlainLine → ScriptFault → Type 0
 IsBadAt s lines (BadLine n) = read s lines ≡ Err n
 IsBadAt s lines NoMemory = Unit {0}

@@ -1,4 +1,4 @@
-//! The client that does what a script says.
+//! The client that carries out a script.
 
 ghost use Rattle.std.specs.Prelude.{◌≡◌, ◌<◌, ◌+◌, ◌++◌, ◌∷◌, [], vec_len, vec_capacity};
 ghost use Rattle.pool_soak.specs.Receipts.{AddsReceipt, IsOffered, HasPassed};
@@ -10,7 +10,7 @@ use std::sync::ledger::Ledger;
 use turn_check::Verified;
 use turn_pool::{Client, Gate, JobName, Pool, Receipt, Seat};
 
-/// A gate that looks at nobody.
+/// A gate that checks nobody.
 #[derive(Drop)]
 pub struct Open;
 
@@ -28,7 +28,7 @@ impl Gate for Open {
     fn leave(&self, _name: JobName) {}
 }
 
-/// A script with the set that its names are of, and the receipts for what was accepted.
+/// A script with the process set that its names refer to, and the receipts for accepted commands.
 #[derive(Drop)]
 pub struct Script<'a> {
     pub set: &'a Verified,
@@ -37,14 +37,14 @@ pub struct Script<'a> {
 }
 
 impl Script<'_> {
-    /// Keeps a receipt. There is room for one of each step.
+    /// Keeps a receipt. There is room for one receipt per step.
     fn keep(&mut self, receipt: Receipt)
         ensures { vec_len self.old.receipts < vec_capacity self.old.receipts → self.new.receipts.items ≡ self.old.receipts.items ++ receipt ∷ [] }
     {
         let _kept = self.receipts.push(receipt);
     }
 
-    /// The environment offers a signal on a link. Where a name is unknown, or the pool refuses it, there is no receipt, and else that of what was taken.
+    /// Offers a signal from the environment on a link; keeps its receipt unless a name is unknown or the pool refuses.
     fn offer<R: Wait, L: Ledger>(
         &mut self,
         pool: &Pool<'_, R, L>,
@@ -66,7 +66,7 @@ impl Script<'_> {
         }
     }
 
-    /// Time passes on a link: the same.
+    /// Lets time pass on a link. Keeps its receipt, unless the pool refuses.
     fn tick<R: Wait, L: Ledger>(
         &mut self,
         pool: &Pool<'_, R, L>,

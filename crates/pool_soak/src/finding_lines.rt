@@ -1,4 +1,4 @@
-//! What is found once all is over.
+//! The findings at the end of a run.
 
 ghost use Rattle.std.specs.Prelude.{◌≡◌, ◌⊎◌, ◌&&◌, true, false};
 ghost use Rattle.pool_soak.specs.FindingLines.{seats_finding, audit_finding};
@@ -6,19 +6,19 @@ ghost use Rattle.pool_soak.specs.FindingLines.{seats_finding, audit_finding};
 use plain_text::HELD;
 use std::fmt;
 
-/// The exit status where seats or receipts aren't what the journals say.
+/// The exit status if a receipt doesn't match the journals, or the seats don't.
 pub const DIFFERS: u8 = 1;
 
-/// What is printed at the end.
+/// A line printed at the end.
 #[derive(Clone, Copy, PartialEq, Eq, Debug)]
 pub enum Finding {
-    /// The seats have together what the journals have.
+    /// The counts of all seats add up to the events in the journals.
     SeatsAgree,
-    /// They don't.
+    /// The counts of the seats differ from the journals.
     SeatsDiffer,
-    /// What each receipt names stands at its place.
+    /// The event of each receipt is at its place.
     AuditYes,
-    /// It doesn't.
+    /// The event of some receipt isn't at its place.
     AuditNo,
 }
 
@@ -38,7 +38,7 @@ impl fmt::Display for Finding {
     }
 }
 
-/// What is printed of the seats.
+/// The finding for the seats.
 pub fn seats_of(agree: bool) -> Finding
     ensures { result ≡ seats_finding agree }
 {
@@ -49,7 +49,7 @@ pub fn seats_of(agree: bool) -> Finding
     }
 }
 
-/// What is printed of the receipts.
+/// The finding for the receipts.
 pub fn audit_of(stand: bool) -> Finding
     ensures { result ≡ audit_finding stand }
 {

@@ -1,4 +1,4 @@
-//! What seats and journals have, held against each other.
+//! Compares the counts of the seats with the journals.
 
 ghost use Rattle.std.specs.Prelude.{◌≡◌, ◌↔◌, ◌+◌, IsTrue, sum, sum_by};
 ghost use Rattle.actor_machine.specs.Ledger.{next};
@@ -6,7 +6,7 @@ ghost use Rattle.actor_machine.specs.Ledger.{next};
 use actor_book::Book;
 use turn_pool::Closed;
 
-/// What all seats have. As there are less than 2^64 seats it is below 2^128.
+/// The sum of the counts of all seats. There are fewer than 2^64 seats, so it is below 2^128.
 fn counted(client: u64, workers: &[u64]) -> u128
     ensures { result ≡ client + sum workers.now }
 {
@@ -18,7 +18,7 @@ fn counted(client: u64, workers: &[u64]) -> u128
     all
 }
 
-/// The next places of all journals.
+/// The sum of the numbers of events in all journals.
 fn places(books: &[Book]) -> u128
     ensures { result ≡ sum_by next books.now }
 {
@@ -30,7 +30,7 @@ fn places(books: &[Book]) -> u128
     all
 }
 
-/// Whether the seats have together what the journals have, of books whose journals began at place 0.
+/// Returns whether the seats' counts add up to the events in the journals. The journals must have begun at event 0.
 pub fn agree(closed: &Closed) -> bool
     ensures { IsTrue result ↔ (closed.now.client + sum closed.now.workers.items ≡ sum_by next closed.now.books.items) }
 {

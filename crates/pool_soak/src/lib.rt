@@ -1,4 +1,4 @@
-//! The command `soak`: links worked on by threads while a script's signals come to them, with what was counted held against what happened.
+//! The command `soak`: threads serve links while a script offers signals; then counts are compared with journals.
 #![tactic(auto)]
 
 mod client;

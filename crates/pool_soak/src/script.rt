@@ -10,27 +10,27 @@ use plain_text::{MOST_BYTES, line_at_limit};
 use script_lines::{Command, Line, Offer, ScriptFault, command_in, count, lines_in};
 use std::alloc::{AllocError, Global};
 
-/// What a line of a script does.
+/// A step of a script.
 #[derive(Drop)]
 pub enum Step<'a> {
-    /// `on L`: what follows is for this link.
+    /// `on L`: the following steps concern this link.
     On(u32),
     /// `offer P SIG v..`: the environment offers a signal.
     Offer(Offer<'a>),
-    /// `tick N`: the clock goes on by N.
+    /// `tick N`: the clock advances by N ticks.
     Tick(u32),
 }
 
 /// A script.
 #[derive(Drop)]
 pub struct Soak<'a> {
-    /// How many links there are, 1 to 16, where a line has said so.
+    /// The number of links, 1 to 16, if a line has set it.
     pub links: Option<u32>,
-    /// What it does, in order.
+    /// The steps, in order.
     pub steps: Vec<Step<'a>>,
 }
 
-/// The number of links that a word and a number set.
+/// The number of links that a word and a number set, if the word is `links`.
 fn links_at(word: &str, number: u32) -> Option<u32>
     ensures { result ≡ links_at word.now number }
 {
@@ -40,7 +40,7 @@ fn links_at(word: &str, number: u32) -> Option<u32>
     }
 }
 
-/// The number of links that a first line sets, where it is one.
+/// The number of links that a first line sets, if it is such a line.
 pub fn links_in(words: &[&str]) -> Option<u32>
     ensures { result ≡ links_of (texts words.now) }
 {
@@ -53,7 +53,7 @@ pub fn links_in(words: &[&str]) -> Option<u32>
     }
 }
 
-/// The step `on L` of a word and a number.
+/// The step `on L`, if the word and number form one.
 fn on_at<'a>(word: &str, number: u32) -> Option<Step<'a>>
     ensures { option_map plain_step result ≡ on_at word.now number }
 {
@@ -63,7 +63,7 @@ fn on_at<'a>(word: &str, number: u32) -> Option<Step<'a>>
     }
 }
 
-/// The step `on L`, where the words are one.
+/// The step `on L`, if the words form one.
 fn on_in<'a>(words: &[&str]) -> Option<Step<'a>>
     ensures { option_map plain_step result ≡ on_of (texts words.now) }
 {
@@ -76,7 +76,7 @@ fn on_in<'a>(words: &[&str]) -> Option<Step<'a>>
     }
 }
 
-/// The step that a command of a book script is, where this kind of script has it.
+/// The step for a command of a book script, if `soak` has it.
 fn step_by(command: Command<'_>) -> Option<Step<'_>>
     ensures { option_map plain_step result ≡ step_by (plain_command command.entry) }
 {
@@ -92,7 +92,7 @@ fn step_by(command: Command<'_>) -> Option<Step<'_>>
     }
 }
 
-/// The step that the words of a line are, if they are one.
+/// The step that the words of a line form, if they form one.
 fn step_in<'a>(alloc: Global, words: &[&'a str]) -> Result<Option<Step<'a>>, AllocError>
     ensures { IfOk result (λ r. option_map plain_step r ≡ step_of (texts words.now)) }
 {
@@ -105,7 +105,7 @@ fn step_in<'a>(alloc: Global, words: &[&'a str]) -> Result<Option<Step<'a>>, All
     }
 }
 
-/// With a number of links, as long as there is no step.
+/// The script with a number of links; none if it has steps already.
 fn with_links<'a>(soak: Soak<'a>, number: u32) -> Option<Soak<'a>>
     ensures { option_map plain_soak result ≡ with_links number (map plain_step soak.entry.steps.items) }
 {
@@ -118,7 +118,7 @@ fn with_links<'a>(soak: Soak<'a>, number: u32) -> Option<Soak<'a>>
     })
 }
 
-/// With one step more, where there is one.
+/// The script with one more step; none if there is no step.
 fn with_step<'a>(mut soak: Soak<'a>, step: Option<Step<'a>>) -> Result<Option<Soak<'a>>, AllocError>
     ensures { IfOk result (λ r. option_map plain_soak r ≡ with_step (plain_soak soak.entry) (option_map plain_step step.entry)) }
 {
@@ -131,7 +131,7 @@ fn with_step<'a>(mut soak: Soak<'a>, step: Option<Step<'a>>) -> Result<Option<So
     }
 }
 
-/// With what a line adds, where it may stand there.
+/// The script with a line added; none if the line isn't allowed there.
 #[tactic(auto, unfolding(crate::specs::Scripts::added))]
 fn added<'a>(
     alloc: Global,
@@ -152,7 +152,7 @@ fn added<'a>(
     }
 }
 
-/// What the lines add one after another.
+/// The script after all lines.
 fn all_added<'a>(alloc: Global, lines: &[Line<'a>]) -> Result<Soak<'a>, ScriptFault>
     ensures read { IfOk result (λ s. read empty (map plain_line lines.now) ≡ Ok (plain_soak s)) }
     ensures bad { IfErr result (IsBadAt empty (map plain_line lines.now)) }
@@ -186,14 +186,11 @@ fn script_in<'a>(alloc: Global, text: &'a str) -> Result<Soak<'a>, ScriptFault>
     }
 }
 
-/// Reads a script of `soak`: a first line `links N` with the number of links, 1 to 16 (given again before any other, the last
-/// counts), and then lines `on L`, `offer P SIG v..` and `tick N`. Blank lines and comments may stand anywhere.
-///
-/// # Errors
-///
-/// [`ScriptFault::BadLine`] (X1) with the number of the first line that may not stand where it does, or 1 where no line says
-/// something; of a text of more than 262,144 bytes with that of the first byte too many, before any line is looked at.
-/// Any call may answer [`ScriptFault::NoMemory`] instead.
+/// Reads a script of `soak`. Its first line is `links N` with the number of links, 1 to 16; if repeated before any
+/// other line, the last one counts. Then come lines `on L`, `offer P SIG v..` and `tick N`. Blank lines and comments
+/// may appear anywhere.  # Errors  [`ScriptFault::BadLine`] (X1) has the number of the first bad line, or 1 if no line
+/// is significant. For a text of more than 262,144 bytes it has the line of the first byte too many. Any call may
+/// return [`ScriptFault::NoMemory`] instead.
 pub fn soak_script<'a>(alloc: Global, text: &'a str) -> Result<Soak<'a>, ScriptFault>
     ensures script { IfOk result (λ s. soak_of text.now ≡ Ok (plain_soak s)) }
     ensures fault { IfErr result (IsFaultOf text.now) }

@@ -1,4 +1,4 @@
-//! Why a line is none of a script of `soak`, for a person to read.
+//! Explains to a person why a line doesn't belong in a script of `soak`.
 ghost use Rattle.std.specs.Prelude.{◌≡◌, ◌∷◌, ℕ, Bool, List, None, IfSome, codes};
 ghost use Rattle.script_lines.specs.Commands.{verb_of};
 ghost use Rattle.script_lines.specs.Lines.{texts};
@@ -17,7 +17,7 @@ use std::io::Write;
 /// The greatest count.
 const MOST: u32 = 2_147_483_647;
 
-/// Why a line with one number behind its word is none.
+/// The fault of a line that should have one number after its word.
 fn count_fault<'a>(word: &'a str, more: &[&'a str], least: u32, most: u32) -> Option<LineFault<'a>>
     ensures { (p : List ℕ → Bool) → IfSome result (IsSo p (word.now ∷ texts more.now)) }
 {
@@ -27,7 +27,7 @@ fn count_fault<'a>(word: &'a str, more: &[&'a str], least: u32, most: u32) -> Op
     }
 }
 
-/// Why the words of a line are none of a script of `soak`, where it is told.
+/// Returns why the words of a line don't belong in a script of `soak`, if a reason is known.
 pub fn soak_line_fault<'a>(words: &[&'a str]) -> Option<LineFault<'a>>
     ensures { IfSome result (IsSo is_no_step (texts words.now)) }
 {
@@ -53,7 +53,7 @@ pub fn soak_line_fault<'a>(words: &[&'a str]) -> Option<LineFault<'a>>
     }
 }
 
-/// Tells why the line of this number is none.
+/// Writes why the line with this number is bad.
 fn explain_line<E: Write>(
     alloc: Global,
     text: &str,
@@ -75,14 +75,14 @@ fn explain_line<E: Write>(
     Ok(())
 }
 
-/// Tells why a text is no script of `soak`.
+/// Writes why a text is no script of `soak`.
 pub fn explain<E: Write>(alloc: Global, text: &str, fault: ScriptFault, errors: &mut E) {
     if let ScriptFault::BadLine(number) = fault {
         let _told = explain_line(alloc, text, number, errors);
     }
 }
 
-/// Tells that a text is too long for a script.
+/// Writes that a text is too long for a script.
 pub fn explain_length<E: Write>(alloc: Global, number: usize, errors: &mut E) {
     let told = format_args!("mtp2_play: line {number}: a script has {MOST_BYTES} octets at most");
     let _told = write_line(alloc, errors, &told);

@@ -28,18 +28,15 @@ use std::thread::Threads;
 use turn_check::Verified;
 use turn_pool::{Closed, Receipt, serve};
 
-/// Has links of the set `standard` worked on by threads while what a script says happens to them, and prints two lines:
-/// `seats agree`, since what was counted is what happened (`seats differ` is compared for and never comes); and `audit yes` where there is
-/// a receipt for each event that the script made, and what each names stands at its place, else `audit no`. The commands of the script
-/// print nothing; one that is refused has no receipt.
-///
-/// The script is read whole before anything is written, and a line of it that may not stand where it does is refused before
-/// anything runs. A line goes out in one write.
-///
-/// Gives the exit status: 0 where all agrees and was written; 1 where the second line is `audit no`; 2 after a line `refused F1 NotText`
-/// alone where the script is no text, or `refused X1 BadLine line N` of its first bad line; 4 where memory, a read or a write fails, for
-/// other than 1 to 16 workers, or where no thread can be made. Nothing is written after a write that failed. Why a line may not stand where it does
-/// is told on `errors` (tests alone show that).
+/// Lets threads serve links that run the process set `standard`, carries out a script on them, and prints two lines.
+/// The first is `seats agree`: the counts match the journals (`seats differ` is checked for, but never occurs). The
+/// second is `audit yes` if there is a receipt for each event that the script made, and each receipt's event is at its
+/// place; else it is `audit no`. The commands of the script print nothing; a refused command has no receipt.  The whole
+/// script is read before anything is written; a bad line is refused before anything runs. Each line is one write.
+/// Returns the exit status. 0: all agrees and was written. 1: the second line is `audit no`. 2: the script was refused;
+/// only `refused F1 NotText` was written if it is no text, else `refused X1 BadLine line N` with its first bad line. 4:
+/// out of memory, a read or a write failed, the number of workers isn't 1 to 16, or no thread can be made. Nothing is
+/// written after a write that failed. The reason why a line is bad is written to `errors` (only tests show that).
 pub fn soak<R: Threads + Wait + Sync, S: Read + Drop, W: Write, E: Write>(
     rt: &R,
     alloc: Global,
@@ -60,7 +57,7 @@ pub fn soak<R: Threads + Wait + Sync, S: Read + Drop, W: Write, E: Write>(
     }
 }
 
-/// Writes the fault of a script. Gives the exit status.
+/// Writes the fault of a script. Returns the exit status.
 fn refuse_script<W: Write>(alloc: Global, writer: &mut W, fault: ScriptFault) -> u8
     ensures printed { result ≡ 2 → PrintsFault (W.contents writer.old) (W.contents writer.new) fault }
     ensures status { (result ≡ 2) ⊎ (result ≡ 4) }
@@ -71,7 +68,7 @@ fn refuse_script<W: Write>(alloc: Global, writer: &mut W, fault: ScriptFault) ->
     }
 }
 
-/// Runs the script of a text that was read.
+/// Runs the script of a text that was read. Returns the exit status.
 fn soak_text<R: Threads + Wait + Sync, W: Write, E: Write>(
     rt: &R,
     alloc: Global,
@@ -104,7 +101,7 @@ fn soak_text<R: Threads + Wait + Sync, W: Write, E: Write>(
     }
 }
 
-/// Runs a script. Gives the exit status.
+/// Runs a script. Returns the exit status.
 fn run_script<R: Threads + Wait + Sync, W: Write>(
     rt: &R,
     alloc: Global,
@@ -123,16 +120,16 @@ fn run_script<R: Threads + Wait + Sync, W: Write>(
     }
 }
 
-/// How many signals a port of a link may hold.
+/// The largest number of signals in a port of a link.
 const PORT: usize = 16;
 
-/// How many signals may wait for its environment.
+/// The largest number of signals that wait for its environment.
 const ENVIRONMENT: usize = 64;
 
-/// How many events its journal may hold.
+/// The largest number of events in its journal.
 const JOURNAL: usize = 4_096;
 
-/// A book on which nothing has happened.
+/// A new book.
 fn book_of(alloc: Global, set: &Verified) -> Result<Book, AllocError>
     ensures { IfOk result (λ b. b ≡ opened_book set.now PORT ENVIRONMENT JOURNAL) }
 {
@@ -142,7 +139,7 @@ fn book_of(alloc: Global, set: &Verified) -> Result<Book, AllocError>
     }
 }
 
-/// So many books on which nothing has happened.
+/// This many new books.
 #[tactic(auto, using(crate::proofs::Books::one_more, crate::proofs::Books::none_more))]
 fn books_of(alloc: Global, set: &Verified, links: u32) -> Result<Vec<Book>, AllocError>
     ensures { IfOk result (λ books. AreOpened set.now links books.items) }
@@ -155,7 +152,7 @@ fn books_of(alloc: Global, set: &Verified, links: u32) -> Result<Vec<Book>, Allo
     Ok(books)
 }
 
-/// The profile's set, and as many links of it as a script says, on which nothing has happened.
+/// The process set `standard`, and as many new links as the script states.
 fn begun(alloc: Global, soak: &Soak<'_>) -> Option<(Verified, Vec<Book>)>
     ensures { IfSome result (λ r. AreBegun soak.now.links r.0 r.1.items) }
 {
@@ -169,7 +166,7 @@ fn begun(alloc: Global, soak: &Soak<'_>) -> Option<(Verified, Vec<Book>)>
     }
 }
 
-/// Serves links while a script runs. What is left of them, and the receipts of the script's client.
+/// Serves links while a script runs. Returns the closed pool, and the receipts of the script's client.
 #[tactic(auto, using(crate::proofs::Books::said))]
 fn served<R: Threads + Wait + Sync>(
     rt: &R,
@@ -199,9 +196,9 @@ fn served<R: Threads + Wait + Sync>(
     }
 }
 
-/// Serves as many links of the set `standard` as a script says, worked on by so many threads, while the script's commands happen to
-/// them, in order: what is left of them, and a receipt for each command that was accepted, in order. Nothing where the script says no
-/// number of links, for other than 1 to 16 workers, or where memory or all threads fail.
+/// Serves as many links of the process set `standard` as a script states, with this many threads, while the script's
+/// commands are carried out in order. Returns the closed pool, and the receipts of accepted commands, in order. Returns
+/// none if the script states no number of links, the workers aren't 1 to 16, memory runs out, or no thread can be made.
 pub fn soaked<R: Threads + Wait + Sync>(
     rt: &R,
     alloc: Global,
@@ -217,7 +214,7 @@ pub fn soaked<R: Threads + Wait + Sync>(
     served(rt, alloc, &set, soak, books, workers)
 }
 
-/// Serves the links of a script while it runs, and writes what is found. The exit status, but for 4 where memory, a write or all threads fail.
+/// Serves the links of a script and writes the findings. Returns the exit status; none stands for 4.
 fn soak_links<R: Threads + Wait + Sync, W: Write>(
     rt: &R,
     alloc: Global,
@@ -237,7 +234,7 @@ fn soak_links<R: Threads + Wait + Sync, W: Write>(
     }
 }
 
-/// Writes two lines: whether the seats agree, and whether the receipts stand.
+/// Writes two lines: whether the seats agree, and whether the receipts hold.
 #[tactic(auto, using(crate::proofs::Texts::after))]
 fn write_both<W: Write>(alloc: Global, writer: &mut W, agree: bool, stand: bool) -> io::Result<()>
     ensures { OnOk result (Appends (W.contents writer.old) (W.contents writer.new) (lines_with agree stand)) }
@@ -246,14 +243,14 @@ fn write_both<W: Write>(alloc: Global, writer: &mut W, agree: bool, stand: bool)
     write_line(alloc, writer, &audit_of(stand))
 }
 
-/// Whether there is a receipt for each event that the client made, and each one's event stands at its place.
+/// Whether there is a receipt for each event that the client made, and each receipt's event is at its place.
 fn are_kept(closed: &Closed, receipts: &[Receipt]) -> bool
     ensures { IsTrue result ↔ AreKept closed.now.client closed.now.books.items receipts.now }
 {
     closed.client == receipts.len() as u64 && closed.audit(receipts).is_ok()
 }
 
-/// Writes what is found. Gives the exit status.
+/// Writes the findings. Returns the exit status.
 #[tactic(auto, using(crate::proofs::Texts::audit_says_no))]
 fn report<W: Write>(
     alloc: Global,

@@ -1,4 +1,4 @@
--- What all lines add is what those from here on add to what there is.
+-- Adding all lines gives the same as adding the remaining lines to the script so far.
 use Rattle.std.proofs.Common.{◌≡◌, drop, map}
 use Rattle.script_lines.specs.Lines.{plain_line}
 use Rattle.pool_soak.specs.Scripts.{plain_soak, empty, read}

@@ -1,4 +1,4 @@
--- As many books as were asked for so far.
+-- As many books are open as iterations have run.
 use Rattle.pool_soak.specs.Books.{AreOpened}
 use Rattle.pool_soak.proofs.soaking.books_of.Given as goal
 
