@@ -1,4 +1,4 @@
-//! Calls of a terminal, and why they stop a trial. What their clauses say ends here: a trial shows what none of them says.
+//! Calls of a terminal, and why they stop a trial. Trials show behaviour that no contract states.
 ghost use Rattle.std.specs.Prelude.{◌≤◌, length};
 
 use link_standard::{
@@ -9,13 +9,13 @@ use std::alloc::{AllocError, Global};
 /// Why a trial stopped.
 #[derive(Clone, Copy)]
 pub enum Stopped {
-    /// There is no memory.
+    /// Memory ran out.
     NoMemory,
-    /// A terminal wasn't made, or refused what it was told; or a text or its limits are refused.
+    /// A terminal couldn't be made or refused a command; or a text or its limits are refused.
     Refused,
-    /// A line is no step, no run or no round, or there is no such kind of trial.
+    /// A line is no step, run or round, or its kind of trial doesn't exist.
     BadLine,
-    /// The clock says nothing.
+    /// The clock can't be read.
     NoClock,
 }
 
@@ -25,7 +25,7 @@ impl From<AllocError> for Stopped {
     }
 }
 
-/// Why a terminal did not do what it was told.
+/// Why a trial stops when a terminal refuses a call.
 fn why_stopped(error: CallError) -> Stopped {
     match error {
         CallError::NoMemory => Stopped::NoMemory,
@@ -41,7 +41,7 @@ pub fn terminal(alloc: Global, mode: Mode) -> Result<Terminal, Stopped> {
     }
 }
 
-/// Why a terminal wasn't made.
+/// Why a trial stops when a terminal can't be made.
 fn why_not_made(error: &NewError) -> Stopped {
     match error {
         NewError::Load(_) => Stopped::Refused,
@@ -49,7 +49,7 @@ fn why_not_made(error: &NewError) -> Stopped {
     }
 }
 
-/// Why a terminal wasn't made over a set.
+/// Why a trial stops when a terminal can't be made from a set.
 fn why_not_opened(error: &OpenError) -> Stopped {
     match error {
         OpenError::NoName(_) => Stopped::Refused,
@@ -57,7 +57,7 @@ fn why_not_opened(error: &OpenError) -> Stopped {
     }
 }
 
-/// Tells a terminal something.
+/// Gives a terminal a command.
 pub fn tell(terminal: &mut Terminal, command: Command) -> Result<(), Stopped> {
     match terminal.command(command) {
         Ok(()) => Ok(()),
@@ -65,7 +65,7 @@ pub fn tell(terminal: &mut Terminal, command: Command) -> Result<(), Stopped> {
     }
 }
 
-/// Lets so many milliseconds pass at a terminal.
+/// Lets milliseconds pass at a terminal.
 pub fn pass(terminal: &mut Terminal, ticks: u64) -> Result<(), Stopped> {
     match terminal.tick(ticks) {
         Ok(_) => Ok(()),
@@ -73,19 +73,19 @@ pub fn pass(terminal: &mut Terminal, ticks: u64) -> Result<(), Stopped> {
     }
 }
 
-/// Gives a terminal a message to send. Whether it took it.
+/// Gives a terminal a message to send, and returns whether it took it.
 pub fn put(terminal: &mut Terminal, msu: Msu) -> bool
     requires { 2 ≤ length msu.sif.items }
 {
     terminal.put(msu).is_ok()
 }
 
-/// How many messages wait at a terminal to go out for the first time in this spell.
+/// The number of messages at a terminal that haven't been sent yet in this spell.
 pub fn waiting(terminal: &Terminal) -> usize {
     terminal.held().saturating_sub(terminal.sent())
 }
 
-/// The line octets of so many units.
+/// The line octets of this many units.
 pub fn speak(terminal: &mut Terminal, units: usize) -> Result<Vec<u8>, Stopped> {
     match terminal.line_out(units) {
         Ok(octets) => Ok(octets),
@@ -93,19 +93,19 @@ pub fn speak(terminal: &mut Terminal, units: usize) -> Result<Vec<u8>, Stopped> 
     }
 }
 
-/// Gives a terminal line octets. How many it took.
+/// Gives a terminal line octets, and returns how many it took.
 pub fn take(terminal: &mut Terminal, octets: &[u8]) -> usize
     ensures { result ≤ length octets.now }
 {
     terminal.line_in(octets)
 }
 
-/// Gives a terminal line octets. Whether it took them all.
+/// Gives a terminal line octets, and returns whether it took all of them.
 pub fn hear(terminal: &mut Terminal, octets: &[u8]) -> bool {
     take(terminal, octets) == octets.len()
 }
 
-/// What a terminal hands out next.
+/// The next report of a terminal.
 pub fn next_report(terminal: &mut Terminal) -> Option<Report> {
     terminal.report()
 }

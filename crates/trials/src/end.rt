@@ -8,31 +8,31 @@ use arrayvec::ArrayVec;
 use link_standard::{Command, LinkStatus, Mode, Msu, Report, Terminal};
 use std::alloc::Global;
 
-/// How many messages an end keeps to send at most.
+/// The greatest number of unacknowledged or unsent messages that an end keeps.
 const MOST_KEPT: usize = 400;
 
-/// How many line octets a unit with one of our messages has at least; others have fewer.
+/// The least number of line octets of a unit with one of our messages; other units have fewer.
 const LEAST_OCTETS: usize = 12;
 
-/// What stands behind a message's number: its first octets, 4 of them or more.
+/// The octets after a message's number, of which a message has the first 4 or more.
 const FILLER: [u8; 32] = [
     0xFF, 0x7E, 0x00, 0xFE, 0x3F, 0x5A, 0xFF, 0xFF, 0x11, 0x7E, 0x7E, 0xC3, 0x80, 0x01, 0xF8, 0x1F,
     0xAA, 0xFF, 0x3E, 0x99, 0x00, 0x00, 0xF7, 0xEF, 0x42, 0xFB, 0xDF, 0x7D, 0xBE, 0x10, 0xE7, 0xFF,
 ];
 
-/// One end: its terminal, and what is counted there.
+/// One end: its terminal, and its counts.
 #[derive(Drop)]
 pub struct End {
     pub terminal: Terminal,
     pub figures: Figures,
-    /// How many messages its terminal was given.
+    /// The number of messages given to its terminal.
     given: u32,
-    /// Bits of the line that wait for a whole octet, the first one lowest, and how many.
+    /// Bits of the line that don't make up a whole octet yet, the first one lowest, and their number.
     part: u8,
     len: u8,
 }
 
-/// The message of a number.
+/// The message with a number.
 fn message(number: u32) -> Msu
     ensures { 2 ≤ length result.sif.items }
 {
@@ -47,7 +47,7 @@ fn message(number: u32) -> Msu
     Msu { sio: 0x83, sif }
 }
 
-/// The number of a message; one that no message has if its octets aren't those of its number.
+/// The number of a message; a number that no message has if its octets are wrong.
 fn number_of(msu: &Msu) -> u32 {
     match msu.sif.as_slice() {
         [a, b, c, d, ..] => {
@@ -73,13 +73,13 @@ impl End {
         })
     }
 
-    /// Has the link come into service.
+    /// Starts the link.
     pub fn start(&mut self) -> Result<(), Stopped> {
         tell(&mut self.terminal, Command::PowerOn)?;
         tell(&mut self.terminal, Command::Start)
     }
 
-    /// Gives the terminal as many messages to send, if it doesn't keep too many, up to so many in all.
+    /// Gives the terminal `count` messages to send, unless it keeps too many, up to `messages` in all.
     pub fn give(&mut self, count: u32, messages: u32) {
         for _ in 0..count {
             if self.given >= messages || self.terminal.held() >= MOST_KEPT {
@@ -92,7 +92,7 @@ impl End {
         }
     }
 
-    /// How many messages went out in this spell or were acknowledged before it: all that were given but those that wait.
+    /// The number of messages sent in this spell or acknowledged before it: all that were given except those that wait.
     fn gone(&self) -> u32 {
         let waiting = u32::try_from(waiting(&self.terminal)).unwrap_or(0);
         self.given.saturating_sub(waiting)
@@ -108,7 +108,7 @@ impl End {
         Ok(octets)
     }
 
-    /// What was told of the link. One that went down is to come up again.
+    /// Handles a status of the link. A link that went down is started again.
     fn heed(&mut self, status: LinkStatus) -> Result<(), Stopped> {
         match status {
             LinkStatus::InService => {
@@ -123,7 +123,7 @@ impl End {
         }
     }
 
-    /// Takes a report.
+    /// Handles a report.
     fn take(&mut self, report: Report) -> Result<(), Stopped> {
         match report {
             Report::Message(msu) => {
@@ -134,7 +134,7 @@ impl End {
         }
     }
 
-    /// Takes all reports.
+    /// Handles all reports.
     pub fn read(&mut self) -> Result<(), Stopped> {
         for _ in 0..1000u32 {
             match next_report(&mut self.terminal) {
@@ -145,13 +145,13 @@ impl End {
         Ok(())
     }
 
-    /// Lets so many milliseconds pass, and takes all reports.
+    /// Lets milliseconds pass, and handles all reports.
     pub fn wait(&mut self, ticks: u64) -> Result<(), Stopped> {
         pass(&mut self.terminal, ticks)?;
         self.read()
     }
 
-    /// Gives the terminal a line octet, and once more where it wanted memory.
+    /// Gives the terminal a line octet, and once more if it ran out of memory.
     fn hear(&mut self, octet: u8) -> Result<(), Stopped> {
         if hear(&mut self.terminal, &[octet]) || hear(&mut self.terminal, &[octet]) {
             self.read()
@@ -160,7 +160,7 @@ impl End {
         }
     }
 
-    /// One more bit of the line.
+    /// Adds one bit of the line.
     fn hear_bit(&mut self, bit: bool) -> Result<(), Stopped> {
         self.part = self.part >> 1 | if bit { 128 } else { 0 };
         self.len = self.len.wrapping_add(1) % 8;
@@ -171,7 +171,7 @@ impl End {
         Ok(())
     }
 
-    /// The bits of an octet, damaged on their way.
+    /// The bits of an octet, after the damage of the line.
     fn hear_octet(&mut self, octet: u8, noise: &mut Noise) -> Result<(), Stopped> {
         for place in 0..8u8 {
             let (times, turned) = noise.fate();
@@ -182,7 +182,7 @@ impl End {
         Ok(())
     }
 
-    /// Line octets, damaged on their way.
+    /// Line octets, after the damage of the line.
     pub fn listen(&mut self, octets: &[u8], noise: &mut Noise) -> Result<(), Stopped> {
         for octet in octets {
             self.hear_octet(*octet, noise)?;

@@ -1,4 +1,4 @@
-//! Events that happen to a link of a text, by [`run_text`].
+//! Events on a link of a text, through [`run_text`].
 
 mod read;
 mod told;
@@ -11,7 +11,7 @@ use actor_book::run_events;
 use actor_headline::{Book, LoadFault, TextRun, run_text};
 use std::alloc::Global;
 
-/// Rebases a book, lets the events of these lines happen to it, and writes what is answered.
+/// Rebases a book, makes the events of these lines, and writes the answers.
 fn go_on(alloc: Global, text: &mut String, book: &mut Book, lines: &str) -> Result<(), Stopped> {
     book.rebase()?;
     text.push_str("rebased\n")?;
@@ -32,7 +32,7 @@ fn write_fault(text: &mut String, fault: LoadFault) -> Result<(), Stopped> {
     }
 }
 
-/// Lets the events of a trial happen to a link of a text, and writes what is answered to each. A line `rebase` has the book rebased.
+/// Makes the events of a trial on a link of a text, and writes the answers. A line `rebase` rebases the book.
 fn run(alloc: Global, text: &mut String, events: &str, source: &str) -> Result<(), Stopped> {
     let Some((first, lines)) = events.split_once('\n') else {
         return Err(Stopped::BadLine);

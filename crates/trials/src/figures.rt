@@ -1,6 +1,6 @@
-//! What is counted at one end of a line.
+//! The counts at one end of a line.
 
-/// A message that came where another had to come.
+/// A message that came in place of another.
 #[derive(Clone, Copy)]
 pub struct Wrong {
     pub spell: u32,
@@ -8,29 +8,29 @@ pub struct Wrong {
     pub wanted: u32,
 }
 
-/// What went out at an end, and what came in.
+/// The messages sent and received at an end.
 #[derive(Clone, Copy)]
 pub struct Figures {
-    /// How many messages went out, each counted once.
+    /// The number of messages sent, each counted once.
     pub sent: u32,
-    /// How often one went out once more in the spell in which it had gone out.
+    /// The number of times that a message was sent again in the spell in which it was first sent.
     pub again: u32,
-    /// How often one went out once more because the link came up anew.
+    /// The number of times that a message was sent again because the link came up anew.
     pub anew: u32,
-    /// How many messages came, each counted once.
+    /// The number of messages received, each counted once.
     pub came: u32,
-    /// How often one came that had come in an earlier spell.
+    /// The number of messages received that had come in an earlier spell.
     pub doubled: u32,
-    /// How often the link came into service.
+    /// The number of times that the link came into service.
     pub spells: u32,
-    /// The number of the message that has to come next in this spell; none before its first, which may be any that came or the next one.
+    /// The number of the next message in this spell; none before its first, which may be the next or an earlier one.
     next: Option<u32>,
     /// The first message that came out of order.
     pub wrong: Option<Wrong>,
 }
 
 impl Figures {
-    /// Nothing happened.
+    /// Counts of 0.
     pub fn new() -> Figures {
         Figures {
             sent: 0,
@@ -44,7 +44,7 @@ impl Figures {
         }
     }
 
-    /// A message came. A number that no message has stands for one whose octets are wrong.
+    /// Counts a message received. A number that no message has means wrong octets.
     pub fn take(&mut self, number: u32) {
         let wanted = match self.next {
             Some(next) => next,
@@ -65,7 +65,7 @@ impl Figures {
         self.next = Some(number.wrapping_add(1));
     }
 
-    /// A unit went out, which may have had a message. The first `before` messages had gone out in this spell, and now `after` have.
+    /// Counts a unit sent. The number of messages sent in this spell was `before`, and is now `after`.
     pub fn pass(&mut self, before: u32, after: u32, is_message: bool) {
         if before == after {
             self.again = self.again.wrapping_add(is_message as u32);

@@ -1,12 +1,12 @@
-//! Line octets, with the correct signal units that another receiver found in them. A line has the octets in hexadecimal digits and behind
-//! them, parted by spaces, the units without their check octets.
+//! Line octets, with the correct signal units that another receiver found in them. A line has the octets in hexadecimal
+//! digits, followed by the units without their check octets, separated by spaces.
 ghost use Rattle.std.specs.Prelude.{◌<◌};
 
 use crate::calls::Stopped;
 use bit_line::{Deframer, LineEvent, NoMemory};
 use std::alloc::{AllocError, Global};
 
-/// The lines that were held against the deframer, the units in them, and in how many cuttings it found others.
+/// The lines given to the deframer, their units, and the number of cuttings in which it found other units.
 #[derive(Clone, Copy)]
 struct Held {
     lines: u32,
@@ -23,7 +23,7 @@ fn digit(c: u8) -> u8 {
     }
 }
 
-/// The octets that a word of hexadecimal digits spells.
+/// The octets of a word of hexadecimal digits.
 fn octets_of(alloc: Global, word: &str) -> Result<Vec<u8>, AllocError> {
     let mut octets = Vec::new(alloc);
     for pair in word.as_bytes().chunks(2) {
@@ -34,7 +34,7 @@ fn octets_of(alloc: Global, word: &str) -> Result<Vec<u8>, AllocError> {
     Ok(octets)
 }
 
-/// The octets that each word of a line spells.
+/// The octets of each word of a line.
 fn words_of(alloc: Global, line: &str) -> Result<Vec<Vec<u8>>, AllocError> {
     let mut words = Vec::new(alloc);
     for word in line.split_whitespace() {
@@ -43,7 +43,7 @@ fn words_of(alloc: Global, line: &str) -> Result<Vec<Vec<u8>>, AllocError> {
     Ok(words)
 }
 
-/// Whether the correct units of the line are these, where it is fed in pieces of so many octets.
+/// Whether the deframer finds exactly these correct units in the line, if it gets it in pieces of `cut` octets.
 fn agrees(alloc: Global, line: &[u8], units: &[Vec<u8>], cut: usize) -> Result<bool, NoMemory>
     requires { 0 < cut }
 {
@@ -64,7 +64,7 @@ fn agrees(alloc: Global, line: &[u8], units: &[Vec<u8>], cut: usize) -> Result<b
     Ok(rest.is_empty())
 }
 
-/// In how many cuttings the units of the line aren't these.
+/// The number of cuttings of the line in which the deframer finds other units.
 fn count_differences(alloc: Global, line: &[u8], units: &[Vec<u8>]) -> Result<u32, NoMemory> {
     let mut differences: u32 = 0;
     for cut in [1, 2, 3, 7, 64, 4096] {
@@ -75,7 +75,7 @@ fn count_differences(alloc: Global, line: &[u8], units: &[Vec<u8>]) -> Result<u3
     Ok(differences)
 }
 
-/// Holds a line against the deframer.
+/// Gives a line to the deframer and compares.
 fn hold(alloc: Global, text: &str, held: &mut Held) -> Result<(), Stopped> {
     let words = words_of(alloc, text)?;
     if let Some((line, units)) = words.as_slice().split_first() {
@@ -89,7 +89,7 @@ fn hold(alloc: Global, text: &str, held: &mut Held) -> Result<(), Stopped> {
     Ok(())
 }
 
-/// Holds lines against the deframer, and writes how many agree.
+/// Gives lines to the deframer, and writes how many agree.
 pub fn compare(alloc: Global, text: &mut String, lines: &str) -> Result<(), Stopped> {
     let mut held = Held {
         lines: 0,

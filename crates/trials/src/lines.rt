@@ -1,4 +1,4 @@
-//! Runs: messages over a line with noise, both ways.
+//! Runs: messages in both directions over a line with noise.
 
 use crate::calls::Stopped;
 use crate::end::End;
@@ -8,13 +8,13 @@ use crate::run::{Run, run_of};
 use crate::shown::write_run;
 use std::alloc::Global;
 
-/// How many rounds a run has at most.
+/// The greatest number of rounds of a run.
 const MOST_ROUNDS: u32 = 5_000;
 
-/// How many ticks a round takes while the link comes up: so proving is 10 rounds, and has few units.
+/// The number of ticks of a round while the link comes up: proving is 10 rounds, with few units.
 const ALIGNING: u64 = 900;
 
-/// As many units from one end to the other.
+/// Sends this many units from one end to the other.
 fn carry(from: &mut End, to: &mut End, noise: &mut Noise, units: u32) -> Result<(), Stopped> {
     for _ in 0..units {
         let octets = from.speak()?;
@@ -29,7 +29,7 @@ impl Pair {
         self.near.figures.came >= run.messages && self.far.figures.came >= run.messages
     }
 
-    /// How many ticks a round takes: in service 2 for each unit.
+    /// The number of ticks of a round: in service 2 for each unit.
     fn ticks(&self, run: &Run) -> u64 {
         if self.near.terminal.in_service() && self.far.terminal.in_service() {
             u64::from(run.units) * 2
@@ -38,14 +38,14 @@ impl Pair {
         }
     }
 
-    /// Lets the time of a round pass.
+    /// Lets the ticks of a round pass.
     fn wait(&mut self, run: &Run) -> Result<(), Stopped> {
         let ticks = self.ticks(run);
         self.near.wait(ticks)?;
         self.far.wait(ticks)
     }
 
-    /// One round: messages to send, units one way, units the other way, and the time that they take.
+    /// One round: new messages, units one way, units the other way, and their time.
     fn round(&mut self, run: &Run, noise: &mut Noise) -> Result<(), Stopped> {
         self.near.give(run.given, run.messages);
         self.far.give(run.given, run.messages);
@@ -54,7 +54,7 @@ impl Pair {
         self.wait(run)
     }
 
-    /// Rounds until all messages came, or there were too many.
+    /// Makes rounds until all messages came or there were too many.
     fn make(&mut self, run: &Run, noise: &mut Noise) -> Result<(), Stopped> {
         self.near.start()?;
         self.far.start()?;
@@ -68,7 +68,7 @@ impl Pair {
     }
 }
 
-/// Makes a run, and writes what came of it.
+/// Makes a run, and writes its results.
 pub fn make_run(text: &mut String, pair: &mut Pair, run: &Run) -> Result<(), Stopped> {
     let mut noise = Noise::new(u64::from(run.seed), u64::from(run.rate));
     pair.make(run, &mut noise)?;
@@ -82,7 +82,7 @@ pub fn make_run(text: &mut String, pair: &mut Pair, run: &Run) -> Result<(), Sto
     Ok(())
 }
 
-/// Makes the run of a line, and writes what came of it.
+/// Makes the run of a line, and writes its results.
 fn make_line(alloc: Global, text: &mut String, line: &str) -> Result<(), Stopped> {
     match run_of(line) {
         Some(run) => try_pair(alloc, text, run.mode, Some(run), ""),
@@ -90,7 +90,7 @@ fn make_line(alloc: Global, text: &mut String, line: &str) -> Result<(), Stopped
     }
 }
 
-/// Makes runs, and writes what came of each.
+/// Makes runs, and writes the results of each.
 pub fn make_runs(alloc: Global, text: &mut String, runs: &str) -> Result<(), Stopped> {
     for line in runs.lines() {
         make_line(alloc, text, line)?;

@@ -1,37 +1,44 @@
-//! `trials`: many trials of what no clause says, one after another, with a line `== NAME` before each in standard input. Behind it comes a
-//! line that says its kind, and then the trial. For each the name is printed, what it has to show, and an empty line.
+//! `trials`: many trials of behaviour that no contract states, one after another. In standard input each has a line
+//! `== NAME`, a line with its kind, and then the trial. Prints for each the name, its results, and an empty line.
 //!
-//! - `heard`: line octets, with the units that another receiver found in them ([`heard`]). Shows how many of them `bit_line` doesn't find.
-//! - `runs`: a run in each line. Two terminals, whose lines are tied together, carry messages: what goes out at one end comes in at the
-//!   other, octet by octet, over a line that flips, drops and doubles bits, by a seeded generator. Shows how many messages were sent and
-//!   delivered each way, how many bits were damaged, how often messages went out once more, how often the link came into service, and
-//!   whether the messages of each spell of service came in order, none twice and none missing. A run is six words: basic or cyclic, the
-//!   seed, the rate (of so many bits one is flipped, one dropped and one doubled, 0 for none), how many messages go each way, how many are
-//!   given to each end in a round, how many units go one way in a round.
-//! - `sets`: a run in each line ([`trials_groups::run_sets`]). Two link sets, whose links are tied together, carry messages, while a seeded schedule cuts
-//!   and heals links; what they say of a changeover is handed over as data, and some of it lost. Shows what was sent and arrived, how much is unsure, and
-//!   whether messages came once and in order of each selection, none missing but unsure ones.
-//! - `tended`: a run in each line ([`trials_groups::run_tended`]). Two link sets that tend themselves carry messages while their lines are cut, one way too,
-//!   garbled and stalled by a seeded schedule. Shows whether messages came once and in order of each selection, none missing but as many as were told as
-//!   unsure, and whether both ends are whole at the end.
-//! - `set_rounds`: a script ([`trials_groups::run_script`]) of two sets that tend themselves, on lines in memory. Shows what both tell.
-//! - `set_calls`: each public call of a link set. Shows what it answers.
-//! - `pools`: workers serve links ([`pools`]) while a client offers signals, lets ticks pass, takes what waits and rebases, by a seeded generator. The
-//!   first line has numbers: the seed, how many links and workers there are, how many steps the client makes, and, where it is to go on for long, so
-//!   many minutes in place of the steps. Behind it stands the text of a set, or `standard`. Shows whether the seats agree with the journals; with
-//!   minutes also what was done, and how often what was refused. `bench/soak` asks for that.
-//! - `events`: events that happen to a link of a text ([`events`]), by `run_text` of `actor_headline`; behind a line `rebase` the book that it gives goes
-//!   on. Shows what is answered to each.
-//! - `ports`: a port in each line ([`ports`]), which is held against a plain one, a vector, through many calls by a seeded generator. Shows
-//!   how often there was no room, how often an item was taken behind saved ones, and in how many calls the two differed.
-//! - `reports`: what is done with two such terminals, a step in each line ([`steps`]), over a line without damage. Shows what the near one
-//!   hands out at each step that asks for it: messages before what was told of the link, that it came into service, that it went down and
-//!   why, that the far side's processor is out and back; and how many line octets many units are that go out at once.
-//! - `wheels`: in each line a seed and a number of calls. A wheel and a table of deadlines that is walked get the same calls, drawn by a
-//!   generator: timers set and reset, ticks that pass, one, few, a turn of the wheel, more than may. Shows how many timers were due, how many
-//!   the wheel looked at, and whether the two always said the same.
-//! - `rounds`: what is measured, in each line a thing ([`rounds`]). Shows what its smallest round has; where a number of rounds is given
-//!   also how fast it went.
+//! - `heard`: line octets, with the units that another receiver found in them ([`heard`]). Shows how many of them
+//!   `bit_line` doesn't find.
+//! - `runs`: a run in each line. Two terminals, whose lines are connected, carry messages. The octets sent at one end
+//!   come in at the other over a line that flips, drops and doubles bits, by a seeded generator. Shows the messages
+//!   sent and delivered each way, the damaged bits, the messages sent again, and the times that the link came into
+//!   service. Also shows whether the messages of each spell of service came in order, none twice and none missing. A
+//!   run is six words: basic or cyclic; the seed; the rate (of this many bits one is flipped, one dropped and one
+//!   doubled, 0 for none); the messages each way; the messages given to each end in a round; the units one way in a
+//!   round.
+//! - `sets`: a run in each line ([`trials_groups::run_sets`]). Two link sets, whose links are connected, carry
+//!   messages, while a seeded schedule cuts and heals links. Changeover messages are passed as data, and some are lost.
+//!   Shows the messages sent and arrived, how many are unsure, and whether messages came once and in order of each SLS,
+//!   none missing except unsure ones.
+//! - `tended`: a run in each line ([`trials_groups::run_tended`]). Two link sets that tend themselves carry messages
+//!   while a seeded schedule cuts their lines, also one way only, garbles and stalls them. Shows whether messages came
+//!   once and in order of each SLS, with at most as many missing as were reported unsure, and whether both ends are
+//!   whole at the end.
+//! - `set_rounds`: a script ([`trials_groups::run_script`]) of two sets that tend themselves, on lines in memory. Shows
+//!   the reports of both.
+//! - `set_calls`: each public call of a link set. Shows its answer.
+//! - `pools`: workers serve links ([`pools`]) while a client offers signals, lets ticks pass, takes signals to the
+//!   environment and rebases, by a seeded generator. The first line has numbers: the seed, the links, the workers and
+//!   the client's steps, and for a long trial a number of minutes in place of the steps. Then comes the text of a set,
+//!   or `standard`. Shows whether the seats agree with the journals; with minutes also the calls and the refusals.
+//!   `bench/soak` uses that.
+//! - `events`: events on a link of a text ([`events`]), through `run_text` of `actor_headline`; after a line `rebase`
+//!   its book goes on. Shows the answer to each.
+//! - `ports`: a port in each line ([`ports`]), compared with a plain one, a vector, through many calls by a seeded
+//!   generator. Shows how often there was no room, how often an item was taken after saved ones, and in how many calls
+//!   the two differed.
+//! - `reports`: steps on two terminals, one in each line ([`steps`]), over a line without damage. Shows the near end's
+//!   reports at each step that asks for them: messages before reports on the link (it came into service; it went down
+//!   and why; the far side's processor is out and back). Also shows the line octets of many units sent at once.
+//! - `wheels`: in each line a seed and a number of calls. A wheel and a table of deadlines that is searched in full get
+//!   the same calls from a generator: timers set and reset, and ticks: one, few, a turn of the wheel, more than
+//!   allowed. Shows how many timers were due, how many the wheel looked at, and whether the two always agreed.
+//! - `rounds`: a measurement in each line ([`rounds`]). Shows the contents of its smallest round; with a number of
+//!   rounds also rates.
 #![tactic(auto)]
 
 mod calls;
@@ -71,7 +78,7 @@ use std::str;
 use std::sync::Wait;
 use std::thread::Threads;
 
-/// What the program says where a trial can't be made.
+/// The error message if a trial can't be made.
 fn failure(why: Stopped) -> io::Error {
     match why {
         Stopped::NoMemory => io::Error::from(ErrorKind::OutOfMemory),
@@ -80,7 +87,7 @@ fn failure(why: Stopped) -> io::Error {
     }
 }
 
-/// Makes a trial, or rounds of what is measured, and writes what there is to show.
+/// Makes a trial, or rounds of a measurement, and writes the results.
 fn make<R: Runtime + AllocGlobal + Threads + Wait + Sync>(
     rt: &R,
     text: &mut String,
@@ -104,7 +111,7 @@ fn make<R: Runtime + AllocGlobal + Threads + Wait + Sync>(
     }
 }
 
-/// Makes a trial, and prints what there is to show, as far as it goes.
+/// Makes a trial, and prints the results so far, even if it stops.
 fn show<R: Runtime + AllocGlobal + Threads + Wait + Sync>(
     rt: &R,
     kind: &str,

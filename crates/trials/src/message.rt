@@ -4,7 +4,7 @@ ghost use Rattle.std.specs.Prelude.{◌≡◌, ◌≤◌, length};
 use arrayvec::ArrayVec;
 use link_standard::Msu;
 
-/// A message with a field of so many octets, 2 to 272: its number twice, and behind that as much of the filler as is wanted.
+/// A message with a field of this many octets, 2 to 272: its number twice, followed by as much of the filler as needed.
 pub fn message_of(number: u8, octets: u16, filler: &[u8; 270]) -> Msu
     ensures { 2 ≤ length result.sif.items }
 {

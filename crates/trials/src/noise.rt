@@ -1,12 +1,12 @@
 //! A line that damages bits, by a seeded generator.
 
-/// What becomes of the bits of a line.
+/// The fate of the bits of a line.
 #[derive(Clone, Copy)]
 pub struct Noise {
     state: u64,
-    /// Of so many bits one is flipped, one dropped and one doubled; 0 for none.
+    /// Of this many bits one is flipped, one dropped and one doubled; 0 for none.
     rate: u64,
-    /// How many were.
+    /// The number of damaged bits.
     pub damaged: u32,
 }
 
@@ -28,7 +28,7 @@ impl Noise {
         self.state >> 33
     }
 
-    /// How often the next bit comes, and whether it is turned round.
+    /// The number of times that the next bit comes, and whether it is flipped.
     pub fn fate(&mut self) -> (u8, bool) {
         let rate = self.rate;
         if rate == 0 {

@@ -24,7 +24,7 @@ impl Pair {
     }
 }
 
-/// Makes a run with two ends, or does steps where there is no run, and writes what comes of it.
+/// Makes a run with two ends, or does steps if there is no run, and writes the results.
 fn work(text: &mut String, pair: &mut Pair, run: Option<Run>, steps: &str) -> Result<(), Stopped> {
     match run {
         Some(run) => make_run(text, pair, &run),
@@ -32,8 +32,8 @@ fn work(text: &mut String, pair: &mut Pair, run: Option<Run>, steps: &str) -> Re
     }
 }
 
-/// Makes a run with two new ends, or does steps where there is no run, and writes what comes of it. It alone owns ends, and does no more: to
-/// drop them is dear to prove wherever that may happen.
+/// Makes a run with two new ends, or does steps if there is no run, and writes the results. Only this function owns
+/// ends, and it does no more, since each place that may drop them is expensive to prove.
 pub fn try_pair(
     alloc: Global,
     text: &mut String,

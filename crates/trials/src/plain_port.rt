@@ -1,10 +1,10 @@
-//! A port as a vector: what a ring is held against.
+//! A port as a vector, for comparison with a ring.
 
 use input_port::{Arrival, Item, PutError, Saved};
 use std::alloc::{AllocError, Global};
 use turn_code::TimerNumber;
 
-/// How many timers a process may have.
+/// The greatest number of timers of a process.
 pub const TIMERS: u8 = 8;
 
 /// The items that wait for a process, in the order in which they came.
@@ -28,7 +28,7 @@ impl PlainPort {
         self.items.as_slice()
     }
 
-    /// How many of the items are signals.
+    /// The number of signals among the items.
     pub fn signals(&self) -> usize {
         self.items
             .iter()
@@ -41,7 +41,7 @@ impl PlainPort {
         self.items.iter().any(|item| is_of_timer(item, timer))
     }
 
-    /// Puts a signal behind the other items, where there is room.
+    /// Puts a signal after the other items, if there is room.
     pub fn put(&mut self, arrival: Arrival) -> Result<Result<(), PutError>, AllocError> {
         if self.signals() >= self.capacity {
             return Ok(Err(PutError::Full));
@@ -50,7 +50,7 @@ impl PlainPort {
         Ok(Ok(()))
     }
 
-    /// Puts the signal of a timer behind the other items.
+    /// Puts the signal of a timer after the other items.
     pub fn put_timer(&mut self, timer: TimerNumber) -> Result<(), AllocError> {
         self.items.push(Item::Timer(timer))?;
         Ok(())

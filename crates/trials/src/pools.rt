@@ -1,4 +1,4 @@
-//! Workers that serve links while a client does what a seeded generator says.
+//! Workers that serve links while a client follows a seeded generator.
 
 mod served;
 mod wanderer;

@@ -1,4 +1,4 @@
-//! Ports, held against plain ones by a seeded generator. A line has a seed, how many signals the port may have, and how many calls are made.
+//! Ports compared with plain ones, by a seeded generator. A line has a seed, the port's capacity and a number of calls.
 
 use crate::calls::Stopped;
 use crate::noise::Noise;
@@ -9,19 +9,19 @@ use input_port::{Arrival, Item, Port, Saved};
 use std::alloc::{AllocError, Global};
 use turn_code::{Address, Party, ProcessNumber, SignalNumber, TimerNumber, Value};
 
-/// How many signals there are.
+/// The number of signals.
 const SIGNALS: u64 = 4;
 
-/// A port with a plain one beside it, and what was found.
+/// A port and a plain one, and the findings.
 #[derive(Drop)]
 struct Held {
     port: Port,
     plain: PlainPort,
-    /// How often there was no room for a signal.
+    /// The number of times that there was no room for a signal.
     full: u32,
-    /// How often an item was taken behind a saved one.
+    /// The number of times that an item was taken after a saved one.
     behind: u32,
-    /// How often the two gave something else, or had something else then.
+    /// The number of times that the two returned different results or had different items.
     differences: u32,
 }
 
@@ -35,7 +35,7 @@ fn timer_of(noise: &mut Noise) -> TimerNumber {
     TimerNumber(below(noise, u64::from(TIMERS)))
 }
 
-/// A signal with a number, of a sender.
+/// A signal with a number and a value.
 fn arrival_of(signal: u8, value: u8) -> Arrival {
     let mut parameters = ArrayVec::new();
     parameters.push(Value::Int(i32::from(value)));
@@ -55,7 +55,7 @@ fn arrival_of(signal: u8, value: u8) -> Arrival {
     }
 }
 
-/// What a state saves: each signal and each timer with even chances.
+/// The signals and timers that a state saves: each with even chances.
 fn saved_of(noise: &mut Noise) -> Saved {
     let mut saved = Saved::nothing();
     for signal in 0..4u8 {
@@ -71,7 +71,7 @@ fn saved_of(noise: &mut Noise) -> Saved {
     saved
 }
 
-/// Whether they are the same item.
+/// Whether they are equal items.
 fn is_same(one: &Item, other: &Item) -> bool {
     match (one, other) {
         (Item::Signal(one), Item::Signal(other)) => {
@@ -84,7 +84,7 @@ fn is_same(one: &Item, other: &Item) -> bool {
     }
 }
 
-/// Whether both are none, or the same item.
+/// Whether both are none, or equal items.
 fn are_same(one: Option<&Item>, other: Option<&Item>) -> bool {
     match (one, other) {
         (Some(one), Some(other)) => is_same(one, other),
@@ -93,7 +93,7 @@ fn are_same(one: Option<&Item>, other: Option<&Item>) -> bool {
     }
 }
 
-/// Puts the signal of a timer into both, if it has none there. Whether both had one, or none.
+/// Puts the signal of a timer into both ports, unless it is there. Returns whether both had one, or neither.
 fn put_timer_in(
     port: &mut Port,
     plain: &mut PlainPort,
@@ -122,7 +122,7 @@ impl Held {
         })
     }
 
-    /// Counts a difference, if it is one.
+    /// Counts a difference, unless `same`.
     fn count(&mut self, same: bool) {
         if !same {
             self.differences = self.differences.saturating_add(1);
@@ -140,19 +140,19 @@ impl Held {
         Ok(())
     }
 
-    /// Puts the signal of a timer, if it has none here.
+    /// Puts the signal of a timer, unless it is there.
     fn put_timer(&mut self, timer: TimerNumber) -> Result<(), AllocError> {
         let same = put_timer_in(&mut self.port, &mut self.plain, timer)?;
         self.count(same);
         Ok(())
     }
 
-    /// Whether both find the same item first.
+    /// Whether both find equal items first.
     fn finds(&self, saved: &Saved) -> bool {
         are_same(self.port.first(saved), self.plain.first(saved))
     }
 
-    /// Whether a saved item stands before the first that isn't.
+    /// Whether a saved item precedes the first that isn't.
     fn is_behind(&self, saved: &Saved) -> bool {
         self.plain.place_of_first(saved).unwrap_or(0) > 0
     }
@@ -174,7 +174,7 @@ impl Held {
         self.plain.drop_timer(timer);
     }
 
-    /// Whether both have the same items.
+    /// Whether both have equal items.
     fn agrees(&self) -> bool {
         let items = self.plain.items();
         for (place, item) in items.iter().enumerate() {
@@ -187,7 +187,7 @@ impl Held {
             && self.port.signals() == self.plain.signals()
     }
 
-    /// A copy goes on in its place, or both are emptied.
+    /// Replaces both by copies, or empties both.
     fn begin_anew(&mut self, copies: bool) -> Result<(), AllocError> {
         if copies {
             self.port = self.port.copy()?;
@@ -198,7 +198,7 @@ impl Held {
         Ok(())
     }
 
-    /// One call of both. Then they have the same items.
+    /// Makes one call on both, which then must have equal items.
     fn call(&mut self, noise: &mut Noise) -> Result<(), AllocError> {
         match below(noise, 64) {
             0 => self.begin_anew(below(noise, 4) > 0)?,
@@ -213,7 +213,7 @@ impl Held {
     }
 }
 
-/// A line of it: makes so many calls, and writes what was found.
+/// Makes the calls of one line, and writes the findings.
 fn hold(alloc: Global, text: &mut String, line: &str) -> Result<(), Stopped> {
     let mut words = line.split_whitespace();
     let (Some(seed), Some(capacity), Some(calls)) = (
@@ -236,7 +236,7 @@ fn hold(alloc: Global, text: &mut String, line: &str) -> Result<(), Stopped> {
     Ok(())
 }
 
-/// Holds ports against plain ones, and writes what was found of each.
+/// Compares ports with plain ones, and writes the findings for each.
 pub fn hold_ports(alloc: Global, text: &mut String, lines: &str) -> Result<(), Stopped> {
     for line in lines.lines() {
         hold(alloc, text, line)?;

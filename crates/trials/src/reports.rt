@@ -1,4 +1,4 @@
-//! What is done with two ends over a line without damage, and what the near one hands out.
+//! Steps on two ends over a line without damage, and the reports of the near end.
 
 use crate::calls::{Stopped, hear, next_report, pass, put, speak, tell};
 use crate::message::message_of;
@@ -7,13 +7,13 @@ use crate::steps::{Step, step_of};
 use link_standard::{LinkStatus, Mode, Report, Terminal};
 use std::alloc::{AllocError, Global};
 
-/// How many units go each way in an exchange, so that some of them are whole on the line.
+/// The number of units each way in an exchange, so that some of them are whole on the line.
 const UNITS: usize = 3;
 
-/// What a message has behind its first two octets.
+/// The octets of a message after its first two.
 const FILLER: [u8; 270] = [0x5A; 270];
 
-/// A terminal gets a message of so many octets to send.
+/// Gives a terminal a message of this many octets to send.
 fn send(terminal: &mut Terminal, octets: u16) -> Result<(), Stopped> {
     if put(terminal, message_of((octets % 256) as u8, octets, &FILLER)) {
         Ok(())
@@ -22,7 +22,7 @@ fn send(terminal: &mut Terminal, octets: u16) -> Result<(), Stopped> {
     }
 }
 
-/// Units from one terminal to the other.
+/// Sends units from one terminal to the other.
 fn carry(from: &mut Terminal, to: &mut Terminal) -> Result<(), Stopped> {
     let octets = speak(from, UNITS)?;
     if hear(to, octets.as_slice()) {
@@ -32,7 +32,7 @@ fn carry(from: &mut Terminal, to: &mut Terminal) -> Result<(), Stopped> {
     }
 }
 
-/// So many octets of 1s come to a terminal.
+/// Gives a terminal this many octets of 1s.
 fn hear_ones(terminal: &mut Terminal, octets: u16) -> Result<(), Stopped> {
     for _ in 0..octets {
         if !hear(terminal, &[0xFF]) {
@@ -42,7 +42,7 @@ fn hear_ones(terminal: &mut Terminal, octets: u16) -> Result<(), Stopped> {
     Ok(())
 }
 
-/// Writes what was told of the link.
+/// Writes a status of the link.
 fn write_status(text: &mut String, status: LinkStatus) -> Result<(), AllocError> {
     match status {
         LinkStatus::InService => text.push_str("  in service\n"),
@@ -61,7 +61,7 @@ fn write_report(text: &mut String, report: Report) -> Result<(), AllocError> {
     }
 }
 
-/// Writes all that a terminal hands out, and a line behind it.
+/// Writes all reports of a terminal, followed by a line.
 fn write_reports(text: &mut String, terminal: &mut Terminal) -> Result<(), Stopped> {
     for _ in 0..1000u32 {
         match next_report(terminal) {
@@ -73,7 +73,7 @@ fn write_reports(text: &mut String, terminal: &mut Terminal) -> Result<(), Stopp
     Ok(())
 }
 
-/// Lets so many units go out at a terminal at once, and writes how many line octets they are.
+/// Lets a terminal send this many units at once, and writes the number of their line octets.
 fn write_octets(text: &mut String, terminal: &mut Terminal, units: u16) -> Result<(), Stopped> {
     let octets = speak(terminal, usize::from(units))?;
     writeln!(text, "  octets {}", octets.len())?;
@@ -81,25 +81,25 @@ fn write_octets(text: &mut String, terminal: &mut Terminal, units: u16) -> Resul
 }
 
 impl Pair {
-    /// Units go to the far end, and then come from there.
+    /// Sends units to the far end, and then units from there.
     fn exchange(&mut self) -> Result<(), Stopped> {
         carry(&mut self.near.terminal, &mut self.far.terminal)?;
         carry(&mut self.far.terminal, &mut self.near.terminal)
     }
 
-    /// So many milliseconds pass at both ends.
+    /// Lets milliseconds pass at both ends.
     fn pass(&mut self, ticks: u16) -> Result<(), Stopped> {
         pass(&mut self.near.terminal, u64::from(ticks))?;
         pass(&mut self.far.terminal, u64::from(ticks))
     }
 
-    /// Units that go to the far end are lost.
+    /// Loses the units to the far end.
     fn lose(&mut self) -> Result<(), Stopped> {
         let _lost = speak(&mut self.near.terminal, UNITS)?;
         Ok(())
     }
 
-    /// Does a step, and writes what it has to show.
+    /// Does a step, and writes its results.
     fn perform(&mut self, text: &mut String, step: Step) -> Result<(), Stopped> {
         match step {
             Step::Near(command) => tell(&mut self.near.terminal, command),
@@ -127,7 +127,7 @@ pub fn do_steps(text: &mut String, pair: &mut Pair, steps: &str) -> Result<(), S
     Ok(())
 }
 
-/// How the ends repeat their messages, and the steps: in turn where the first line says so.
+/// The error correction of both ends, and the steps: cyclic if the first line says so.
 fn parts(trial: &str) -> (Mode, &str) {
     match trial.strip_prefix("cyclic\n") {
         Some(steps) => (Mode::Cyclic, steps),
@@ -135,7 +135,7 @@ fn parts(trial: &str) -> (Mode, &str) {
     }
 }
 
-/// Does the steps of a trial with two new ends, and writes what they have to show.
+/// Does the steps of a trial with two new ends, and writes the results.
 pub fn report_all(alloc: Global, text: &mut String, trial: &str) -> Result<(), Stopped> {
     let (mode, steps) = parts(trial);
     try_pair(alloc, text, mode, None, steps)

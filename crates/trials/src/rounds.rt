@@ -1,35 +1,38 @@
-//! What is measured, each by a line of words. Without a number of rounds it is the smallest round, of which nothing is shown that depends
-//! on time.
+//! Measurements, each a line of words. Without a number of rounds it is the smallest round, and shows nothing that
+//! depends on time.
 //!
-//! - `line [ROUNDS]`: random message signal units through a stuffer and a deframer. Shows how many units came back; with a number of rounds
-//!   octets a second too, `out` of units put on the line, `in` of the line that were read, `until` of those that were taken up to the first
-//!   event each time, and `each` of those that were taken one by one; the same with `fisu_` for a line of fill-in units, 2,000 of them gone
-//!   through 25 times, so that they stay near the processor; `store`, messages a second that were put, sent and acknowledged, and
-//!   `retrieve`, messages a second that a full store handed out.
-//! - `link [ROUNDS]`: a terminal in service, with fill-in units alone, and with messages of 20 and of 272 octets. Shows what each round has:
-//!   units, line octets and turns of the actors, each way, and how many messages were handed out; with a number of rounds, of each kind,
-//!   octets a second: `in` and `out` through the terminal, `deframer` and `stuffer` through these alone on the same octets; and `ticks`,
-//!   ticks a second that come one by one.
-//! - `book [ROUNDS]`: turns of a book, and runs of code. Shows how many turns and instructions there were; with a number of rounds how many
-//!   in a second: `counter`, turns of the counter by jobs, from offer to finish; `standard`, turns of the profile's processes, a book opened
-//!   anew for each power-on and start; `long`, instructions of a piece of 512, whose job is copied for each run; `counter_own`, turns of the
-//!   counter that its book makes without a job; `standard_own` and `standard_job`, turns of the profile's processes in one book, whose link
-//!   starts and stops, made by the book and by jobs; `straight`, instructions of the piece of 512, run where it stands in its set; `counter_room` and
-//!   `standard_room`, the same turns as `counter` and `standard_job`, in a room.
-//! - `wheel [ROUNDS]`: 8, 64 and 1,024 timers that aren't due yet, in all slots alike, and 10,000 ticks, one by one. Shows how many timers
-//!   were looked at; with a number of rounds how many ticks passed in a second, `wheel` in a wheel and `table` in a table of deadlines that
-//!   is walked whole.
-//! - `port [ROUNDS]`: a port of 64 signals, all there; 10,000 times one is taken behind 0, 32 or 63 saved ones and put behind all others
-//!   again. Shows how many were taken; with a number of rounds how many a second, `port` from a port and `plain` from a vector.
-//! - `set [ROUNDS]`: two links, of which the first is given 127 messages that go out and 1,024 that wait; it fails, and all go to the second. Shows how
-//!   many were taken and diverted; with a number of rounds, of each, nanoseconds for one of the 1,024 and microseconds for the diversion, from the
-//!   order on.
-//! - `code SET`: the code of the set of such a name as numbers ([`code`]).
-//! - `open` and `full`: a book of the profile is held at the greatest limits, and in `full` its journal is filled. Shows how many events it
-//!   has.
-//! - `pool [ROUNDS WORKERS]`: workers go round 16 links of the set `standard` while a client starts and stops their terminals, a few rounds
-//!   and two workers where there are no numbers. Shows whether the seats agree with the journals; with numbers how many events there were,
-//!   and how many microseconds they took. 0 workers stand for one book without a pool, which has its turns between the same signals.
+//! - `line [ROUNDS]`: random message signal units through a stuffer and a deframer. Shows how many units came back.
+//!   With a number of rounds also octets per second: `out` of units put on the line, `in` of the line that were read,
+//!   `until` of those taken up to the first event each time, and `each` of those taken one by one. Names with `fisu_`
+//!   are for a line of 2,000 fill-in units, sent 25 times so that they stay in the cache. `store`: messages per second
+//!   that were put, sent and acknowledged; `retrieve`: messages per second from a full store.
+//! - `link [ROUNDS]`: a terminal in service, with only fill-in units, and with messages of 20 and of 272 octets. Shows
+//!   for each round the units, line octets and turns of the actors, each way, and the messages delivered. With a number
+//!   of rounds, for each kind, octets per second: `in` and `out` through the terminal, `deframer` and `stuffer` through
+//!   these only, on the same octets; and `ticks` per second, one by one.
+//! - `book [ROUNDS]`: turns of a book, and runs of code. Shows the number of turns and instructions. With a number of
+//!   rounds also rates per second: `counter`, turns of the counter by jobs, from offer to finish; `standard`, turns of
+//!   the profile's processes, with a new book for each power-on and start; `long`, instructions of a piece of 512,
+//!   whose job is copied for each run; `counter_own`, turns of the counter that its book makes without a job;
+//!   `standard_own` and `standard_job`, turns of the profile's processes in one book, whose link starts and stops, by
+//!   the book and by jobs; `straight`, instructions of the piece of 512, run on borrowed code; `counter_room` and
+//!   `standard_room`, as `counter` and `standard_job`, in a room.
+//! - `wheel [ROUNDS]`: 8, 64 and 1,024 timers that aren't due yet, equally many in all slots, and 10,000 ticks, one by
+//!   one. Shows how many timers were looked at; with a number of rounds ticks per second, `wheel` in a wheel and
+//!   `table` in a table of deadlines that is searched in full.
+//! - `port [ROUNDS]`: a full port of 64 signals; 10,000 times one is taken after 0, 32 or 63 saved ones and put after
+//!   all others again. Shows how many were taken; with a number of rounds how many per second, `port` from a port and
+//!   `plain` from a vector.
+//! - `set [ROUNDS]`: two links; the first gets 127 messages that are sent and 1,024 that wait, and fails, and all go to
+//!   the second. Shows how many were taken and diverted; with a number of rounds nanoseconds for one of the 1,024, and
+//!   microseconds for the diversion from the order on.
+//! - `code SET`: the code of the set with this name as numbers ([`code`]).
+//! - `open` and `full`: a book of the profile with the greatest limits; in `full` its journal is filled. Shows the
+//!   number of its events.
+//! - `pool [ROUNDS WORKERS]`: workers go round 16 links of the set `standard` while a client starts and stops their
+//!   terminals; a few rounds and two workers if there are no numbers. Shows whether the seats agree with the journals;
+//!   with numbers also the events and their microseconds. With 0 workers one book without a pool takes its turns
+//!   between the same signals.
 
 mod book_rounds;
 mod books;
@@ -66,7 +69,7 @@ use std::str::SplitWhitespace;
 use std::sync::Wait;
 use std::thread::Threads;
 
-/// What a word and those behind it ask of a set.
+/// The question about a set in a word and those after it.
 fn question_of(word: &str, words: &mut SplitWhitespace<'_>) -> Option<(Set, Question)> {
     match word {
         "code" => Some((Set::named(words.next().unwrap_or("")), Question::Code)),
@@ -81,7 +84,7 @@ fn question_of(word: &str, words: &mut SplitWhitespace<'_>) -> Option<(Set, Ques
     }
 }
 
-/// Writes what a word and those behind it ask of a set.
+/// Writes the answer to the question in a word and those after it.
 fn write_question<R: Runtime + AllocGlobal + Threads + Wait + Sync>(
     rt: &R,
     text: &mut String,
@@ -94,7 +97,7 @@ fn write_question<R: Runtime + AllocGlobal + Threads + Wait + Sync>(
     }
 }
 
-/// Makes the rounds of a line of words, and writes what came of them.
+/// Makes the rounds of a line of words, and writes the results.
 fn make_line<R: Runtime + AllocGlobal + Threads + Wait + Sync>(
     rt: &R,
     text: &mut String,
@@ -112,7 +115,7 @@ fn make_line<R: Runtime + AllocGlobal + Threads + Wait + Sync>(
     }
 }
 
-/// Makes rounds, and writes what came of them.
+/// Makes rounds, and writes the results.
 pub fn make_rounds<R: Runtime + AllocGlobal + Threads + Wait + Sync>(
     rt: &R,
     text: &mut String,

@@ -8,12 +8,12 @@ use std::str::SplitWhitespace;
 pub struct Run {
     pub mode: Mode,
     pub seed: u32,
-    /// Of so many bits one is flipped, one dropped and one doubled; 0 for none.
+    /// Of this many bits one is flipped, one dropped and one doubled; 0 for none.
     pub rate: u32,
-    /// How many messages go each way, and how many of them are given to each end in a round.
+    /// The number of messages each way, and how many of them each end gets in a round.
     pub messages: u32,
     pub given: u32,
-    /// How many units go one way before as many go the other way.
+    /// The number of units one way before as many go the other way.
     pub units: u32,
 }
 
@@ -34,7 +34,7 @@ pub fn number(words: &mut SplitWhitespace<'_>) -> Option<u32> {
     }
 }
 
-/// The run of these words, if they are one and no more.
+/// The run of these words, if they are exactly one.
 pub fn run_of(line: &str) -> Option<Run> {
     let mut words = line.split_whitespace();
     let run = Run {

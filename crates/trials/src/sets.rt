@@ -23,7 +23,7 @@ pub fn standard_set(alloc: Global) -> Result<Verified, Stopped> {
     }
 }
 
-/// Makes runs of two sets back to back, and writes what came of each.
+/// Makes runs of two sets back to back, and writes the results of each.
 pub fn make_sets(alloc: Global, text: &mut String, runs: &str) -> Result<(), Stopped> {
     let set = standard_set(alloc)?;
     run_sets(alloc, text, &set, runs).map_err(why_stopped)
@@ -47,7 +47,7 @@ fn set_of(alloc: Global, run: &str) -> Result<Verified, Stopped> {
     standard_set(alloc)
 }
 
-/// Makes runs of two sets that tend themselves, and writes what came of each: over `q703` where a run says so, else over `standard`.
+/// Makes runs of two sets that tend themselves, over `q703` or `standard` as a run says, and writes the results.
 pub fn make_tended(alloc: Global, text: &mut String, runs: &str) -> Result<(), Stopped> {
     for run in runs.lines() {
         let set = set_of(alloc, run)?;
@@ -56,13 +56,13 @@ pub fn make_tended(alloc: Global, text: &mut String, runs: &str) -> Result<(), S
     Ok(())
 }
 
-/// Does what a script of two sets says, and writes what both told.
+/// Follows a script of two sets, and writes the reports of both.
 pub fn make_script(alloc: Global, text: &mut String, script: &str) -> Result<(), Stopped> {
     let set = standard_set(alloc)?;
     run_script(alloc, text, &set, script).map_err(why_stopped)
 }
 
-/// Makes each public call of a set, and writes what it answers.
+/// Makes each public call of a set, and writes its answer.
 pub fn call_each(alloc: Global, text: &mut String) -> Result<(), Stopped> {
     let set = standard_set(alloc)?;
     make_calls(alloc, text, &set).map_err(why_stopped)

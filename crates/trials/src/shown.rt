@@ -1,4 +1,4 @@
-//! What is shown of a run.
+//! The output of a run.
 
 use crate::figures::{Figures, Wrong};
 use crate::run::Run;
@@ -13,7 +13,7 @@ fn word_of(mode: Mode) -> &'static str {
     }
 }
 
-/// Writes the run, and how many bits were damaged.
+/// Writes the run, and the number of damaged bits.
 fn write_head(text: &mut String, run: &Run, damaged: u32) -> Result<(), AllocError> {
     let Run {
         mode,
@@ -47,7 +47,7 @@ fn write_order(text: &mut String, wrong: Option<Wrong>) -> Result<(), AllocError
     }
 }
 
-/// Writes how many messages went one way.
+/// Writes the numbers of messages one way.
 fn write_counts(text: &mut String, from: &Figures, to: &Figures) -> Result<(), AllocError> {
     writeln!(
         text,
@@ -56,14 +56,14 @@ fn write_counts(text: &mut String, from: &Figures, to: &Figures) -> Result<(), A
     )
 }
 
-/// Writes what went one way.
+/// Writes the results for one way.
 fn write_way(text: &mut String, way: &str, from: &Figures, to: &Figures) -> Result<(), AllocError> {
     text.push_str(way)?;
     write_counts(text, from, to)?;
     write_order(text, to.wrong)
 }
 
-/// Writes what came of a run.
+/// Writes the results of a run.
 pub fn write_run(
     text: &mut String,
     run: &Run,

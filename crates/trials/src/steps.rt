@@ -1,33 +1,34 @@
-//! Steps as they are written: `near COMMAND` and `far COMMAND` tell an end something (`power_on`, `start`, `stop`, `outage`, `back`);
-//! `near_sends N` and `far_sends N` give it a message with a field of so many octets; in an `exchange` units go to the far end and then
-//! come from there, `lose` loses those to the far end; `ones N` is so many octets of 1s for the near end, `wait N` so many milliseconds at
-//! both; `units N` has so many units go out at the near end at once, and tells how many line octets they are; `show` hands out all that
-//! the near end has. Where the first line is `cyclic`, both ends repeat their messages in turn.
+//! Steps as they are written: `near COMMAND` and `far COMMAND` give an end a command (`power_on`, `start`, `stop`,
+//! `outage`, `back`). `near_sends N`, `far_sends N`: it gets a message with a field of N octets. In an `exchange` units
+//! go to the far end and then come from there; `lose` loses those to the far end. `ones N`: the near end gets N octets
+//! of 1s; `wait N`: N milliseconds at both. `units N` sends N units at once at the near end and shows the number of
+//! line octets; `show` shows its reports. If the first line is `cyclic`, both ends use preventive cyclic
+//! retransmission.
 
 use link_standard::Command;
 
-/// What is done with the two ends.
+/// A step with the two ends.
 #[derive(Clone, Copy)]
 pub enum Step {
-    /// The near end is told something.
+    /// The near end gets a command.
     Near(Command),
-    /// The far one is told something.
+    /// The far end gets a command.
     Far(Command),
-    /// The near one gets a message of so many octets to send.
+    /// The near end gets a message of this many octets to send.
     NearSends(u16),
-    /// The far one gets such a message.
+    /// The far end gets a message of this many octets to send.
     FarSends(u16),
     /// Units go to the far end, and then units come from there.
     Exchange,
-    /// Units that go to the far end are lost.
+    /// Units to the far end are lost.
     Lose,
-    /// So many octets of 1s come to the near end.
+    /// The near end gets this many octets of 1s.
     Ones(u16),
-    /// So many units go out at the near end at once.
+    /// The near end sends this many units at once.
     Units(u16),
-    /// So many milliseconds pass at both ends.
+    /// This many milliseconds pass at both ends.
     Wait(u16),
-    /// The near one hands out all that it has.
+    /// The near end shows all its reports.
     Show,
 }
 
@@ -43,7 +44,7 @@ fn command_of(word: &str) -> Option<Command> {
     }
 }
 
-/// A step that tells an end something.
+/// A step that gives an end a command.
 fn told(word: &str, command: Command) -> Option<Step> {
     match word {
         "near" => Some(Step::Near(command)),

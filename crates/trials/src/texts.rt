@@ -3,7 +3,7 @@
 use crate::calls::Stopped;
 use link_standard::{LoadFault, OwnSet, Verified};
 
-/// The text of the set of the program's own that is named, else the text that stands there.
+/// The text of the program's own set with this name; otherwise the source itself is the text.
 pub fn text_of(source: &str) -> &str {
     match OwnSet::named(source) {
         Some(own) => own.text(),

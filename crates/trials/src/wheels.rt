@@ -1,4 +1,4 @@
-//! Calls of a wheel beside those of a table of deadlines that is walked.
+//! Calls of a wheel compared with those of a table of deadlines that is searched in full.
 
 pub mod table;
 mod trial;
@@ -8,7 +8,7 @@ use crate::run::number;
 use crate::wheels::trial::{Findings, first_other};
 use std::alloc::Global;
 
-/// Writes what so many calls by a seed found.
+/// Writes the findings of this many calls by a seed.
 fn write_findings(
     text: &mut String,
     seed: u32,
@@ -26,7 +26,7 @@ fn write_findings(
     Ok(())
 }
 
-/// Makes the calls of a line: a seed, and how many they are.
+/// Makes the calls of a line: a seed, and their number.
 fn make_line(alloc: Global, text: &mut String, line: &str) -> Result<(), Stopped> {
     let mut words = line.split_whitespace();
     let (Some(seed), Some(calls)) = (number(&mut words), number(&mut words)) else {
@@ -36,7 +36,7 @@ fn make_line(alloc: Global, text: &mut String, line: &str) -> Result<(), Stopped
     write_findings(text, seed, calls, findings)
 }
 
-/// Makes the calls of each line, and writes what they found.
+/// Makes the calls of each line, and writes the findings.
 pub fn make_wheels(alloc: Global, text: &mut String, trial: &str) -> Result<(), Stopped> {
     for line in trial.lines() {
         make_line(alloc, text, line)?;

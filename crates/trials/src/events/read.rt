@@ -1,6 +1,6 @@
-//! Events as they are written: `offer ACTOR SIGNAL VALUE ..`, `begin ACTOR`, `skip ACTOR`, `finish ACTOR`, `tick N`, `env`. Actors and signals are
-//! named by their numbers. A number before the word says how often it happens. A trial's first line has the limits: how many signals a port holds,
-//! how many may wait for the environment, how many events the journal holds.
+//! Events as they are written: `offer ACTOR SIGNAL VALUE ..`, `begin ACTOR`, `skip ACTOR`, `finish ACTOR`, `tick N`,
+//! `env`. Actors and signals are numbers. A number before the word repeats the event. A trial's first line has the
+//! limits: of a port's signals, of the signals that wait for the environment, and of the journal's events.
 
 use crate::calls::Stopped;
 use crate::run::number;
@@ -76,7 +76,7 @@ fn offer_of(words: &mut SplitWhitespace<'_>) -> Option<Offer> {
     })
 }
 
-/// The event of a word and those behind it.
+/// The event of a word and those after it.
 fn event_of(word: &str, words: &mut SplitWhitespace<'_>) -> Option<Event> {
     match word {
         "offer" => Some(Event::Offer(offer_of(words)?)),
@@ -89,7 +89,7 @@ fn event_of(word: &str, words: &mut SplitWhitespace<'_>) -> Option<Event> {
     }
 }
 
-/// How often the event of a line happens, and the event.
+/// The number of times that the event of a line happens, and the event.
 fn line_of(line: &str) -> Option<(u32, Event)> {
     let mut words = line.split_whitespace();
     let word = words.next()?;
@@ -102,7 +102,7 @@ fn line_of(line: &str) -> Option<(u32, Event)> {
     }
 }
 
-/// Adds an event so often.
+/// Adds an event this many times.
 fn add(events: &mut Vec<Event>, times: u32, event: &Event) -> Result<(), AllocError> {
     for _ in 0..times {
         events.push(event.copy())?;

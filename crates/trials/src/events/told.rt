@@ -1,4 +1,4 @@
-//! What is answered to events, a line each; of several that are alike how many there are.
+//! The answers to events, one a line; equal answers in a row are counted.
 
 use actor_book::{Begun, Cause, Emitted, Lost, Report};
 use actor_headline::Reply;
@@ -17,7 +17,7 @@ fn write_begun(line: &mut String, begun: Begun) -> Result<(), AllocError> {
     }
 }
 
-/// Writes what was thrown away.
+/// Writes the item that was discarded.
 fn write_skipped(line: &mut String, trigger: Trigger) -> Result<(), AllocError> {
     match trigger {
         Trigger::Signal(number) => {
@@ -40,7 +40,7 @@ fn word_of(cause: Cause) -> &'static str {
     }
 }
 
-/// Writes the outputs that reached nobody, with their places among the effects.
+/// Writes the outputs that were lost, with their places among the effects.
 fn write_lost(line: &mut String, lost: &[Lost]) -> Result<(), AllocError> {
     for one in lost {
         let (place, cause) = (one.place, word_of(one.cause));
@@ -49,7 +49,7 @@ fn write_lost(line: &mut String, lost: &[Lost]) -> Result<(), AllocError> {
     Ok(())
 }
 
-/// Writes how a turn ended.
+/// Writes the end of a turn.
 fn write_report(line: &mut String, report: &Report) -> Result<(), AllocError> {
     let count = report.count;
     match report.end {
@@ -70,7 +70,7 @@ fn write_value(line: &mut String, value: Value) -> Result<(), AllocError> {
     }
 }
 
-/// Writes what waited for the environment.
+/// Writes the signal to the environment that was taken.
 fn write_taken(line: &mut String, taken: &Emitted) -> Result<(), AllocError> {
     let (process, instance) = (taken.sender.process.0, taken.sender.instance.0);
     let signal = taken.signal.0;
@@ -94,7 +94,7 @@ fn write_reply(line: &mut String, reply: &Reply) -> Result<(), AllocError> {
     }
 }
 
-/// Writes a line that stands so often.
+/// Writes a line with the number of times that it occurs.
 fn write_times(text: &mut String, line: &str, times: u32) -> Result<(), AllocError> {
     match times {
         0 => Ok(()),
@@ -103,7 +103,7 @@ fn write_times(text: &mut String, line: &str, times: u32) -> Result<(), AllocErr
     }
 }
 
-/// Writes what was answered.
+/// Writes the answers.
 pub fn write_replies(
     alloc: Global,
     text: &mut String,

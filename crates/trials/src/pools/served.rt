@@ -1,4 +1,4 @@
-//! Links that are served.
+//! Links that a pool serves.
 
 use crate::calls::Stopped;
 use crate::pools::wanderer::{Made, NAMES, Wanderer, Way};
@@ -15,7 +15,7 @@ use std::time::Duration;
 use turn_code::{InstanceNumber, Party, ProcessNumber, SignalNumber};
 use turn_pool::{Closed, Gate, JobName, PoolFault, serve};
 
-/// A gate that looks at all turns, and does nothing, or at none.
+/// A gate that watches all turns and does nothing, or watches none.
 #[derive(Drop)]
 struct Still {
     looks: bool,
@@ -77,7 +77,7 @@ fn add_ways(
     Ok(())
 }
 
-/// The same of all actors of a process.
+/// Adds those of all actors of a process.
 fn add_actors(
     ways: &mut Vec<Way>,
     set: &Verified,
@@ -92,7 +92,7 @@ fn add_actors(
     Ok(())
 }
 
-/// All such signals of a set.
+/// All signals that routes of a set bring from the environment.
 fn ways_of(alloc: Global, set: &Verified) -> Result<Vec<Way>, AllocError> {
     let mut ways = Vec::new(alloc);
     for process in 0..set.process_count().min(256) {
@@ -101,7 +101,7 @@ fn ways_of(alloc: Global, set: &Verified) -> Result<Vec<Way>, AllocError> {
     Ok(ways)
 }
 
-/// One more book on which nothing has happened.
+/// Adds a new book.
 fn add_book(
     alloc: Global,
     set: &Verified,
@@ -117,7 +117,7 @@ fn add_book(
     }
 }
 
-/// So many of them, with ports of 16, 64 signals kept for the environment and a journal of 4,096.
+/// This many new books, with ports of 16, 64 signals for the environment and a journal of 4,096.
 fn books_of(alloc: Global, set: &Verified, links: u32) -> Result<Vec<Book>, Stopped> {
     let Some(limits) = Limits::new(16, 64, 4_096) else {
         return Err(Stopped::Refused);
@@ -129,7 +129,7 @@ fn books_of(alloc: Global, set: &Verified, links: u32) -> Result<Vec<Book>, Stop
     Ok(books)
 }
 
-/// What happened on all links together.
+/// The counts over all links.
 #[derive(Clone, Copy)]
 struct Sums {
     events: u64,
@@ -152,7 +152,7 @@ fn sums_of(books: &[Book]) -> Sums {
     sums
 }
 
-/// Writes how often the client was refused, by name.
+/// Writes the number of the client's refusals, by name.
 fn write_refusals(text: &mut String, made: &Made) -> Result<(), AllocError> {
     for place in 0..8 {
         let (name, times) = (NAMES[place], made.refused[place]);
@@ -161,7 +161,7 @@ fn write_refusals(text: &mut String, made: &Made) -> Result<(), AllocError> {
     Ok(())
 }
 
-/// Writes what was done.
+/// Writes the counts.
 fn write_figures(text: &mut String, sums: Sums, made: &Made) -> Result<(), AllocError> {
     let Sums {
         events,
@@ -186,7 +186,7 @@ fn write_figures(text: &mut String, sums: Sums, made: &Made) -> Result<(), Alloc
     write_refusals(text, made)
 }
 
-/// Whether the seats have as many events as the journals.
+/// Whether the seats count as many events as the journals have.
 fn agree(closed: &Closed, events: u64) -> bool {
     let mut counted = closed.client;
     for seat in &closed.workers {
@@ -195,7 +195,7 @@ fn agree(closed: &Closed, events: u64) -> bool {
     counted == events
 }
 
-/// Writes what is left of a pool.
+/// Writes the results of a pool.
 fn write_closed(
     text: &mut String,
     closed: &Closed,
@@ -215,7 +215,7 @@ fn write_closed(
     Ok(())
 }
 
-/// Serves the links of a plan with a client that wanders about on them.
+/// Serves the links of a plan with a client that makes random calls.
 fn serve_links<R: Runtime + AllocGlobal + Threads + Wait + Sync>(
     rt: &R,
     text: &mut String,
@@ -252,12 +252,12 @@ fn serve_links<R: Runtime + AllocGlobal + Threads + Wait + Sync>(
     }
 }
 
-/// So many minutes.
+/// A duration in minutes.
 fn minutes(number: u32) -> Duration {
     Duration::from_secs(u64::from(number).saturating_mul(60))
 }
 
-/// Serves links of a set while a client does what a generator says, and writes what came of it.
+/// Serves links of a set while a client follows a generator, and writes the results.
 pub fn serve_all<R: Runtime + AllocGlobal + Threads + Wait + Sync>(
     rt: &R,
     text: &mut String,

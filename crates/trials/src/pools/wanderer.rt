@@ -1,4 +1,4 @@
-//! A client that does at each step what a seeded generator says.
+//! A client whose steps come from a seeded generator.
 
 use actor_book::Refusal;
 use arrayvec::ArrayVec;
@@ -11,14 +11,14 @@ use std::time::{Duration, Instant};
 use turn_code::{SignalNumber, Sort, Value};
 use turn_pool::{Client, Pool, PoolRefusal, Seat};
 
-/// Numbers that look random, the same in each run.
+/// Pseudo-random numbers, the same in each run.
 #[derive(Clone, Copy)]
 struct Draws {
     state: u64,
 }
 
 impl Draws {
-    /// The next of them (Knuth's constants).
+    /// The next number (Knuth's constants).
     fn draw(&mut self) -> u64 {
         self.state = self
             .state
@@ -28,7 +28,7 @@ impl Draws {
     }
 }
 
-/// A signal that a route brings an actor from the environment.
+/// A signal that a route brings to an actor from the environment.
 #[derive(Clone, Copy)]
 pub struct Way {
     pub actor: u16,
@@ -47,7 +47,7 @@ pub const NAMES: [&str; 8] = [
     "others",
 ];
 
-/// What a client did, and how often it was refused, by [`NAMES`].
+/// The calls of a client and its refusals, by [`NAMES`].
 #[derive(Clone, Copy)]
 pub struct Made {
     pub offers: u64,
@@ -90,8 +90,8 @@ fn place_of(refusal: PoolRefusal) -> usize {
 }
 
 impl<'a, C: Clock> Wanderer<'a, C> {
-    /// A client of so many links of a set, with the signals that come there, a seed, and how many steps it makes, or how long it goes on from a
-    /// time on.
+    /// A client of this many links of a set, with the signals that routes bring there and a seed. It makes a number of
+    /// steps, or goes on for a duration from a time on.
     pub fn new(
         rt: &'a C,
         set: &'a Verified,
@@ -123,13 +123,13 @@ impl<'a, C: Clock> Wanderer<'a, C> {
         }
     }
 
-    /// A number below another; 0 below 0.
+    /// A number below another; 0 if that is 0.
     fn below(&mut self, most: u32) -> u32 {
         let drawn = self.draws.draw();
         (drawn % u64::from(most.max(1))) as u32
     }
 
-    /// Whether there is nothing left to do. The clock is asked at each 256th step.
+    /// Whether the client is done. It reads the clock at each 256th step.
     fn is_over(&mut self) -> bool {
         match self.time {
             None => {
@@ -141,7 +141,7 @@ impl<'a, C: Clock> Wanderer<'a, C> {
         }
     }
 
-    /// Whether so much time has passed.
+    /// Whether this duration has passed.
     fn is_late(&self, time: Duration) -> bool {
         match self.start.elapsed(self.rt) {
             Ok(passed) => passed >= time,
@@ -149,7 +149,7 @@ impl<'a, C: Clock> Wanderer<'a, C> {
         }
     }
 
-    /// A value of a sort, at times one of the other.
+    /// A value of a sort, and sometimes of the other sort.
     fn value(&mut self, sort: Sort) -> Value {
         let is_number = (sort == Sort::Integer) != (self.below(200) == 0);
         if !is_number {
@@ -217,7 +217,7 @@ impl<'a, C: Clock> Wanderer<'a, C> {
         refusal
     }
 
-    /// Takes what waits for the environment of a link.
+    /// Takes a signal to the environment from a link.
     fn takes<R: Wait, L: Ledger>(
         &mut self,
         pool: &Pool<'_, R, L>,
@@ -244,7 +244,7 @@ impl<'a, C: Clock> Wanderer<'a, C> {
         refusal
     }
 
-    /// Does one thing on a link.
+    /// Makes one call on a link.
     fn acts<R: Wait, L: Ledger>(
         &mut self,
         pool: &Pool<'_, R, L>,
@@ -259,7 +259,7 @@ impl<'a, C: Clock> Wanderer<'a, C> {
         }
     }
 
-    /// Counts a refusal. Where there is no room workers run first; a journal that is full is emptied.
+    /// Counts a refusal and yields, so that workers may make room. A link whose journal is full is rebased.
     fn heeds<R: Wait, L: Ledger>(
         &mut self,
         pool: &Pool<'_, R, L>,
@@ -283,7 +283,7 @@ impl<'a, C: Clock> Client for Wanderer<'a, C> {
             if self.is_over() {
                 break;
             }
-            // (a link behind the last is asked at times)
+            // (sometimes the number is that of a link after the last)
             let link = self.below(self.links.saturating_mul(64).saturating_add(1)) / 64;
             if let Some(refusal) = self.acts(pool, seat, link as usize) {
                 self.heeds(pool, seat, link as usize, refusal);

@@ -1,4 +1,4 @@
-//! What is asked of sets and their books.
+//! Questions about sets and their books.
 
 use crate::calls::Stopped;
 use crate::rounds::books::{Measured, Task, with_book};
@@ -15,23 +15,23 @@ use std::rt::{Clock, Runtime};
 use std::sync::Wait;
 use std::thread::Threads;
 
-/// How often a book of the profile is opened in a round.
+/// The number of books of the profile that are opened in a round.
 const OPENINGS: u32 = 100;
 
-/// What is asked of a set.
+/// A question about a set.
 #[derive(Clone, Copy)]
 pub enum Question {
-    /// What a round of a row has, or how many things in a second in so many rounds.
+    /// The result of one round of a row, or its rate per second over a number of rounds.
     Turns(Row, Option<u32>),
-    /// Its code.
+    /// The code of the set.
     Code,
-    /// How many events a book has that is held, and whether its journal is filled.
+    /// The number of events of a book at rest, with its journal filled or not.
     Held(bool),
-    /// Whether the seats of a pool agree with the journals; in so many rounds, with so many workers.
+    /// Whether the seats of a pool agree with the journals, with a number of rounds and of workers.
     Pool(Option<u32>, Option<u32>),
 }
 
-/// So many links of the profile one after another. How many turns they had.
+/// Powers on this many links of the profile one after another, and returns the number of their turns.
 fn power_on_times(
     rt: &impl Clock,
     alloc: Global,
@@ -46,7 +46,7 @@ fn power_on_times(
     Ok(turns)
 }
 
-/// Turns of the profile's processes, a book opened anew for each link.
+/// Turns of the profile's processes; a new book is opened for each link.
 fn open_links(
     rt: &impl Clock,
     alloc: Global,
@@ -59,7 +59,7 @@ fn open_links(
     Ok(Measured { things, time })
 }
 
-/// What a row measures, in so many rounds.
+/// The measurement of a row, over a number of rounds.
 fn measure(
     rt: &impl Clock,
     alloc: Global,
@@ -80,7 +80,7 @@ fn measure(
     }
 }
 
-/// Writes how many things there were, and how many in a second where rounds are asked for.
+/// Writes the number of things, and their rate per second if rounds are given.
 fn write_turns(
     rt: &impl Clock,
     alloc: Global,
@@ -99,7 +99,7 @@ fn write_turns(
     Ok(())
 }
 
-/// Writes how many events a book has that is held.
+/// Writes the number of events of a book at rest.
 fn write_held(
     rt: &impl Clock,
     alloc: Global,
@@ -113,7 +113,7 @@ fn write_held(
     Ok(())
 }
 
-/// Writes what is asked of a set.
+/// Writes the answer to a question about a set.
 fn answer<R: Runtime + AllocGlobal + Threads + Wait + Sync>(
     rt: &R,
     text: &mut String,
@@ -128,7 +128,7 @@ fn answer<R: Runtime + AllocGlobal + Threads + Wait + Sync>(
     }
 }
 
-/// Loads a set, and writes what is asked of it. It alone owns a set: to drop it is dear to prove.
+/// Loads a set, and writes the answer about it. Only this function owns a set: dropping one is expensive to prove.
 pub fn ask_set<R: Runtime + AllocGlobal + Threads + Wait + Sync>(
     rt: &R,
     text: &mut String,
@@ -139,7 +139,7 @@ pub fn ask_set<R: Runtime + AllocGlobal + Threads + Wait + Sync>(
     answer(rt, text, &loaded, question)
 }
 
-/// Makes the rounds of books, and writes what came of them.
+/// Makes the rounds of books, and writes the results.
 pub fn write_books<R: Runtime + AllocGlobal + Threads + Wait + Sync>(
     rt: &R,
     text: &mut String,

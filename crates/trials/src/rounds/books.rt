@@ -1,4 +1,4 @@
-//! A book, and what is measured with it.
+//! A book and its measurements.
 
 use crate::calls::Stopped;
 use crate::rounds::client::{POWER_ON, START};
@@ -13,45 +13,45 @@ use std::time::Duration;
 use turn_code::{SignalNumber, Value};
 use turn_machine::{Job, run};
 
-/// How many signals come to the counter before it has its turns.
+/// The number of signals that the counter gets before its turns.
 const SIGNALS: u32 = 64;
 
-/// How often that is done in a round.
+/// The number of batches in a round.
 const BATCHES: u32 = 300;
 
-/// How often the long piece runs in a round.
+/// The number of runs of the long piece in a round.
 pub const RUNS: u32 = 1000;
 
-/// How often a link of the profile is started and stopped in a round.
+/// The number of times that a link of the profile is started and stopped in a round.
 const CYCLES: u32 = 300;
 
-/// What is done with a new book.
+/// A task for a new book.
 #[derive(Clone, Copy)]
 pub enum Task {
-    /// So many rounds of the counter.
+    /// This many rounds of the counter.
     Count(By, u32),
-    /// So many rounds in which a link of the profile starts and stops.
+    /// This many rounds in which a link of the profile starts and stops.
     Cycle(By, u32),
-    /// So many rounds of the long piece.
+    /// This many rounds of the long piece.
     Run(u32),
     /// A link of the profile is powered on and started.
     PowerOn,
-    /// A link of the profile is held, at the greatest limits.
+    /// A link of the profile comes to rest, with the greatest limits.
     Hold,
-    /// It is held with a full journal.
+    /// A link of the profile comes to rest, and its journal is filled.
     Fill,
-    /// The signals of so many rounds come to a link of the profile.
+    /// A link of the profile gets the signals of this many rounds.
     Drive(u32),
 }
 
-/// What came of a task: how many things there were, and in what time, where it is taken.
+/// The result of a task: a number of things, and their time if it is measured.
 #[derive(Clone, Copy)]
 pub struct Measured {
     pub things: u64,
     pub time: Duration,
 }
 
-/// A new book, with as much room in its ports, for the environment and in its journal.
+/// A new book with these limits for its ports, for the environment and for its journal.
 pub fn book_of(
     alloc: Global,
     set: &Verified,
@@ -68,7 +68,7 @@ pub fn book_of(
     }
 }
 
-/// The new book of a task.
+/// The new book for a task.
 fn book_for(alloc: Global, set: &Verified, task: Task) -> Result<Book, Stopped> {
     match task {
         Task::Count(..) | Task::Cycle(..) | Task::Drive(_) => book_of(alloc, set, 64, 64, 65_536),
@@ -78,14 +78,14 @@ fn book_for(alloc: Global, set: &Verified, task: Task) -> Result<Book, Stopped> 
     }
 }
 
-/// So many turns of the first process.
+/// This many turns of the first process.
 fn turn_times(book: &mut Book, maker: &mut Maker, times: u32) {
     for _ in 0..times {
         maker.turn(book);
     }
 }
 
-/// Signals come to the counter, which then has as many turns.
+/// Gives the counter signals and then as many turns.
 fn batch(book: &mut Book, maker: &mut Maker) {
     for signal in 0..SIGNALS {
         let _ = book.offer(0, SignalNumber(0), &[Value::Int(signal as i32)]);
@@ -102,7 +102,7 @@ fn count_up(book: &mut Book, maker: &mut Maker) -> Result<(), AllocError> {
     Ok(())
 }
 
-/// So many rounds of the counter. How many turns its book had.
+/// This many rounds of the counter. Returns the number of turns.
 fn count_times(book: &mut Book, maker: &mut Maker, rounds: u32) -> Result<u64, AllocError> {
     for _ in 0..rounds {
         count_up(book, maker)?;
@@ -110,7 +110,7 @@ fn count_times(book: &mut Book, maker: &mut Maker, rounds: u32) -> Result<u64, A
     Ok(book.finishes())
 }
 
-/// Turns of the counter, behind its first.
+/// Measures turns of the counter, after its first.
 fn count(rt: &impl Clock, book: &mut Book, by: By, rounds: u32) -> Result<Measured, Stopped> {
     let mut maker = Maker::new(by);
     maker.turn(book);
@@ -120,7 +120,7 @@ fn count(rt: &impl Clock, book: &mut Book, by: By, rounds: u32) -> Result<Measur
     Ok(Measured { things, time })
 }
 
-/// So many rounds in which a link starts and stops, each with a journal that begins empty. How many turns its book had.
+/// This many rounds in which a link starts and stops, each with an empty journal at first. Returns the number of turns.
 fn cycle_up(book: &mut Book, maker: &mut Maker, rounds: u32) -> Result<u64, AllocError> {
     for _ in 0..rounds {
         book.rebase()?;
@@ -129,7 +129,7 @@ fn cycle_up(book: &mut Book, maker: &mut Maker, rounds: u32) -> Result<u64, Allo
     Ok(book.finishes())
 }
 
-/// Turns of the profile's processes, behind those by which their link is powered on.
+/// Measures turns of the profile's processes, after those that power on their link.
 fn cycle(rt: &impl Clock, book: &mut Book, by: By, rounds: u32) -> Result<Measured, Stopped> {
     let mut maker = Maker::new(by);
     maker.settle(book);
@@ -140,7 +140,7 @@ fn cycle(rt: &impl Clock, book: &mut Book, by: By, rounds: u32) -> Result<Measur
     Ok(Measured { things, time })
 }
 
-/// Runs of copies of a job. How many instructions they took.
+/// Runs copies of a job, and returns the number of instructions.
 fn run_copies(job: &Job, times: u32) -> u64 {
     let mut instructions = 0u64;
     for _ in 0..times {
@@ -149,7 +149,7 @@ fn run_copies(job: &Job, times: u32) -> u64 {
     instructions
 }
 
-/// Instructions of a job, which is copied for each run.
+/// Measures the instructions of a job, which is copied for each run.
 fn run_job(rt: &impl Clock, job: &Job, rounds: u32) -> Result<Measured, Stopped> {
     let start = now(rt)?;
     let things = run_copies(job, rounds.saturating_mul(RUNS));
@@ -157,7 +157,7 @@ fn run_job(rt: &impl Clock, job: &Job, rounds: u32) -> Result<Measured, Stopped>
     Ok(Measured { things, time })
 }
 
-/// Instructions of a turn of the long piece.
+/// Measures the instructions of a turn of the long piece.
 fn run_long(rt: &impl Clock, book: &mut Book, rounds: u32) -> Result<Measured, Stopped> {
     Maker::new(By::Job).turn(book);
     let _ = book.offer(0, SignalNumber(0), &[Value::Int(7)]);
@@ -167,7 +167,7 @@ fn run_long(rt: &impl Clock, book: &mut Book, rounds: u32) -> Result<Measured, S
     }
 }
 
-/// A link of the profile is powered on and started, and its processes have their turns. How many they were.
+/// Powers on and starts a link of the profile, lets its processes take their turns, and returns their number.
 fn power_on(book: &mut Book) -> u64 {
     rest(book);
     let _ = book.offer(0, POWER_ON, &[]);
@@ -177,13 +177,13 @@ fn power_on(book: &mut Book) -> u64 {
     book.finishes()
 }
 
-/// A link of the profile comes to rest. How many events its journal has.
+/// Brings a link of the profile to rest, and returns the number of events in its journal.
 fn hold(book: &mut Book) -> u64 {
     rest(book);
     book.journal().len() as u64
 }
 
-/// The same, and then ticks pass until the journal is full.
+/// As `hold`, and then ticks pass until the journal is full.
 fn fill(book: &mut Book) -> u64 {
     rest(book);
     for _ in 0..65_536u32 {
@@ -192,7 +192,7 @@ fn fill(book: &mut Book) -> u64 {
     book.journal().len() as u64
 }
 
-/// What is done with a book without taking the time. How many things there were; none for what takes it.
+/// Does a task without measuring its time. Returns the number of things; 0 for a task that is timed.
 fn do_untimed(book: &mut Book, task: Task) -> u64 {
     match task {
         Task::PowerOn => power_on(book),
@@ -216,7 +216,7 @@ fn do_task(rt: &impl Clock, book: &mut Book, task: Task) -> Result<Measured, Sto
     }
 }
 
-/// Does a task with a new book. It alone owns one: to drop it is dear to prove.
+/// Does a task with a new book. Only this function owns one, since dropping it is expensive to prove.
 pub fn with_book(
     rt: &impl Clock,
     alloc: Global,

@@ -7,19 +7,19 @@ use std::thread;
 use turn_code::SignalNumber;
 use turn_pool::{Client, Pool, PoolRefusal, Seat};
 
-/// How many links there are.
+/// The number of links.
 pub const LINKS: usize = 16;
 
-/// After how many rounds journals are made empty: long before they are full.
+/// The number of rounds after which journals are emptied, long before they are full.
 pub const REBASES: u32 = 256;
 
-/// How often a signal is offered at most before it is given up.
+/// The greatest number of offers of a signal before the client gives it up.
 const ASKS: u32 = 1_000_000;
 
-/// How often the client gives way to the workers before it asks again.
+/// The number of times that the client yields to the workers before it offers again.
 const WAITS: u32 = 100;
 
-/// The signals by which a link of the profile is powered on, started and stopped; they come to its first process.
+/// The signals that power on, start and stop a link of the profile; its first process gets them.
 pub const POWER_ON: SignalNumber = SignalNumber(0);
 
 pub const START: SignalNumber = SignalNumber(1);
@@ -35,16 +35,16 @@ pub fn signal_of(round: u32) -> SignalNumber {
     }
 }
 
-/// A client that offers each link a signal a round.
+/// A client that offers each link one signal in each round.
 #[derive(Drop)]
 pub struct Starts {
-    /// How many rounds it makes.
+    /// The number of rounds.
     pub rounds: u32,
-    /// How many signals were given up.
+    /// The number of signals that were given up.
     pub refused: u64,
 }
 
-/// Offers a link a signal, until there is room for it. Whether there was.
+/// Offers a link a signal until there is room for it, and returns whether there was.
 fn offer<R: Wait, L: Ledger>(
     pool: &Pool<'_, R, L>,
     seat: &mut Seat<L>,
@@ -68,7 +68,7 @@ fn give_way() {
     }
 }
 
-/// Offers each link the signal of a round. How many links had no room for it.
+/// Offers each link the signal of a round, and returns the number of links without room for it.
 fn offer_round<R: Wait, L: Ledger>(pool: &Pool<'_, R, L>, seat: &mut Seat<L>, round: u32) -> u64 {
     let mut refused = 0u64;
     for link in 0..LINKS {

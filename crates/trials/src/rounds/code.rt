@@ -1,10 +1,11 @@
-//! The code of a set as numbers, which a program in C reads.
+//! The code of a set as numbers, for a program in C.
 //!
-//! A line each: how many signals, and of each how many parameters; how many routes, and of each who sends and receives (a process's number, or -1 for the
-//! environment) and its signals, with their number before them; how many processes. Of each process: how many variables, and of each 0 without an initial value, or
-//! 1 or 2 and that value; how many timers; the piece of START; how many states, and of each what it saves and its inputs, with their numbers before them. A
-//! trigger is 0 or 1 and the number of a signal or timer, and an input is a trigger and a piece. A piece is how many instructions, and of each four numbers: which
-//! it is, in the order of the instruction set, and what it has.
+//! One thing a line; each list begins with its length. Signals: of each the number of parameters. Routes: of each the
+//! sender and the receiver (a process's number, or -1 for the environment) and its signals. Processes: of each its
+//! variables (0 0 without an initial value, or 1 or 2 and that value), the number of its timers, the piece of START,
+//! and its states: of each the triggers that it saves, and its inputs. A trigger is 0 or 1 and the number of a signal
+//! or timer; an input is a trigger and a piece. A piece is a list of instructions of four numbers: the kind, in the
+//! order of the instruction set, and its operands.
 
 use std::alloc::AllocError;
 use turn_code::{
@@ -20,7 +21,7 @@ fn party(party: Party) -> i64 {
     }
 }
 
-/// A receiver's number: -2 for whoever sent the signal.
+/// A receiver's number: -2 for the sender of the signal.
 fn receiver(receiver: Receiver) -> i64 {
     match receiver {
         Receiver::Party(to) => party(to),
@@ -40,7 +41,7 @@ fn relation(relation: Relation) -> i64 {
     }
 }
 
-/// An instruction that works on operands alone, if it is one.
+/// The number of an instruction that works only on operands, if it is one.
 fn plain(instruction: Instruction) -> Option<i64> {
     match instruction {
         Instruction::Add => Some(5),
@@ -58,7 +59,7 @@ fn plain(instruction: Instruction) -> Option<i64> {
     }
 }
 
-/// An instruction with one number, if it is one.
+/// The two numbers of an instruction with one number, if it is one.
 fn single(instruction: Instruction) -> Option<(i64, i64)> {
     match instruction {
         Instruction::Int(number) => Some((0, i64::from(number))),
@@ -107,7 +108,7 @@ fn write_instruction(text: &mut String, instruction: Instruction) -> Result<(), 
     writeln!(text, "{which} {one} {two} {three}")
 }
 
-/// Writes how many there are of something.
+/// Writes the length of a list.
 fn write_count(text: &mut String, count: usize) -> Result<(), AllocError> {
     writeln!(text, "{count}")
 }

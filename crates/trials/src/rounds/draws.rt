@@ -5,17 +5,17 @@ use arrayvec::ArrayVec;
 use std::alloc::{AllocError, Global};
 use su_octets::{Head, Unit};
 
-/// How many units a round has.
+/// The number of units in a round.
 const UNITS: u32 = 2000;
 
-/// Numbers that look random, the same in each run.
+/// Pseudo-random numbers, the same in each run.
 #[derive(Clone, Copy)]
 pub struct Draws {
     state: u32,
 }
 
 impl Draws {
-    /// The first of them.
+    /// The generator at its start.
     pub fn new() -> Draws {
         Draws {
             state: 2_463_534_242,
@@ -28,7 +28,7 @@ impl Draws {
         (self.state % 256) as u8
     }
 
-    /// How long the next signalling information field is.
+    /// The length of the next signalling information field.
     fn length(&mut self) -> u32
         ensures { result < 273 }
     {
@@ -75,7 +75,7 @@ fn fill_in(draws: &mut Draws) -> Unit {
     Unit::Fisu(head(draws))
 }
 
-/// What a line has.
+/// The kind of units of a line.
 #[derive(Clone, Copy)]
 pub enum Kind {
     Messages,

@@ -21,7 +21,7 @@ pub fn send(units: &[Unit], line: &mut Vec<u8>) -> Result<(), AllocError> {
     Ok(())
 }
 
-/// Reads a piece of the line, and counts the units that it has.
+/// Reads a piece of the line, and counts its units.
 fn units_in(alloc: Global, deframer: &mut Deframer, piece: &[u8]) -> Result<u64, AllocError> {
     match deframer.feed(alloc, piece) {
         Ok(events) => Ok(units_of(events.as_slice())),
@@ -29,7 +29,7 @@ fn units_in(alloc: Global, deframer: &mut Deframer, piece: &[u8]) -> Result<u64,
     }
 }
 
-/// Reads the line, and counts the units that it has.
+/// Reads the line, and counts its units.
 fn receive_all(alloc: Global, line: &[u8]) -> Result<u64, AllocError> {
     let mut deframer = Deframer::new();
     let mut units = 0u64;
@@ -39,7 +39,7 @@ fn receive_all(alloc: Global, line: &[u8]) -> Result<u64, AllocError> {
     Ok(units)
 }
 
-/// How many units are among the events.
+/// The number of units among the events.
 fn units_of(events: &[LineEvent]) -> u64 {
     let mut units = 0u64;
     for event in events {
@@ -50,7 +50,7 @@ fn units_of(events: &[LineEvent]) -> u64 {
     units
 }
 
-/// Reads the line up to the first event each time, and counts the units that it has.
+/// Reads the line up to the first event each time, and counts its units.
 fn receive_until(line: &[u8]) -> u64 {
     let mut deframer = Deframer::new();
     let mut units = 0u64;
@@ -66,7 +66,7 @@ fn receive_until(line: &[u8]) -> u64 {
     units
 }
 
-/// Reads the line octet by octet, and counts the units that it has.
+/// Reads the line octet by octet, and counts its units.
 fn receive_each(line: &[u8]) -> u64 {
     let mut deframer = Deframer::new();
     let mut units = 0u64;
@@ -77,7 +77,7 @@ fn receive_each(line: &[u8]) -> u64 {
     units
 }
 
-/// How many octets the units have between the flags.
+/// The number of octets of the units between the flags.
 pub fn octets_of(units: &[Unit]) -> usize {
     let mut octets = 0usize;
     for unit in units {
@@ -94,7 +94,7 @@ pub enum Way {
     Each,
 }
 
-/// Reads the line, and counts the units that it has.
+/// Reads the line, and counts its units.
 pub fn receive(alloc: Global, way: Way, line: &[u8]) -> Result<u64, AllocError> {
     match way {
         Way::Pieces => receive_all(alloc, line),

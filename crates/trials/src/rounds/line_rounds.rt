@@ -9,10 +9,10 @@ use std::alloc::{AllocError, Global};
 use std::rt::Clock;
 use su_octets::Unit;
 
-/// How often a round goes through its fill-in units.
+/// The number of times that a round goes through its fill-in units.
 const FISU_TIMES: u32 = 25;
 
-/// A kind of units: what stands before the name of each of its figures, how often a line of them goes, and whether rates are asked for.
+/// A kind of units: the prefix of its figures' names, how often its line goes, and whether rates are asked for.
 #[derive(Clone, Copy)]
 struct Measure {
     name: &'static str,
@@ -20,7 +20,7 @@ struct Measure {
     is_rated: bool,
 }
 
-/// Sends the units so often.
+/// Sends the units this many times.
 fn send_times(units: &[Unit], line: &mut Vec<u8>, count: u32) -> Result<(), AllocError> {
     for _ in 0..count {
         send(units, line)?;
@@ -28,7 +28,7 @@ fn send_times(units: &[Unit], line: &mut Vec<u8>, count: u32) -> Result<(), Allo
     Ok(())
 }
 
-/// Receives the line so often. How many units it has.
+/// Receives the line this many times, and returns the number of units.
 fn receive_times(alloc: Global, way: Way, line: &[u8], count: u32) -> Result<u64, AllocError> {
     let mut received = 0;
     for _ in 0..count {
@@ -37,14 +37,14 @@ fn receive_times(alloc: Global, way: Way, line: &[u8], count: u32) -> Result<u64
     Ok(received)
 }
 
-/// Octets a second of units put on the line.
+/// Octets per second of units put on the line.
 fn out(rt: &impl Clock, units: &[Unit], line: &mut Vec<u8>, count: u32) -> Result<u64, Stopped> {
     let start = now(rt)?;
     send_times(units, line, count)?;
     Ok(rate_of(octets_of(units), count, since(rt, start)?))
 }
 
-/// How many units the line has, read in one way so often, and octets a second.
+/// The number of units of the line, read in one way this many times, and octets per second.
 pub fn into(
     rt: &impl Clock,
     alloc: Global,
@@ -71,7 +71,7 @@ fn write_rate(
     writeln!(text, "{name}{what} {rate}")
 }
 
-/// Reads the line in pieces, and writes what came of that and of its sending.
+/// Reads the line in pieces, and writes the results of that and of its sending.
 fn write_pieces(
     rt: &impl Clock,
     alloc: Global,
@@ -88,7 +88,7 @@ fn write_pieces(
     Ok(())
 }
 
-/// Reads the line octet by octet in both ways, and writes what came of that.
+/// Reads the line octet by octet in both ways, and writes the results.
 fn write_octets(
     rt: &impl Clock,
     alloc: Global,
@@ -105,8 +105,8 @@ fn write_octets(
     Ok(())
 }
 
-/// Sends and receives the units as often as is asked, and writes what came of them: how many came back, and octets a second where
-/// rounds were asked for.
+/// Sends and receives the units as often as asked, and writes the results: the units that came back, and octets per
+/// second if rounds are asked for.
 fn write_measure(
     rt: &impl Clock,
     alloc: Global,
@@ -120,7 +120,7 @@ fn write_measure(
     write_octets(rt, alloc, text, measure, line.as_slice())
 }
 
-/// Writes what a store makes of messages, where rounds are asked for.
+/// Writes the rates of a store with messages, if rounds are asked for.
 fn write_store(
     rt: &impl Clock,
     alloc: Global,
@@ -137,7 +137,7 @@ fn write_store(
     Ok(())
 }
 
-/// A kind of units, for the rounds that are asked for.
+/// The measurement of a kind of units, for the rounds that are asked for.
 fn measure_of(name: &'static str, asked: Option<u32>, times: u32) -> Measure {
     Measure {
         name,
@@ -146,7 +146,7 @@ fn measure_of(name: &'static str, asked: Option<u32>, times: u32) -> Measure {
     }
 }
 
-/// Makes the rounds, and writes what came of them.
+/// Makes the rounds, and writes the results.
 pub fn write_line(
     rt: &impl Clock,
     alloc: Global,

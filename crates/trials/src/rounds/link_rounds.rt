@@ -12,10 +12,10 @@ use std::rt::Clock;
 use std::time::Duration;
 use su_octets::Unit;
 
-/// How many ticks a round has.
+/// The number of ticks in a round.
 const TICKS: u32 = 10_000;
 
-/// What goes over a line, its units, and a line that has them so often.
+/// The traffic of a line, its units, and a line that has them several times.
 #[derive(Clone, Copy)]
 struct Load<'a> {
     traffic: Traffic,
@@ -23,18 +23,18 @@ struct Load<'a> {
     line: &'a [u8],
 }
 
-/// What a terminal in service is asked.
+/// A question for a terminal in service.
 #[derive(Clone, Copy)]
 enum Question<'a> {
-    /// What a round has.
+    /// The contents of a round.
     Shown(Load<'a>),
-    /// Octets a second in so many rounds.
+    /// Octets per second over this many rounds.
     Rates(Load<'a>, u32),
-    /// Ticks a second in so many rounds.
+    /// Ticks per second over this many rounds.
     Ticks(u32),
 }
 
-/// Writes what comes in.
+/// Writes the counts of the incoming direction.
 fn show_in(text: &mut String, service: &mut Service, load: Load<'_>) -> Result<(), AllocError> {
     let before = service.turns();
     let messages = service.take(load.line);
@@ -48,7 +48,7 @@ fn show_in(text: &mut String, service: &mut Service, load: Load<'_>) -> Result<(
     )
 }
 
-/// Writes what goes out.
+/// Writes the counts of the outgoing direction.
 fn show_out(text: &mut String, service: &mut Service, traffic: Traffic) -> Result<(), Stopped> {
     service.give(traffic);
     let before = service.turns();
@@ -62,27 +62,27 @@ fn show_out(text: &mut String, service: &mut Service, traffic: Traffic) -> Resul
     Ok(())
 }
 
-/// Writes what a round has.
+/// Writes the contents of a round.
 fn show(text: &mut String, service: &mut Service, load: Load<'_>) -> Result<(), Stopped> {
     show_in(text, service, load)?;
     show_out(text, service, load.traffic)
 }
 
-/// The line through the terminal, so often.
+/// Takes the line through the terminal this many times.
 fn take_times(service: &mut Service, line: &[u8], rounds: u32) {
     for _ in 0..rounds {
         let _messages = service.take(line);
     }
 }
 
-/// Octets a second of the line through the terminal.
+/// Octets per second of the line into the terminal.
 fn read(rt: &impl Clock, service: &mut Service, line: &[u8], rounds: u32) -> Result<u64, Stopped> {
     let start = now(rt)?;
     take_times(service, line, rounds);
     Ok(rate_of(line.len(), rounds, since(rt, start)?))
 }
 
-/// One group of units from the terminal: how many octets, and in what time.
+/// Sends one group of units from the terminal. Returns the number of octets, and the time.
 fn send(
     rt: &impl Clock,
     service: &mut Service,
@@ -96,7 +96,7 @@ fn send(
     Ok((octets as u64, time))
 }
 
-/// Octets a second of the line from the terminal.
+/// Octets per second of the line out of the terminal.
 fn write(
     rt: &impl Clock,
     service: &mut Service,
@@ -113,7 +113,7 @@ fn write(
     Ok(rate(octets, time))
 }
 
-/// Writes octets a second into a terminal and out of it.
+/// Writes octets per second into a terminal and out of it.
 fn write_rates(
     rt: &impl Clock,
     text: &mut String,
@@ -128,7 +128,7 @@ fn write_rates(
     Ok(())
 }
 
-/// Ticks, one by one. How many there were.
+/// Lets ticks pass one by one, and returns their number.
 fn tick_times(service: &mut Service, times: u32) -> u64 {
     let mut ticks = 0u64;
     for _ in 0..times {
@@ -137,7 +137,7 @@ fn tick_times(service: &mut Service, times: u32) -> u64 {
     ticks
 }
 
-/// Writes ticks a second that come one by one.
+/// Writes ticks per second, one by one.
 fn write_ticks(
     rt: &impl Clock,
     text: &mut String,
@@ -151,7 +151,7 @@ fn write_ticks(
     Ok(())
 }
 
-/// Has a terminal come into service, and writes what it is asked.
+/// Brings a terminal into service, and writes the answer to a question.
 fn answer(
     rt: &impl Clock,
     text: &mut String,
@@ -166,8 +166,8 @@ fn answer(
     }
 }
 
-/// Asks a new terminal, and writes what it answers. It alone owns one, and does no more: to drop it is dear to prove wherever that may
-/// happen.
+/// Asks a new terminal, and writes the answer. Only this function owns one, and it does no more, since each place that
+/// may drop it is expensive to prove.
 fn ask(
     rt: &impl Clock,
     alloc: Global,
@@ -178,7 +178,7 @@ fn ask(
     answer(rt, text, &mut service, question)
 }
 
-/// Puts the units on a line, so often. How many octets that were.
+/// Puts the units on a line this many times, and returns the number of octets.
 fn put_times(units: &[Unit], line: &mut Vec<u8>, times: u32) -> Result<u64, AllocError> {
     let mut stuffer = Stuffer::new();
     let mut octets = 0u64;
@@ -190,7 +190,7 @@ fn put_times(units: &[Unit], line: &mut Vec<u8>, times: u32) -> Result<u64, Allo
     Ok(octets)
 }
 
-/// Octets a second of the line from a stuffer.
+/// Octets per second of the line from a stuffer.
 fn stuff(rt: &impl Clock, alloc: Global, units: &[Unit], rounds: u32) -> Result<u64, Stopped> {
     let mut line = Vec::with_capacity(alloc, 50_000)?;
     let start = now(rt)?;
@@ -198,7 +198,7 @@ fn stuff(rt: &impl Clock, alloc: Global, units: &[Unit], rounds: u32) -> Result<
     Ok(rate(octets, since(rt, start)?))
 }
 
-/// Writes octets a second into a deframer and out of a stuffer.
+/// Writes octets per second into a deframer and out of a stuffer.
 fn write_bare_rates(
     rt: &impl Clock,
     alloc: Global,
@@ -216,7 +216,7 @@ fn write_bare_rates(
     Ok(())
 }
 
-/// Writes what is said of a load: what a round has, or its rates where rounds are asked for.
+/// Writes the contents of a round of a load, or its rates if rounds are asked for.
 fn write_load(
     rt: &impl Clock,
     alloc: Global,
@@ -233,7 +233,7 @@ fn write_load(
     }
 }
 
-/// Writes what is said of one kind of traffic.
+/// Writes the results for one kind of traffic.
 fn write_traffic(
     rt: &impl Clock,
     alloc: Global,
@@ -251,7 +251,7 @@ fn write_traffic(
     write_load(rt, alloc, text, load, asked)
 }
 
-/// Makes the rounds, and writes what came of them.
+/// Makes the rounds, and writes the results.
 pub fn write_link(
     rt: &impl Clock,
     alloc: Global,

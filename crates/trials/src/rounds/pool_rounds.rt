@@ -14,22 +14,22 @@ use std::thread::Threads;
 use std::time::Duration;
 use turn_pool::serve;
 
-/// How many rounds are made where no number is asked for, and with how many workers.
+/// The number of rounds if none is given.
 const FEW: u32 = 3;
 
-/// How many workers there are where no number is asked for.
+/// The number of workers if none is given.
 const WORKERS: u32 = 2;
 
-/// What came of the rounds.
+/// The results of the rounds.
 #[derive(Clone, Copy)]
 struct Found {
-    /// How many events the journals have.
+    /// The number of events in the journals.
     events: u64,
-    /// Whether the seats have as many, and no signal was given up.
+    /// Whether the seats count as many, and no signal was given up.
     agree: bool,
 }
 
-/// One more book, with ports of 64, 64 signals kept for the environment and the longest journal.
+/// Adds a book, with ports of 64, 64 signals for the environment and the longest journal.
 fn add_book(alloc: Global, set: &Verified, books: &mut Vec<Book>) -> Result<(), Stopped> {
     match books.push(book_of(alloc, set, 64, 64, 65_536)?) {
         Ok(_) => Ok(()),
@@ -46,7 +46,7 @@ fn open_books(alloc: Global, set: &Verified) -> Result<Vec<Book>, Stopped> {
     Ok(books)
 }
 
-/// How many events the journals have.
+/// The number of events in the journals.
 fn events_of(books: &[Book]) -> u64 {
     let mut events = 0u64;
     for book in books {
@@ -55,7 +55,7 @@ fn events_of(books: &[Book]) -> u64 {
     events
 }
 
-/// Has workers serve the links.
+/// Serves the links with workers.
 fn serve_links<R: Runtime + AllocGlobal + Threads + Wait + Sync>(
     rt: &R,
     books: Vec<Book>,
@@ -72,7 +72,7 @@ fn serve_links<R: Runtime + AllocGlobal + Threads + Wait + Sync>(
     }
 }
 
-/// The signals come to a book without a pool, which comes to rest behind each. How many events it has.
+/// Gives the signals to a book without a pool, which comes to rest after each. Returns the number of its events.
 pub fn drive(book: &mut Book, rounds: u32) -> u64 {
     for round in 0..rounds {
         if round % REBASES == 0 {
@@ -84,7 +84,7 @@ pub fn drive(book: &mut Book, rounds: u32) -> u64 {
     book.next()
 }
 
-/// Makes the rounds with so many workers, with one book and no pool where there are none.
+/// Makes the rounds with this many workers; with 0, on one book without a pool.
 fn count_rounds<R: Runtime + AllocGlobal + Threads + Wait + Sync>(
     rt: &R,
     set: &Verified,
@@ -102,7 +102,7 @@ fn count_rounds<R: Runtime + AllocGlobal + Threads + Wait + Sync>(
     serve_links(rt, books, rounds, workers)
 }
 
-/// Writes whether the seats agree, and where rounds were asked for the figures too.
+/// Writes whether the seats agree, and also the figures if rounds are asked for.
 fn write_found(
     text: &mut String,
     workers: u32,
@@ -123,7 +123,7 @@ fn write_found(
     }
 }
 
-/// Makes the rounds that are asked for, and writes what came of them.
+/// Makes the rounds that are asked for, and writes the results.
 pub fn write_pool<R: Runtime + AllocGlobal + Threads + Wait + Sync>(
     rt: &R,
     text: &mut String,

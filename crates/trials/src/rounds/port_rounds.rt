@@ -1,4 +1,4 @@
-//! The rounds of a port of 64 signals: an item is taken behind saved ones, and put behind all others again.
+//! The rounds of a port of 64 signals: an item is taken after saved ones, and put after all others again.
 
 use crate::calls::Stopped;
 use crate::plain_port::PlainPort;
@@ -9,19 +9,19 @@ use std::alloc::{AllocError, Global};
 use std::rt::Clock;
 use turn_code::{Address, Party, SignalNumber, Value};
 
-/// How many signals the port may have, and has.
+/// The capacity of the port, and the number of its signals.
 const CAPACITY: usize = 64;
 
-/// How many saved items stand before the one that is taken, one case after another.
+/// The numbers of saved items before the one that is taken.
 const PLACES: [usize; 3] = [0, 32, 63];
 
-/// How many items are taken in a round.
+/// The number of items taken in a round.
 const TURNS: u32 = 10_000;
 
 /// The signal that is saved.
 const KEPT: u8 = 0;
 
-/// The signal that isn't.
+/// The signal that isn't saved.
 const TAKEN: u8 = 1;
 
 /// A signal from the environment.
@@ -39,7 +39,7 @@ fn arrival_of(signal: u8) -> Arrival {
     }
 }
 
-/// Fills both, so that so many saved items stand first.
+/// Fills both so that this many saved items come first.
 fn fill(port: &mut Port, plain: &mut PlainPort, saved: usize) -> Result<(), AllocError> {
     for place in 0..CAPACITY {
         let signal = if place < saved { KEPT } else { TAKEN };
@@ -71,7 +71,7 @@ fn turn_plain(plain: &mut PlainPort, saved: &Saved, turns: u32) -> Result<u32, A
     Ok(put)
 }
 
-/// Writes how many items were taken in a round behind so many saved ones, and with a number of rounds how many a second.
+/// Writes the number of items taken in a round after this many saved ones, and their rate if rounds are given.
 fn write_place(
     rt: &impl Clock,
     alloc: Global,

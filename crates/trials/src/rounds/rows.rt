@@ -1,13 +1,13 @@
-//! The rows of what is measured of sets and their books.
+//! The rows of measurements of sets and their books.
 
 use crate::rounds::sets::Set;
 
-/// What is measured of a set.
+/// A measurement of a set.
 #[derive(Clone, Copy)]
 pub enum Row {
     /// Turns of the counter by jobs.
     Counter,
-    /// Turns of the profile's processes, a book opened anew for each link.
+    /// Turns of the profile's processes; a new book is opened for each link.
     Standard,
     /// Instructions of the long piece, whose job is copied for each run.
     Long,
@@ -15,9 +15,9 @@ pub enum Row {
     CounterOwn,
     /// Turns of the profile's processes that their book makes, while their link starts and stops.
     StandardOwn,
-    /// The same by jobs.
+    /// Turns of the profile's processes by jobs, while their link starts and stops.
     StandardJob,
-    /// Instructions of the long piece, which runs where it stands.
+    /// Instructions of the long piece, run on borrowed code.
     Straight,
     /// Turns of the counter in a room.
     CounterRoom,
@@ -39,7 +39,7 @@ pub const ROWS: [Row; 9] = [
 ];
 
 impl Row {
-    /// The set that it is measured of.
+    /// The set that the row is measured on.
     pub fn set(self) -> Set {
         match self {
             Row::Counter | Row::CounterOwn | Row::CounterRoom => Set::Counter,
@@ -50,7 +50,7 @@ impl Row {
         }
     }
 
-    /// Its name.
+    /// The name of the row.
     pub fn name(self) -> &'static str {
         match self {
             Row::Counter => "counter",

@@ -7,19 +7,19 @@ use link_standard::{Command, Mode, Report, Terminal};
 use std::alloc::Global;
 use su_octets::Unit;
 
-/// How many ticks proving takes.
+/// The number of ticks of proving.
 const PROVING: u64 = 8200;
 
-/// A terminal, and what the far end says.
+/// A terminal, and the units that the far end sends.
 #[derive(Drop)]
 pub struct Service {
     terminal: Terminal,
     far: Stuffer,
-    /// The number of the message that went out last; 127 before the first.
+    /// The number of the last message sent; 127 before the first.
     last: u8,
 }
 
-/// How many messages a report is.
+/// The number of messages in a report.
 fn messages_in(report: Report) -> u64 {
     match report {
         Report::Message(_) => 1,
@@ -37,7 +37,7 @@ impl Service {
         })
     }
 
-    /// The far end says a unit, twice, so that the first one is whole on the line.
+    /// Sends a unit from the far end, twice, so that the first one is whole on the line.
     fn say(&mut self, unit: &Unit) {
         if !unit.whole() {
             return;
@@ -48,7 +48,7 @@ impl Service {
         }
     }
 
-    /// Has the link come into service.
+    /// Brings the link into service.
     pub fn align(&mut self) -> Result<(), Stopped> {
         tell(&mut self.terminal, Command::PowerOn)?;
         tell(&mut self.terminal, Command::Start)?;
@@ -63,12 +63,12 @@ impl Service {
         }
     }
 
-    /// How many turns the actors had.
+    /// The number of turns of the actors.
     pub fn turns(&self) -> u64 {
         self.terminal.book().finishes()
     }
 
-    /// Hands out all reports. How many messages there were.
+    /// Takes all reports, and returns the number of messages.
     fn hand_out(&mut self) -> u64 {
         let mut messages = 0u64;
         for _ in 0..1000u32 {
@@ -80,7 +80,7 @@ impl Service {
         messages
     }
 
-    /// Takes a line, and hands out what comes. How many messages there were.
+    /// Gives the terminal a line, takes all reports, and returns the number of messages.
     pub fn take(&mut self, line: &[u8]) -> u64 {
         let mut messages = 0u64;
         let mut rest = line;
@@ -95,7 +95,7 @@ impl Service {
         messages
     }
 
-    /// Gives the terminal as many messages as can be under way, if it is to send messages.
+    /// Gives the terminal as many messages as the window allows, if the traffic has messages.
     pub fn give(&mut self, traffic: Traffic) {
         if let Some(octets) = traffic.octets {
             for number in 0..WINDOW {
@@ -104,12 +104,12 @@ impl Service {
         }
     }
 
-    /// As many units as messages can be under way.
+    /// Sends as many units as the window allows.
     pub fn send(&mut self) -> Result<Vec<u8>, Stopped> {
         speak(&mut self.terminal, WINDOW as usize)
     }
 
-    /// The far end acknowledges what went out.
+    /// Acknowledges from the far end all messages that were sent.
     pub fn acknowledge(&mut self) {
         let sent = (self.terminal.sent() % 128) as u8;
         self.last = self.last.wrapping_add(sent) % 128;
@@ -117,7 +117,7 @@ impl Service {
         self.say(&accepted);
     }
 
-    /// One tick. Whether it passed.
+    /// Lets one tick pass, and returns whether it did.
     pub fn tick(&mut self) -> bool {
         pass(&mut self.terminal, 1).is_ok()
     }

@@ -9,7 +9,7 @@ use std::rt::Clock;
 use std::time::Duration;
 use trials_groups::FullSet;
 
-/// What a round has, and how long it took.
+/// The results of a round, and its times.
 #[derive(Clone, Copy)]
 struct Moved {
     sent: u32,
@@ -18,7 +18,7 @@ struct Moved {
     diverting: Duration,
 }
 
-/// Fills a link, and diverts what it holds.
+/// Fills a link, and diverts its messages.
 fn measure(rt: &impl Clock, full: &mut FullSet) -> Result<Moved, Stopped> {
     let window = full.send_window().map_err(why_stopped)?;
     let start = now(rt)?;
@@ -43,12 +43,12 @@ fn round(rt: &impl Clock, alloc: Global, set: &Verified) -> Result<Moved, Stoppe
     }
 }
 
-/// Nanoseconds of one of so many.
+/// Nanoseconds for each of this many.
 fn share(time: Duration, count: u64) -> u64 {
     u64::try_from(time.as_nanos()).unwrap_or(u64::MAX) / count.max(1)
 }
 
-/// Writes how long one message of 1,024 took, and how long all that a link holds.
+/// Writes the time for one message of 1,024, and for the diversion of all messages of a link.
 fn write_times(
     rt: &impl Clock,
     alloc: Global,
@@ -70,7 +70,7 @@ fn write_times(
     Ok(())
 }
 
-/// Makes the rounds, and writes what came of them.
+/// Makes the rounds, and writes the results.
 pub fn write_sets(
     rt: &impl Clock,
     alloc: Global,

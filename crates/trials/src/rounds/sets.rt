@@ -12,13 +12,13 @@ START; TASK total := 0; NEXTSTATE Run;
 STATE Run; INPUT Up(n); TASK total := total + n; NEXTSTATE Run;
 ENDSTATE Run; ENDPROCESS P; ENDBLOCK B;";
 
-/// How often the long piece has its task, of five instructions: with 7 more it has 512 of them.
+/// The number of tasks of the long piece, of five instructions each: with 7 more it has 512.
 const TASKS: u32 = 101;
 
 /// A set that is measured.
 #[derive(Clone, Copy)]
 pub enum Set {
-    /// A process that adds up what comes.
+    /// A process that adds up the numbers that it gets.
     Counter,
     /// A process whose one input has 512 instructions.
     Long,

@@ -11,7 +11,7 @@ use std::rt::Clock;
 use std::time::Duration;
 use su_octets::Unit;
 
-/// The same octets.
+/// A copy of the octets.
 fn copied(sif: &ArrayVec<u8, 272>) -> ArrayVec<u8, 272>
     ensures { result.items ≡ sif.now.items }
 {
@@ -34,7 +34,7 @@ fn put(sender: &mut Sender, unit: &Unit) -> bool {
     false
 }
 
-/// Sends the next message and has it acknowledged. Whether one went out.
+/// Sends the next message and acknowledges it. Returns whether one was sent.
 fn send(sender: &mut Sender) -> bool {
     let going = sender.next_unit();
     let is_message = going.msu.is_some();
@@ -45,7 +45,7 @@ fn send(sender: &mut Sender) -> bool {
     is_message
 }
 
-/// Puts each message into a store, sends it and has it acknowledged. Gives how many went out.
+/// Puts each message into a store, sends it and acknowledges it. Returns the number sent.
 fn store(alloc: Global, units: &[Unit]) -> Result<u64, AllocError> {
     let mut sender = Sender::new(alloc, Mode::Basic)?;
     let mut sent = 0u64;
@@ -72,7 +72,7 @@ fn empty(sender: &mut Sender) -> Result<VecDeque<Msu>, AllocError> {
     }
 }
 
-/// A store hands out all that it has: how many, and in what time.
+/// Empties a store, and returns the number of messages and the time.
 fn empty_timed(rt: &impl Clock, sender: &mut Sender) -> Result<(u64, Duration), Stopped> {
     let start = now(rt)?;
     let messages = empty(sender)?;
@@ -80,7 +80,7 @@ fn empty_timed(rt: &impl Clock, sender: &mut Sender) -> Result<(u64, Duration), 
     Ok((messages.len() as u64, time))
 }
 
-/// Fills a store with the messages and has it hand them out, again and again. Gives how many came out, and in what time.
+/// Fills and empties a store again and again. Returns the number of messages retrieved, and the time.
 fn hand_out(rt: &impl Clock, alloc: Global, units: &[Unit]) -> Result<(u64, Duration), Stopped> {
     let mut sender = Sender::new(alloc, Mode::Basic)?;
     let mut count = 0u64;
@@ -94,7 +94,7 @@ fn hand_out(rt: &impl Clock, alloc: Global, units: &[Unit]) -> Result<(u64, Dura
     Ok((count, time))
 }
 
-/// So many stores one after another. How many messages went out.
+/// Uses this many stores one after another, and returns the number of messages sent.
 fn store_times(alloc: Global, units: &[Unit], rounds: u32) -> Result<u64, AllocError> {
     let mut sent = 0u64;
     for _ in 0..rounds {
@@ -103,7 +103,7 @@ fn store_times(alloc: Global, units: &[Unit], rounds: u32) -> Result<u64, AllocE
     Ok(sent)
 }
 
-/// Messages a second that were put, sent and acknowledged.
+/// Messages per second that were put, sent and acknowledged.
 pub fn rate_of_store(
     rt: &impl Clock,
     alloc: Global,
@@ -115,7 +115,7 @@ pub fn rate_of_store(
     Ok(rate(sent, since(rt, start)?))
 }
 
-/// Messages a second that a full store handed out.
+/// Messages per second that were retrieved from a full store.
 pub fn rate_of_retrieval(
     rt: &impl Clock,
     alloc: Global,

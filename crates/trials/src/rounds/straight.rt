@@ -1,4 +1,4 @@
-//! Runs of the long piece where its code stands.
+//! Runs of the long piece on borrowed code.
 
 ghost use Rattle.std.specs.Prelude.{IfSome};
 ghost use Rattle.turn_code.specs.Fits.{Fits};
@@ -15,10 +15,10 @@ use turn_machine::{Received, fits, new_machine, run_in};
 /// The process that has the long piece.
 const PROCESS: ProcessNumber = ProcessNumber(0);
 
-/// Its one state.
+/// The only state of that process.
 const STATE: Place = Place::State(StateNumber(0));
 
-/// What the long piece runs on: no number yet, a total of 0, and a 7 from the environment; none where that doesn't fit the first input of the place.
+/// The input of the long piece: no number yet, a total of 0, and a 7 from the environment. None if it doesn't fit.
 fn input_at(set: &Verified, process: ProcessNumber, place: Place) -> Option<Input>
     ensures { IfSome result (λ input. Fits set.now process.0 place 0 input) }
 {
@@ -44,7 +44,7 @@ fn input_at(set: &Verified, process: ProcessNumber, place: Place) -> Option<Inpu
     None
 }
 
-/// So many runs of the first input of a place, where its code stands. How many instructions they took.
+/// Runs the first input of a place this many times on borrowed code, and returns the number of instructions.
 fn run_times(set: &Verified, process: ProcessNumber, place: Place, input: &Input, times: u32) -> u64
     requires { Fits set.now process.0 place 0 input.now }
 {
@@ -57,7 +57,7 @@ fn run_times(set: &Verified, process: ProcessNumber, place: Place, input: &Input
     instructions
 }
 
-/// Instructions of the long piece, of which no job is made.
+/// Measures the instructions of the long piece without a job.
 pub fn run_straight(rt: &impl Clock, set: &Verified, rounds: u32) -> Result<Measured, Stopped> {
     let Some(input) = input_at(set, PROCESS, STATE) else {
         return Err(Stopped::Refused);

@@ -1,4 +1,4 @@
-//! Units that go to and fro.
+//! Units in both directions.
 ghost use Rattle.std.specs.Prelude.{◌≡◌, ◌≤◌, length};
 
 use crate::message::message_of;
@@ -7,20 +7,20 @@ use link_standard::Msu;
 use std::alloc::{AllocError, Global};
 use su_octets::{Head, Unit};
 
-/// How many numbers there are.
+/// The number of sequence numbers.
 pub const NUMBERS: u8 = 128;
 
-/// How many messages can be under way.
+/// The greatest number of messages that can be unacknowledged.
 pub const WINDOW: u8 = 127;
 
-/// How often a line has all its units: with 8 times it ends with an octet.
+/// The number of times that a line has all its units: 8, so that it ends with an octet.
 pub const TIMES: u8 = 8;
 
-/// What goes over a line.
+/// The units of a line.
 #[derive(Clone, Copy)]
 pub struct Traffic {
     pub name: &'static str,
-    /// How many octets a message's field has; none where there are fill-in units alone.
+    /// The number of octets of a message's field; none if there are only fill-in units.
     pub octets: Option<u16>,
 }
 
@@ -39,7 +39,7 @@ pub const TRAFFIC: [Traffic; 3] = [
     },
 ];
 
-/// The head of a unit, by the number that was accepted last and its own.
+/// The head of a unit, with the sequence number accepted last and its own.
 pub fn head(bsn: u8, fsn: u8) -> Head {
     Head {
         bsn: bsn % 128,
@@ -49,7 +49,7 @@ pub fn head(bsn: u8, fsn: u8) -> Head {
     }
 }
 
-/// What stands behind the first two octets of a message.
+/// The octets of a message after its first two.
 const FILLER: [u8; 270] = [
     0x19, 0xA2, 0x4F, 0xF4, 0x7F, 0xD5, 0x27, 0xAF, 0x34, 0x07, 0xC9, 0x76, 0xAD, 0xCF, 0x52, 0x80,
     0x81, 0x49, 0x86, 0x7B, 0x58, 0x67, 0xD0, 0x2D, 0x3D, 0x9A, 0x1C, 0xF6, 0x17, 0x77, 0x39, 0xC0,
@@ -70,14 +70,14 @@ const FILLER: [u8; 270] = [
     0x88, 0xAA, 0xC2, 0x2E, 0x3B, 0xB3, 0x06, 0x5E, 0x93, 0xA0, 0x12, 0x55, 0x98, 0x9E,
 ];
 
-/// A message of so many octets, 2 to 272, that begins with its number.
+/// A message of this many octets, 2 to 272, that begins with its number.
 pub fn message(number: u8, octets: u16) -> Msu
     ensures { 2 ≤ length result.sif.items }
 {
     message_of(number, octets, &FILLER)
 }
 
-/// The unit of a number.
+/// The unit with a number.
 fn unit(fsn: u8, traffic: Traffic) -> Unit {
     match traffic.octets {
         None => Unit::Fisu(head(127, 127)),
@@ -88,7 +88,7 @@ fn unit(fsn: u8, traffic: Traffic) -> Unit {
     }
 }
 
-/// Units of all numbers.
+/// Units with all sequence numbers.
 pub fn units_of(alloc: Global, traffic: Traffic) -> Result<Vec<Unit>, AllocError> {
     let mut units = Vec::with_capacity(alloc, NUMBERS as usize)?;
     for fsn in 0..NUMBERS {
@@ -111,7 +111,7 @@ pub fn put_all(
     Ok(())
 }
 
-/// A line of whole octets, on which the units go so often.
+/// A line of whole octets, with the units this many times.
 pub fn line_of(alloc: Global, units: &[Unit]) -> Result<Vec<u8>, AllocError> {
     let mut line = Vec::with_capacity(alloc, 400_000)?;
     let mut stuffer = Stuffer::new();

@@ -5,21 +5,21 @@ use actor_book::{Book, REST, Refusal, RoomRefusal, rest};
 use turn_code::SignalNumber;
 use turn_machine::{Room, run};
 
-/// How many actors a link of the profile has.
+/// The number of actors of a link of the profile.
 const ACTORS: u16 = 8;
 
 /// How turns are made.
 #[derive(Clone, Copy)]
 pub enum By {
-    /// A job of each, which is begun, run and finished.
+    /// A job for each turn: begun, run and finished.
     Job,
-    /// A room, where each is begun, runs and is finished.
+    /// A room, in which each turn is begun, runs and is finished.
     Room,
-    /// The book itself, which makes no job and runs the code where it stands.
+    /// The book itself, which makes no job and runs borrowed code.
     Book,
 }
 
-/// An actor has a turn by a job, or throws away a signal that its state has no input for, if it can. Whether it did.
+/// Lets an actor take a turn by a job, or skip an item, if it can. Returns whether it could.
 fn try_by_job(book: &mut Book, actor: u16) -> bool {
     match book.begin(actor) {
         Ok(job) => {
@@ -31,7 +31,7 @@ fn try_by_job(book: &mut Book, actor: u16) -> bool {
     }
 }
 
-/// The same in a room.
+/// Lets an actor take a turn in a room, or skip an item, if it can. Returns whether it could.
 fn try_in_room(book: &mut Book, room: &mut Room, actor: u16) -> bool {
     match book.begin_in(room, actor) {
         Ok(_) => {
@@ -43,7 +43,7 @@ fn try_in_room(book: &mut Book, room: &mut Room, actor: u16) -> bool {
     }
 }
 
-/// Whoever makes turns, in this way.
+/// A maker of turns, in one of these ways.
 #[derive(Drop)]
 pub struct Maker {
     by: By,
@@ -51,7 +51,7 @@ pub struct Maker {
 }
 
 impl Maker {
-    /// With a free room.
+    /// A maker with an empty room.
     pub fn new(by: By) -> Maker {
         Maker {
             by,
@@ -59,7 +59,7 @@ impl Maker {
         }
     }
 
-    /// An actor has a turn, from its beginning to its end, or throws away a signal that its state has no input for, if it can. Whether it did.
+    /// Lets an actor take a whole turn or skip an item, if it can. Returns whether it could.
     fn try_turn(&mut self, book: &mut Book, actor: u16) -> bool {
         match self.by {
             By::Job => try_by_job(book, actor),
@@ -68,7 +68,7 @@ impl Maker {
         }
     }
 
-    /// The least actor that can has a turn, or throws a signal away. Whether one could.
+    /// Lets the first actor that can take a turn or skip an item. Returns whether one could.
     fn one(&mut self, book: &mut Book) -> bool {
         for actor in 0..ACTORS {
             if self.try_turn(book, actor) {
@@ -78,7 +78,7 @@ impl Maker {
         false
     }
 
-    /// A rest: one turn after another, until no actor can have one.
+    /// Takes one turn after another, until no actor can take one.
     fn rest(&mut self, book: &mut Book) {
         for _ in 0..REST {
             if !self.one(book) {
@@ -87,12 +87,12 @@ impl Maker {
         }
     }
 
-    /// The first actor has a turn, if it can.
+    /// Lets the first actor take a turn, if it can.
     pub fn turn(&mut self, book: &mut Book) {
         let _ = self.try_turn(book, 0);
     }
 
-    /// A link of the profile comes to rest.
+    /// Brings a link of the profile to rest.
     pub fn settle(&mut self, book: &mut Book) {
         match self.by {
             By::Job => self.rest(book),
@@ -103,7 +103,7 @@ impl Maker {
         }
     }
 
-    /// A signal comes to the first actor of a link of the profile, which comes to rest, and the environment takes what waits for it.
+    /// Gives a link of the profile a signal, brings it to rest, and takes its signals to the environment.
     pub fn send(&mut self, book: &mut Book, signal: SignalNumber) {
         let _ = book.offer(0, signal, &[]);
         self.settle(book);
@@ -112,7 +112,7 @@ impl Maker {
         }
     }
 
-    /// A link of the profile is started and stopped, so often.
+    /// Starts and stops a link of the profile this many times.
     pub fn cycle_times(&mut self, book: &mut Book, times: u32) {
         for _ in 0..times {
             self.send(book, START);

@@ -7,16 +7,16 @@ use std::alloc::{AllocError, Global};
 use std::rt::Clock;
 use tick_wheel::{Timer, Wheel};
 
-/// How many timers are set, one case after another.
+/// The numbers of timers that are set.
 const COUNTS: [u16; 3] = [8, 64, 1024];
 
-/// How many ticks pass in a round.
+/// The number of ticks in a round.
 const TICKS: u32 = 10_000;
 
-/// A deadline that no round comes to. Those of the timers follow each other, so they stand in all slots alike.
+/// A deadline that no round reaches. The timers have consecutive deadlines, so all slots have equally many.
 const FAR: u64 = 1 << 40;
 
-/// Sets so many timers.
+/// Sets this many timers.
 fn fill(wheel: &mut Wheel, table: &mut Table, count: u16) {
     for place in 0..count {
         let timer = Timer::new((place / 8 % 128) as u8, (place % 8) as u8);
@@ -43,7 +43,7 @@ fn walk(table: &mut Table, ticks: u32) -> Result<(), AllocError> {
     Ok(())
 }
 
-/// Writes how many timers were looked at in a round of so many that are set, and with a number of rounds how many ticks a second passed.
+/// Writes the number of timers looked at in a round with this many set, and ticks per second if rounds are given.
 fn write_count(
     rt: &impl Clock,
     alloc: Global,

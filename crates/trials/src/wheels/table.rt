@@ -1,4 +1,4 @@
-//! Timers as a table of deadlines that is walked whole, and sorted what is found.
+//! Timers as a table of deadlines that is searched in full; due timers are sorted.
 
 use std::alloc::{AllocError, Global};
 use tick_wheel::{AdvanceError, Due, FARTHEST, LAST_CLOCK, TIMERS, Timer};
@@ -12,7 +12,7 @@ pub struct Table {
     looked: u64,
 }
 
-/// How many slots a wheel has.
+/// The number of slots of a wheel.
 const TURN: u64 = 256;
 
 impl Table {
@@ -31,12 +31,12 @@ impl Table {
         self.clock
     }
 
-    /// What was due last, in order.
+    /// The timers that were due last, in order.
     pub fn due(&self) -> &[Due] {
         self.due.as_slice()
     }
 
-    /// How many timers a wheel of 256 slots looks at.
+    /// The number of timers that a wheel of 256 slots looks at.
     pub fn looked(&self) -> u64 {
         self.looked
     }
@@ -45,14 +45,14 @@ impl Table {
         self.deadlines.get(place_of(timer)).copied().flatten()
     }
 
-    /// Gives a timer a deadline, or takes it away.
+    /// Sets or removes the deadline of a timer.
     pub fn put(&mut self, timer: Timer, deadline: Option<u64>) {
         if let Some(place) = self.deadlines.get_mut(place_of(timer)) {
             *place = deadline;
         }
     }
 
-    /// Lets so many ticks pass, and answers how many timers are due.
+    /// Lets ticks pass, and returns the number of due timers.
     pub fn advance(&mut self, ticks: u64) -> Result<Result<usize, AdvanceError>, AllocError> {
         if ticks > FARTHEST {
             return Ok(Err(AdvanceError::TooFar));
@@ -66,7 +66,7 @@ impl Table {
         Ok(Ok(self.due.len()))
     }
 
-    /// Lets so many ticks pass, whatever they are, and counts nothing.
+    /// Lets any number of ticks pass, without counting.
     pub fn walk(&mut self, ticks: u64) -> Result<(), AllocError> {
         self.clock = self.clock.saturating_add(ticks);
         self.due.clear();
@@ -86,12 +86,12 @@ fn timer_of(place: usize) -> Timer {
     Timer::new((place / 8 % 128) as u8, (place % 8) as u8)
 }
 
-/// Whether a deadline is congruent to one of the next clocks, so many.
+/// Whether a deadline is congruent to one of the next `ticks` clocks.
 fn is_near(deadline: u64, clock: u64, ticks: u64) -> bool {
     deadline.wrapping_sub(clock).wrapping_sub(1) % TURN < ticks
 }
 
-/// How many deadlines are.
+/// The number of such deadlines.
 fn count_near(deadlines: &[Option<u64>], clock: u64, ticks: u64) -> u64 {
     let mut count: u64 = 0;
     for deadline in deadlines {
@@ -104,7 +104,7 @@ fn count_near(deadlines: &[Option<u64>], clock: u64, ticks: u64) -> u64 {
     count
 }
 
-/// Takes out what is due at a clock, in the order of the places.
+/// Removes the timers due at a clock, in the order of the places.
 fn take_due(
     deadlines: &mut [Option<u64>],
     clock: u64,

@@ -27,7 +27,7 @@ impl Draws {
         Timer::new(actor, number)
     }
 
-    /// How far a deadline is: near, in the next turns of a wheel, or as far as a SET goes.
+    /// The distance of a deadline: near, in the next turns of a wheel, or as far as a SET goes.
     fn distance(&mut self) -> u64 {
         match self.below(4) {
             0 => self.below(4).wrapping_add(1),
@@ -37,7 +37,7 @@ impl Draws {
         }
     }
 
-    /// How many ticks pass: mostly one or few, at times a turn of a wheel, at times more than may.
+    /// The number of ticks: mostly one or few, sometimes a turn of a wheel, sometimes more than allowed.
     fn ticks(&mut self) -> u64 {
         match self.below(32) {
             0..=25 => self.below(3),
@@ -48,14 +48,14 @@ impl Draws {
     }
 }
 
-/// What a trial found.
+/// The findings of a trial.
 #[derive(Clone, Copy, Debug, PartialEq, Eq)]
 pub struct Findings {
-    /// The number of the first call after which the two say something else.
+    /// The number of the first call after which the two differ.
     pub other: Option<u64>,
-    /// How many timers were due.
+    /// The number of due timers.
     pub due: u64,
-    /// How many were looked at.
+    /// The number of timers looked at.
     pub looked: u64,
 }
 
@@ -76,7 +76,7 @@ fn reset(draws: &mut Draws, wheel: &mut Wheel, table: &mut Table) {
     table.put(timer, None);
 }
 
-/// Lets ticks pass in both. Whether they answer the same, and how many are due.
+/// Lets ticks pass in both. Returns whether they agree, and the number of due timers.
 fn pass(
     draws: &mut Draws,
     wheel: &mut Wheel,
@@ -88,7 +88,7 @@ fn pass(
     Ok((answer == expected, answer.unwrap_or(0)))
 }
 
-/// Whether both hold the same, as far as they tell, of some timer too.
+/// Whether both agree, as far as they show, about one timer too.
 fn agree(timer: Timer, wheel: &Wheel, table: &Table) -> bool {
     wheel.clock() == table.clock()
         && wheel.due() == table.due()
@@ -97,7 +97,7 @@ fn agree(timer: Timer, wheel: &Wheel, table: &Table) -> bool {
         && wheel.is_active(timer) == table.deadline_of(timer).is_some()
 }
 
-/// One call of both. Whether they say the same then, and how many timers were due.
+/// Makes one call on both. Returns whether they agree then, and the number of due timers.
 fn call(
     draws: &mut Draws,
     wheel: &mut Wheel,
@@ -117,7 +117,7 @@ fn call(
     Ok((same && agree(draws.timer(), wheel, table), due))
 }
 
-/// So many calls of a wheel and of a table by a seed: the number of the first after which they say something else, and what there was.
+/// Makes calls on a wheel and on a table by a seed. Returns the first after which they differ, and the counts.
 pub fn first_other(alloc: Global, seed: u64, calls: u64) -> Result<Findings, AllocError> {
     let mut draws = Draws { state: seed };
     let mut wheel = Wheel::new(alloc)?;
