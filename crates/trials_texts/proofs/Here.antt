@@ -1,4 +1,4 @@
--- Words that stand for values at a place of a set's transition.
+-- Words that represent values at a place of a set's transition.
 use Rattle.std.proofs.Common.{◌≡◌, ℕ, zero, suc, List, Option, Some, None, option_map, slice_get, refl, sym, ap, ◌∙◌, subst}
 use Rattle.turn_code.specs.Run.{begun}
 use Rattle.turn_code.specs.Transitions.{Transition, transition_at, process_at, start_of, start_at, input_at, input_of}
@@ -22,7 +22,7 @@ use Rattle.turn_check.specs.Steps.{StandAt}
 use Rattle.turn_check.proofs.Whole.{start_small}
 use Rattle.trials_texts.specs.Holding.{HoldAt}
 
--- ---- the process of a transition
+-- ---- the process that a transition belongs to
 of_input : (ss : List DraftSignal) (n : ℕ) (p : DraftProcess) (q : DraftState) (o : Option DraftInput) (t : Transition)
     → option_map (input_of ss n p q) o ≡ Some t → p ≡ t.process
 of_input ss n p q None t e = cc

@@ -1,4 +1,4 @@
--- One operand more on words.
+-- One more operand in words.
 use Rattle.std.proofs.Common.{◌≡◌, ℕ, ◌-◌, ◌≤◌, ℤ, List, [], ◌∷◌, length, take, drop, take_all, get_or, Option, sym, ap, ◌∙◌, subst, arith}
 use Rattle.turn_code.specs.declared.value.Value.{Value}
 use Rattle.turn_check.specs.Bare.{Bare, pushed}

@@ -1,4 +1,4 @@
-//! Whether two steps gave the same.
+//! Compares the results of two steps.
 
 use crate::stepping::Stepped;
 use crate::wording::word_of;
@@ -7,8 +7,8 @@ use turn_code::{
 };
 use turn_machine::{Given, Next, Words};
 
-/// Whether a step on words and one on values with their sorts gave the same: where the code goes on or how it ends, what is given out, operands and variables.
-/// Takes the machine's operands.
+/// Whether a step on words and one on values with their sorts have equal results: the next place or the end, the
+/// effect, operands and variables. Takes the machine's operands.
 pub fn are_alike(
     sorted: Sorted,
     machine: &mut Machine,
@@ -26,7 +26,7 @@ pub fn are_alike(
         && same_operands(&mut machine.operands, &stepped.words)
 }
 
-/// Whether what was given out, if anything, is the one effect.
+/// Whether the effect of the step on words, or its absence, is equal to the effects of the step on values.
 fn same_given(effects: &[Effect], given: Option<Given>, sender: Option<Address>) -> bool {
     match (effects, given) {
         ([], None) => true,
@@ -44,7 +44,7 @@ fn same_given(effects: &[Effect], given: Option<Given>, sender: Option<Address>)
     }
 }
 
-/// Whether words are those of values.
+/// Whether words represent these values.
 fn same_words(values: &[Value], words: &[i32]) -> bool {
     for (place, value) in values.iter().enumerate() {
         if words.get(place).copied() != Some(word_of(*value)) {
@@ -54,7 +54,7 @@ fn same_words(values: &[Value], words: &[i32]) -> bool {
     true
 }
 
-/// Whether words have these variables: the values of those that are set, and which these are.
+/// Whether words have these variables: the same ones are set, and to the same values.
 fn same_variables(variables: &[Option<Value>], words: &Words) -> bool {
     for place in 0..variables.len().min(32) {
         let set = VariableSet(words.set).has(VariableNumber(place as u8));
@@ -69,7 +69,7 @@ fn same_variables(variables: &[Option<Value>], words: &Words) -> bool {
     true
 }
 
-/// Whether words have these operands, which are taken.
+/// Whether words have these operands. Takes them.
 fn same_operands(operands: &mut Operands, words: &Words) -> bool {
     for back in 0..words.depth {
         let place = words.depth - 1 - back;

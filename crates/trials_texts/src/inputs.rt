@@ -1,4 +1,4 @@
-//! Inputs and operands.
+//! Builds inputs and operands for the tests.
 
 ghost use Rattle.std.specs.Prelude.{IfSome};
 ghost use Rattle.turn_code.specs.Fits.{Fits};
@@ -8,7 +8,7 @@ use turn_check::Verified;
 use turn_code::{Address, DraftVariable, Input, Party, Place, ProcessNumber, Sort, Value};
 use turn_machine::{Received, fits};
 
-/// A value of a sort: in the first turns numbers at the ends of their range and about 0, later any; both Booleans.
+/// A value of a sort. The Integers include both ends of their range and values about 0; the Booleans alternate.
 fn value_of(sort: Sort, turn: i32) -> Value {
     match sort {
         Sort::Boolean => Value::Bool(turn % 2 == 1),
@@ -62,7 +62,7 @@ pub fn operands_of(sorts: &[Sort], turn: i32) -> ArrayVec<Value, 16> {
     values
 }
 
-/// The parties of a set in turn: the environment first, then its processes.
+/// The parties of a set by number: the environment first, then its processes.
 fn sender_of(number: u8) -> Address {
     Address {
         party: match number {
@@ -73,7 +73,7 @@ fn sender_of(number: u8) -> Address {
     }
 }
 
-/// An input of a transition in a turn, from the first party that may send it; none where there is no such transition.
+/// An input of a transition in a turn, from the first party that may send it; `None` if there is no such transition.
 pub fn input_of(
     set: &Verified,
     process: ProcessNumber,

@@ -1,5 +1,5 @@
-//! Tests that want a text which is loaded, over public calls: of the layers that it goes through, of `check`, of turns, books and pools.
-//! They stand in a crate of their own so that these aren't proved a second time with them, and in one, so that they are loaded and compiled once.
+//! Tests that require a loaded text: of the layers that it passes, of `check`, turns, books and pools, through public
+//! calls. A separate crate avoids proving the layers a second time; one crate is compiled once.
 #![tactic(auto)]
 
 mod alike;

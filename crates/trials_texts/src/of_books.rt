@@ -1,5 +1,5 @@
-//! Books over their public calls, on a text that is loaded: that the calls which take memory succeed where there is some, and change nothing
-//! where there is none; that a turn ends once.
+//! Tests of books through public calls, on a loaded text: calls that allocate succeed if there is memory, and change
+//! nothing if there is none; a turn ends once.
 use crate::links::{ECHO, SAVER, UP, book_of};
 use actor_book::{Book, Event, Limits, Offer, run_events};
 use arrayvec::ArrayVec;
@@ -7,7 +7,7 @@ use std::alloc::Global;
 use turn_code::SignalNumber;
 use turn_machine::run;
 
-/// The book of a link, with room for one signal and 16 events.
+/// Opens a link with a port for one signal and a journal of 16 events.
 fn opened(alloc: Global) -> Option<Book> {
     book_of(alloc, ECHO, Limits::new(1, 1, 16)?)
 }
@@ -21,7 +21,7 @@ fn sent(signal: SignalNumber) -> Event {
     })
 }
 
-/// Seven events, of which the second Up finds the port full.
+/// Seven events. The second Up finds the port full.
 fn events() -> [Event; 7] {
     [
         Event::Begin(0),
@@ -34,7 +34,7 @@ fn events() -> [Event; 7] {
     ]
 }
 
-/// Nine events of [`SAVER`], whose port has room for two signals: the third finds it full, the second is taken before the first, which is then out.
+/// Nine events of [`SAVER`], whose port for two signals is full at the third. The second is consumed before the first.
 fn saved() -> [Event; 9] {
     let a = SignalNumber(0);
     let c = SignalNumber(1);
@@ -51,8 +51,8 @@ fn saved() -> [Event; 9] {
     ]
 }
 
-/// Turns that ended, instructions that ran, the place where the journal begins, that of the next event, and the turns that had ended where
-/// the journal begins.
+/// The number of ended turns, the instructions run, the place where the journal begins, the place of the next event,
+/// and the number of turns ended where the journal begins.
 pub(crate) fn numbers(book: &Book) -> [u64; 5] {
     [
         book.finishes(),
@@ -63,7 +63,7 @@ pub(crate) fn numbers(book: &Book) -> [u64; 5] {
     ]
 }
 
-/// Whether events are answered, each of them.
+/// Whether there is a reply to each of the events.
 fn is_answered(alloc: Global, book: &mut Book, events: &[Event]) -> bool {
     match run_events(alloc, book, events) {
         Ok(replies) => replies.len() == events.len(),
@@ -71,7 +71,7 @@ fn is_answered(alloc: Global, book: &mut Book, events: &[Event]) -> bool {
     }
 }
 
-/// The numbers of a book behind the events.
+/// The numbers of a book after the events.
 fn ran(alloc: Global) -> Option<[u64; 5]> {
     let mut book = opened(alloc)?;
     if is_answered(alloc, &mut book, &events()) {
@@ -86,7 +86,7 @@ fn a_list_of_events_runs(rt: HostRuntime) {
     assert_eq!(rt; ran(rt.alloc()), Some([2, 3, 0, 6, 0]));
 }
 
-/// How many answers so many events have, each of which looks for what the environment was sent.
+/// The number of replies to `count` events, each of which takes a signal for the environment.
 fn answers_to(alloc: Global, count: usize) -> Option<usize> {
     let mut book = opened(alloc)?;
     let mut events = Vec::new(alloc);
@@ -104,7 +104,7 @@ fn a_long_list_of_events_runs(rt: HostRuntime) {
     assert_eq!(rt; answers_to(rt.alloc(), 5_000), Some(5_000));
 }
 
-/// The same once its journal is emptied.
+/// The numbers of a book after the events and a rebase.
 fn rebased(alloc: Global) -> Option<[u64; 5]> {
     let mut book = opened(alloc)?;
     if is_answered(alloc, &mut book, &events()) && book.rebase().is_ok() {
@@ -119,13 +119,13 @@ fn a_rebase_empties_the_journal(rt: HostRuntime) {
     assert_eq!(rt; rebased(rt.alloc()), Some([2, 3, 6, 6, 2]));
 }
 
-/// Whether an empty journal begins at this place, or it couldn't be emptied and begins at 0; the next event comes there either way.
+/// Whether the journal is emptied and begins at this place, or begins at 0. The next place must be unchanged.
 fn is_emptied(book: &mut Book, next: u64) -> bool {
     let first = if book.rebase().is_ok() { next } else { 0 };
     book.first() == first && book.next() == next
 }
 
-/// Whether the events of [`SAVER`] have run, of which one is refused, or nothing has changed; and the same of the journal, with a turn out.
+/// Whether the events of [`SAVER`] ran or nothing changed; and then whether a rebase succeeded or nothing changed.
 fn changes_or_stays(alloc: Global, book: &mut Book) -> bool {
     let next = if is_answered(alloc, book, &saved()) {
         8
@@ -135,19 +135,19 @@ fn changes_or_stays(alloc: Global, book: &mut Book) -> bool {
     book.next() == next && is_emptied(book, next)
 }
 
-/// The same of a new book; nothing where there is none.
+/// As `changes_or_stays`, for a new book; `None` if it can't be opened.
 fn new_changes_or_stays(alloc: Global) -> Option<bool> {
     let mut book = book_of(alloc, SAVER, Limits::new(2, 1, 16)?)?;
     Some(changes_or_stays(alloc, &mut book))
 }
 
-/// Holds whichever allocation is refused.
+/// Holds whichever allocation fails.
 #[test]
 fn want_of_memory_changes_nothing(rt: HostRuntime) {
     assert!(rt; new_changes_or_stays(rt.alloc()) != Some(false));
 }
 
-/// Whether a turn that ended is taken, and the second time refused.
+/// Whether a turn that ended is accepted, and refused the second time.
 fn is_ended_once(book: &mut Book) -> bool {
     let Ok(job) = book.begin(0) else {
         return false;
@@ -157,7 +157,7 @@ fn is_ended_once(book: &mut Book) -> bool {
     book.finish(done).is_ok() && book.finish(again).is_err()
 }
 
-/// The numbers of a book behind that.
+/// The numbers of a book after a turn was ended twice.
 fn ended(alloc: Global) -> Option<[u64; 5]> {
     let mut book = opened(alloc)?;
     if is_ended_once(&mut book) {
@@ -167,7 +167,7 @@ fn ended(alloc: Global) -> Option<[u64; 5]> {
     }
 }
 
-/// A turn that ended comes back the second time, and nothing changes.
+/// The second time the turn is returned, and nothing changes.
 #[test]
 fn a_turn_ends_once(rt: HostRuntime) {
     assert_eq!(rt; ended(rt.alloc()), Some([1, 1, 0, 2, 0]));

@@ -1,11 +1,11 @@
-//! What `check` prints and answers where a text ends early, isn't text, isn't read or isn't written. What it prints of texts that are read and
-//! written whole the gate has a table of texts for (examples/refusals.txt).
+//! The output and exit status of `check` if a text ends early, isn't UTF-8, can't be read or can't be written. For
+//! texts that are read and written completely there is a table of texts (examples/refusals.txt).
 use crate::texts::COUNTER;
 use script_check::{SetWord, check};
 use std::alloc::Global;
 use std::io::{self, Read, Write};
 
-/// A writer that keeps what it is given, but for one call, which fails; with 0 none does.
+/// A writer that keeps all text, except that the call numbered `failing` fails. With 0 no call fails.
 #[derive(Drop)]
 struct Paper {
     text: Vec<u8>,
@@ -28,7 +28,7 @@ impl Write for Paper {
     }
 }
 
-/// A writer with room for so many bytes. It takes what fits, and fails once it is full.
+/// A writer with room for `room` bytes. It takes the bytes that fit, and fails once it is full.
 #[derive(Drop)]
 struct Scrap {
     text: Vec<u8>,
@@ -51,7 +51,7 @@ impl Write for Scrap {
     }
 }
 
-/// What is written, and the exit status.
+/// The text written, and the exit status.
 type Told = (&'static [u8], u8);
 
 const ACCEPTED: &[u8] =
@@ -59,7 +59,7 @@ const ACCEPTED: &[u8] =
 
 const UNEXPECTED: &[u8] = b"refused P1 Unexpected line 1\n";
 
-/// Whether `check` writes that for what a reader gives and answers so, where one write fails.
+/// Whether `check` writes this text and returns this status for a reader, if the write numbered `failing` fails.
 fn tells<R: Read + Drop>(alloc: Global, reader: R, failing: u32, told: Told) -> bool {
     let mut paper = Paper {
         text: Vec::new(alloc),
@@ -76,8 +76,8 @@ fn tells<R: Read + Drop>(alloc: Global, reader: R, failing: u32, told: Told) -> 
     paper.text.as_slice() == told.0 && status == told.1
 }
 
-/// What is written where the first, the second, the last line fails, and where none does. The writer would take what comes
-/// behind a line that failed. A refusal whose line isn't written is none.
+/// The text written if the first, the second or the last line fails, and if none does. The writer would accept the
+/// lines after a failed one. A refusal whose line can't be written is none.
 const FAILING: [(&str, u32, Told); 6] = [
     (COUNTER, 1, (b"", 4)),
     (COUNTER, 2, (b"P START budget 3 depth 1 effects 0\n", 4)),
@@ -94,7 +94,7 @@ const FAILING: [(&str, u32, Told); 6] = [
     ("BLOCK", 2, (UNEXPECTED, 2)),
 ];
 
-/// The number of the first row of which something else comes.
+/// The number of the first row with another result.
 fn first_other_line(alloc: Global, rows: &[(&str, u32, Told)]) -> Option<usize> {
     for (number, (text, failing, told)) in rows.iter().enumerate() {
         if !tells(alloc, text.as_bytes(), *failing, *told) {
@@ -109,7 +109,7 @@ fn stops_at_a_failed_line(rt: HostRuntime) {
     assert_eq!(rt; first_other_line(rt.alloc(), &FAILING), None);
 }
 
-/// Whether `check` writes as much of that as there is room, and answers so.
+/// Whether `check` writes the part of the text that fits in the room, and returns this status.
 fn tells_in_room(alloc: Global, text: &[u8], room: usize, told: Told) -> bool {
     let mut scrap = Scrap {
         text: Vec::new(alloc),
@@ -125,7 +125,7 @@ fn tells_in_room(alloc: Global, text: &[u8], room: usize, told: Told) -> bool {
     told.0.get(..room) == Some(scrap.text.as_slice()) && status == told.1
 }
 
-/// The first room for so many bytes in which something else is written of these lines, or answered than 4; with room for all, than that.
+/// The first room in which another text or status comes. If the room is too small, the status must be 4.
 fn first_other_room(alloc: Global, text: &[u8], told: Told) -> Option<usize> {
     let all = told.0.len();
     for room in 0..=all {
@@ -137,7 +137,7 @@ fn first_other_room(alloc: Global, text: &[u8], told: Told) -> Option<usize> {
     None
 }
 
-/// Only what is written whole counts.
+/// Only text that is written completely counts.
 #[test]
 fn stops_where_the_room_ends(rt: HostRuntime) {
     let counter = COUNTER.as_bytes();
@@ -148,7 +148,7 @@ fn stops_where_the_room_ends(rt: HostRuntime) {
     );
 }
 
-/// Whether a text is refused for its end.
+/// Whether a text is refused because it ends early.
 fn ends_early(alloc: Global, text: &[u8]) -> bool {
     let mut paper = Paper {
         text: Vec::new(alloc),
@@ -165,7 +165,7 @@ fn ends_early(alloc: Global, text: &[u8]) -> bool {
     paper.text.starts_with(b"refused P1 Unexpected line ") && status == 2
 }
 
-/// How long the first beginning of a text is that isn't refused for its end.
+/// The length of the first prefix of a text that isn't refused because it ends early.
 fn first_other_end(alloc: Global, text: &[u8]) -> Option<usize> {
     for end in 0..text.len() {
         match text.get(..end) {
@@ -176,7 +176,7 @@ fn first_other_end(alloc: Global, text: &[u8]) -> Option<usize> {
     None
 }
 
-/// A text that ends early is no block: of the counter, each beginning without its last semicolon. The line feed behind that may be missing.
+/// Each prefix of the counter without its last semicolon is refused as no block. The final line feed may be missing.
 #[test]
 fn refuses_each_prefix(rt: HostRuntime) {
     let whole = COUNTER.len() - 1;
@@ -187,7 +187,7 @@ fn refuses_each_prefix(rt: HostRuntime) {
     assert!(rt; tells(rt.alloc(), b"".as_slice(), 0, (UNEXPECTED, 2)));
 }
 
-/// What is told of a text of 262,145 line feeds, and of one with another byte behind it that is no text.
+/// Whether a text of 262,145 line feeds is too long, and one with a further byte that isn't UTF-8 isn't text.
 fn long_texts(alloc: Global) -> Option<[bool; 2]> {
     let mut long = Vec::from_elem(alloc, b'\n', 262_145).ok()?;
     let is_long = tells(
@@ -201,13 +201,13 @@ fn long_texts(alloc: Global) -> Option<[bool; 2]> {
     Some([is_long, is_none])
 }
 
-/// A text may have 262,144 bytes. The line of an over-long one is that of the next byte.
+/// A text may have 262,144 bytes. The line of a text that is too long is that of the next byte.
 #[test]
 fn refuses_long_texts_and_bytes_that_are_none(rt: HostRuntime) {
     assert_eq!(rt; long_texts(rt.alloc()), Some([true; 2]));
 }
 
-/// A reader that gives its text in parts of 9 bytes, and fails once after so many calls.
+/// A reader that returns its text in parts of 9 bytes, and fails once after `calls_left` calls.
 #[derive(Drop)]
 struct Source<'a> {
     rest: &'a [u8],
@@ -227,7 +227,7 @@ impl Read for Source<'_> {
     }
 }
 
-/// Whether that is told of the counter where the read after so many calls fails.
+/// Whether `check` has this result for the counter if the read after `calls_left` calls fails.
 fn tells_read(alloc: Global, calls_left: u32, failure: io::ErrorKind, told: Told) -> bool {
     let source = Source {
         rest: COUNTER.as_bytes(),
@@ -237,7 +237,7 @@ fn tells_read(alloc: Global, calls_left: u32, failure: io::ErrorKind, told: Told
     tells(alloc, source, 0, told)
 }
 
-/// The number of the first read that may fail, and something is written, or another status answered than 4.
+/// The number of the first read whose failure leads to output, or to a status other than 4.
 fn first_other_read(alloc: Global, reads: u32) -> Option<u32> {
     for calls_left in 0..reads {
         if !tells_read(alloc, calls_left, io::ErrorKind::Other, (b"", 4)) {
@@ -247,7 +247,7 @@ fn first_other_read(alloc: Global, reads: u32) -> Option<u32> {
     None
 }
 
-/// Whichever read fails, nothing is written. A read that was interrupted is made again.
+/// Whichever read fails, nothing is written. An interrupted read is repeated.
 #[test]
 fn stops_at_a_failed_read(rt: HostRuntime) {
     let reads = COUNTER.len() as u32 / 9 + 2;
@@ -257,7 +257,7 @@ fn stops_at_a_failed_read(rt: HostRuntime) {
     assert!(rt; tells_read(rt.alloc(), 1, io::ErrorKind::Interrupted, told));
 }
 
-/// A reader that gives spaces, one at a call, and never ends.
+/// A reader that returns one space per call, and never ends.
 #[derive(Drop)]
 struct Spaces {
     calls: u32,
@@ -276,7 +276,7 @@ impl Read for Spaces {
     }
 }
 
-/// A reader is asked 1,000,000 times at most.
+/// A reader is called at most 1,000,000 times.
 #[test]
 fn gives_up_on_a_reader_without_end(rt: HostRuntime) {
     let mut spaces = Spaces { calls: 0 };

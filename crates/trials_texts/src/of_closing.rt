@@ -1,4 +1,4 @@
-//! Clients that end in different ways: whatever they do, workers leave nothing undone.
+//! Clients that end in different ways. Whatever they do, workers finish all work.
 use crate::links::{PICKY, UP, links_of};
 use crate::of_pools::ASKS;
 use actor_book::{Book, Limits, Refusal};
@@ -11,18 +11,18 @@ use std::thread::Threads;
 use turn_code::SignalNumber;
 use turn_pool::{Client, Closed, Pool, PoolRefusal, Seat, serve};
 
-/// The signal that [`PICKY`]'s process doesn't take.
+/// The signal that the process of [`PICKY`] doesn't consume.
 const DOWN: SignalNumber = SignalNumber(1);
 
-/// How many links there are.
+/// The number of links.
 const LINKS: usize = 16;
 
-/// A client that offers a signal, if it does anything, closes the pool so often, and offers one more.
+/// A client that offers a signal, closes the pool `closings` times, and offers one more. Or it does nothing.
 #[derive(Drop)]
 struct Ends {
     offers: bool,
     closings: u32,
-    /// Why its offers were refused, if they were.
+    /// Why its first offer was refused, if it was.
     first: Option<PoolRefusal>,
     last: Option<PoolRefusal>,
 }
@@ -40,7 +40,7 @@ impl Client for Ends {
     }
 }
 
-/// Eight signals come to a link before it is served: by turns one that is thrown away and one that is taken. Whether all were accepted.
+/// Offers eight signals to a link, alternately discarded and consumed. Whether all were accepted.
 fn is_filled(book: &mut Book) -> bool {
     for _ in 0..4u32 {
         if book.offer(0, DOWN, &[]).is_err() || book.offer(0, UP, &[]).is_err() {
@@ -50,7 +50,7 @@ fn is_filled(book: &mut Book) -> bool {
     true
 }
 
-/// Whether all links have these signals.
+/// Offers these signals to all links. Whether all were accepted.
 fn are_filled(books: &mut [Book]) -> bool {
     for book in books {
         if !is_filled(book) {
@@ -60,8 +60,8 @@ fn are_filled(books: &mut [Book]) -> bool {
     true
 }
 
-/// On how many links nothing is out, nothing waits, and START and the turns of all that was taken have ended. On the first link so many more
-/// were taken.
+/// The number of links on which no turn is out, no signal waits, and START and the turns of all consumed signals have
+/// ended. The first link has `more` signals.
 fn at_rest(books: &[Book], more: u64) -> usize {
     let mut rest = 0usize;
     for (link, book) in books.iter().enumerate() {
@@ -79,8 +79,8 @@ fn at_rest(books: &[Book], more: u64) -> usize {
     rest
 }
 
-/// Has one worker serve 16 links with something to do on each: 144 begins and skips. Why the client's offers were refused, and how many links
-/// are at rest in the end, where so many of its offers were accepted; nothing where nobody is served.
+/// One worker serves 16 links with signals on each: 144 begins and skips. Why the client's offers were refused, and how
+/// many links are at rest in the end, if `accepted` of its offers were accepted. `None` if the pool can't serve.
 fn ended<R: Threads + Wait + Sync>(
     rt: &R,
     alloc: Global,
@@ -100,7 +100,7 @@ fn ended<R: Threads + Wait + Sync>(
     }
 }
 
-/// A client that closes the pool so often.
+/// A client that closes the pool `closings` times.
 fn closing(closings: u32) -> Ends {
     Ends {
         offers: true,
@@ -154,10 +154,10 @@ fn a_client_that_closes_twice(rt: HostRuntime) {
     );
 }
 
-/// How often links are served to a client that offers once more before it returns.
+/// How often links are served to a client that makes a last offer before it returns.
 const SERVED: u32 = 20;
 
-/// A client that has a signal of the last link sent back, so that its worker is at work, pauses so often, and offers one on the first link.
+/// Waits for a signal sent back on the last link, so that the worker runs, pauses, and offers on the first link.
 #[derive(Drop)]
 struct Lasts {
     pauses: u32,
@@ -180,7 +180,7 @@ impl Client for Lasts {
     }
 }
 
-/// Whether nothing is out and nothing waits on these links.
+/// Whether no turn is out and no signal waits on these links.
 fn are_at_rest(books: &[Book]) -> bool {
     for book in books {
         let state = book.state();
@@ -191,7 +191,7 @@ fn are_at_rest(books: &[Book]) -> bool {
     true
 }
 
-/// Has one worker serve links. The links, and whether they are at rest behind an offer that was accepted last.
+/// One worker serves links. Returns them, and whether they are at rest after a last accepted offer.
 fn served_last<R: Threads + Wait + Sync>(
     rt: &R,
     alloc: Global,
@@ -212,7 +212,7 @@ fn served_last<R: Threads + Wait + Sync>(
     }
 }
 
-/// How often links came to rest behind such a client, of so many times.
+/// How often, of `times`, the links came to rest after such a client.
 fn rested<R: Threads + Wait + Sync>(rt: &R, alloc: Global, times: u32) -> Option<u32> {
     let mut books = links_of(alloc, PICKY, LINKS, Limits::new(16, 16, 4_096)?)?;
     let mut count = 0u32;
@@ -224,8 +224,8 @@ fn rested<R: Threads + Wait + Sync>(rt: &R, alloc: Global, times: u32) -> Option
     Some(count)
 }
 
-/// A worker that goes round with nothing to do, asks behind that whether the pool is closing, and then ends would leave some of what was offered
-/// meanwhile.
+/// A worker could find nothing to do, then check whether the pool is closing, and then end. It would leave signals that
+/// were offered meanwhile.
 #[test]
 fn what_is_offered_last_is_taken(rt: HostRuntime) {
     assert_eq!(rt; rested(&rt, rt.alloc(), SERVED), Some(SERVED));

@@ -1,4 +1,4 @@
-//! Whole texts, from their bytes to their draft.
+//! Tests of whole texts, from their bytes to their draft.
 use crate::texts::{COUNTER, read};
 use sdl_ast::Block;
 use sdl_compile::compile;
@@ -35,7 +35,7 @@ fn draft_of(alloc: Global, text: &str) -> Option<Draft> {
     compiled(alloc, &read(alloc, text)?)
 }
 
-/// Whether the one signal is Up, with an Integer.
+/// Whether the only signal is Up, with an Integer.
 fn has_up(draft: &Draft) -> bool {
     match draft.signals.as_slice() {
         [signal] => {
@@ -46,7 +46,7 @@ fn has_up(draft: &Draft) -> bool {
     }
 }
 
-/// Whether the one route has signal 0 alone, from the environment to process 0.
+/// Whether the only route has only signal 0, from the environment to process 0.
 fn has_way_in(draft: &Draft) -> bool {
     match draft.routes.as_slice() {
         [route] => {
@@ -58,7 +58,7 @@ fn has_way_in(draft: &Draft) -> bool {
     }
 }
 
-/// Whether the process is P, and its variables are n and total.
+/// Whether the process is P, with the variables n and total.
 fn is_counter(process: &DraftProcess) -> bool {
     match process.variables.as_slice() {
         [n, total] => {
@@ -70,7 +70,7 @@ fn is_counter(process: &DraftProcess) -> bool {
     }
 }
 
-/// Whether a piece needs so many instructions, operands and effects.
+/// Whether the certificate of a piece has this budget, depth and number of effects.
 fn needs(piece: &DraftPiece, budget: u32, depth: u32, effects: u32) -> bool {
     let wanted = Cert {
         budget,
@@ -85,7 +85,7 @@ fn first_input(state: &DraftState) -> Option<&DraftInput> {
     state.inputs.as_slice().first()
 }
 
-/// Whether the first input of a state waits for that and has this code.
+/// Whether the first input of a state has this trigger and this code.
 fn waits_for(state: &DraftState, trigger: Trigger, code: &[Instruction]) -> bool {
     match first_input(state) {
         Some(input) => input.trigger == trigger && input.piece.code.as_slice() == code,
@@ -103,7 +103,7 @@ const ADDS: [Instruction; 7] = [
     Instruction::Next(StateNumber(0)),
 ];
 
-/// Whether the first state is Run, and its first input is the counter's, with its certificate.
+/// Whether the first state is Run, and its first input has the counter's code and certificate.
 fn runs(process: &DraftProcess) -> [bool; 3] {
     match process.states.as_slice().first() {
         Some(state) => [
@@ -118,7 +118,7 @@ fn runs(process: &DraftProcess) -> [bool; 3] {
     }
 }
 
-/// What is asked of the counter's draft: its signal, its route, its process, the certificate of START, and its state.
+/// Checks of the counter's draft: its signal, its route, its process, the certificate of START, and its state.
 fn counter(alloc: Global) -> Option<([bool; 4], [bool; 3])> {
     let draft = draft_of(alloc, COUNTER)?;
     match draft.processes.as_slice() {
@@ -140,7 +140,7 @@ fn the_counter_keeps_its_names_and_has_its_code(rt: HostRuntime) {
     assert_eq!(rt; counter(rt.alloc()), Some(([true; 4], [true; 3])));
 }
 
-/// Whether the one variable is late, a Boolean that begins as FALSE.
+/// Whether the only variable is late, a Boolean with the initial value FALSE.
 fn is_late(variables: &[DraftVariable]) -> bool {
     match variables {
         [late] => {
@@ -159,7 +159,7 @@ const TELLS: [Instruction; 4] = [
     Instruction::Stop,
 ];
 
-/// Whether the first state saves the first signal alone, and waits for the timer.
+/// Whether the first state saves only the first signal, and its first input is the timer.
 fn alarms(process: &DraftProcess) -> [bool; 2] {
     match process.states.as_slice().first() {
         Some(state) => [
@@ -170,7 +170,7 @@ fn alarms(process: &DraftProcess) -> [bool; 2] {
     }
 }
 
-/// What is asked of the alarm's draft: its variable, the certificate of START, and its state.
+/// Checks of the alarm's draft: its variable, the certificate of START, and its state.
 fn alarm(alloc: Global) -> Option<([bool; 2], [bool; 2])> {
     let draft = draft_of(alloc, ALARM)?;
     let process = draft.processes.as_slice().first()?;
@@ -188,7 +188,7 @@ fn the_alarm_has_its_timer_and_what_it_saves(rt: HostRuntime) {
     assert_eq!(rt; alarm(rt.alloc()), Some(([true; 2], [true; 2])));
 }
 
-/// How long the code of START is where both answers lead to one connection, and whether its certificate counts that once.
+/// The length of START's code if both answers lead to one connection, and whether its certificate counts that once.
 fn twice(alloc: Global) -> Option<(usize, bool)> {
     let draft = draft_of(alloc, TWICE)?;
     let start = &draft.processes.as_slice().first()?.start;

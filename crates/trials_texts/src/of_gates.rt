@@ -1,4 +1,4 @@
-//! When a gate is told of a turn.
+//! Tests of when a gate is notified of a turn.
 use crate::links::{ECHO, UP, links};
 use crate::of_workers::LOOKS;
 use std::alloc::Global;
@@ -9,7 +9,7 @@ use std::thread;
 use std::thread::Threads;
 use turn_pool::{Client, Gate, JobName, Pool, Seat, serve};
 
-/// A gate that holds the worker as its second turn has ended, until a client has looked.
+/// A gate that holds the worker after its second turn has ended, until a client has looked.
 #[derive(Drop)]
 struct HoldsEnded {
     left: AtomicUsize,
@@ -18,7 +18,7 @@ struct HoldsEnded {
 }
 
 impl HoldsEnded {
-    /// Whether the client comes to look.
+    /// Waits for the client to look. Whether it did.
     fn is_looked_at(&self) -> bool {
         for _ in 0..LOOKS {
             if self.looked.load(Ordering::SeqCst) {
@@ -49,7 +49,7 @@ impl Gate for HoldsEnded {
     }
 }
 
-/// A client that offers a signal, and takes what came of it while the gate holds the worker.
+/// A client that offers a signal, and takes the signal sent back while the gate holds the worker.
 #[derive(Drop)]
 struct TakesHeld<'a> {
     gate: &'a HoldsEnded,
@@ -70,7 +70,7 @@ impl Client for TakesHeld<'_> {
     }
 }
 
-/// Whether what a turn sent could be taken while the gate was being told of its end.
+/// Whether the signal that a turn sent could be taken while the gate was being notified of its end.
 fn is_taken_held<R: Threads + Wait + Sync>(rt: &R, alloc: Global) -> bool {
     let Some(books) = links(alloc, ECHO, 1, 64) else {
         return false;
@@ -95,7 +95,7 @@ fn a_gate_is_told_of_a_turn_behind_its_end_and_under_no_lock(rt: HostRuntime) {
     assert!(rt; is_taken_held(&rt, rt.alloc()));
 }
 
-/// A gate that doesn't look, and counts how often it is told of a turn.
+/// A gate that doesn't look, and counts how often it is notified of a turn.
 #[derive(Drop)]
 struct LooksAway {
     told: AtomicUsize,
@@ -119,7 +119,7 @@ impl Gate for LooksAway {
     }
 }
 
-/// A client that offers a signal, and looks until it can take what came of it.
+/// A client that offers a signal, and tries until it can take the signal sent back.
 #[derive(Drop)]
 struct TakesOne {
     taken: bool,
@@ -138,8 +138,8 @@ impl Client for TakesOne {
     }
 }
 
-/// What came of a link with a gate that doesn't look: whether the client took what a turn sent, how often the gate was told, how many turns ended, how many
-/// events the journal has and how many of them are on the worker's seat.
+/// The result of a link with a gate that doesn't look: whether the client took the signal sent back, how often the gate
+/// was notified, and how many turns ended. Then the events in the journal, and those of the worker's seat.
 fn unseen<R: Threads + Wait + Sync>(rt: &R, alloc: Global) -> Option<(bool, usize, u64, u64, u64)> {
     let books = links(alloc, ECHO, 1, 64)?;
     let gate = LooksAway {
@@ -160,7 +160,7 @@ fn unseen<R: Threads + Wait + Sync>(rt: &R, alloc: Global) -> Option<(bool, usiz
     ))
 }
 
-/// START and the turn of the one signal are four events of the worker; the offer and the take are the client's.
+/// START and the turn of the only signal are four events of the worker. The offer and the take are the client's.
 #[test]
 fn a_gate_that_does_not_look_is_told_of_no_turn(rt: HostRuntime) {
     assert_eq!(rt; unseen(&rt, rt.alloc()), Some((true, 0, 2, 6, 4)));

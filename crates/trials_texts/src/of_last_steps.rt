@@ -1,4 +1,4 @@
-//! How many steps a worker makes once its pool has closed. The first turn is held at the gate until then, so all others come behind that.
+//! The steps that a worker makes after its pool has closed. The gate holds the first turn until then.
 use crate::links::{ENDLESS, links};
 use crate::of_workers::LOOKS;
 use actor_book::Book;
@@ -14,7 +14,7 @@ use turn_pool::{Client, Gate, JobName, Pool, Seat, serve};
 const LONG: &str =
     "BLOCK B; SIGNAL Up; SIGNALROUTE r FROM P TO P WITH Up; PROCESS P (1,1); DCL n Integer := 0; START; OUTPUT Up; NEXTSTATE Run; STATE Run; INPUT Up; TASK n := n + 1; DECISION n < 900; (TRUE): OUTPUT Up; ELSE: ENDDECISION; NEXTSTATE Run; ENDSTATE Run; ENDPROCESS P; ENDBLOCK B;";
 
-/// A gate that holds the first turn until the pool is closed, and counts all.
+/// A gate that holds the first turn until the pool is closed, and counts all turns.
 #[derive(Drop)]
 struct Held {
     closed: AtomicBool,
@@ -64,7 +64,7 @@ impl Client for Shuts<'_> {
     }
 }
 
-/// How many turns one worker begins on these links, all but the first of them once the pool has closed.
+/// How many turns one worker begins on these links. All but the first begin after the pool has closed.
 fn turns_begun<R: Threads + Wait + Sync>(
     rt: &R,
     alloc: Global,
@@ -81,14 +81,14 @@ fn turns_begun<R: Threads + Wait + Sync>(
     }
 }
 
-/// START, and then 900 turns: a worker that counted a step for more than one would leave some of them.
+/// START, and then 900 turns. A worker that counted a step as more than one would leave some of them.
 #[test]
 fn a_worker_makes_900_turns_after_closing(rt: HostRuntime) {
     let books = links(rt.alloc(), LONG, 1, 65536);
     assert_eq!(rt; turns_begun(&rt, rt.alloc(), books), Some(901));
 }
 
-/// On 16 links that always have something to do it makes as many whole rounds as have 1,000 steps at most, the first one among them.
+/// On 16 links that always have work, it makes as many whole rounds as fit in 1,000 steps, including the first one.
 #[test]
 fn a_worker_makes_no_step_past_1000(rt: HostRuntime) {
     let books = links(rt.alloc(), ENDLESS, 16, 65536);

@@ -1,4 +1,4 @@
-//! What clients are answered, and what is left.
+//! Tests of the replies to clients, and of the final state.
 use crate::links::{ECHO, ECHOES, UP, links};
 use actor_book::Book;
 use pool_soak::{Open, agree};
@@ -10,11 +10,11 @@ use std::thread::Threads;
 use turn_machine::{Job, run};
 use turn_pool::{Client, Closed, Mismatch, Pool, PoolFault, PoolRefusal, Receipt, Seat, serve};
 
-/// How often a loop asks for what is to come.
+/// How often a loop polls.
 pub(crate) const ASKS: u32 = 100_000_000;
 
-/// A client that offers signals to two links in turn and takes what waits, lets ticks pass on both, keeps the receipt of each event, and then
-/// looks at what a closed pool answers.
+/// A client that offers signals to two links alternately, takes signals, and lets ticks pass on both. It keeps the
+/// receipt of each event, and then records the replies of a closed pool.
 #[derive(Drop)]
 struct Offers {
     receipts: Vec<Receipt>,
@@ -31,7 +31,7 @@ impl Offers {
         let _kept = self.receipts.push(receipt);
     }
 
-    /// Offers a link a signal, and takes what waits for the environment.
+    /// Offers a link a signal, and takes a signal for the environment.
     fn asks<R: Wait, L: Ledger>(&mut self, pool: &Pool<'_, R, L>, seat: &mut Seat<L>, link: usize) {
         if let Ok(receipt) = pool.offer(link, 0, UP, &[], seat) {
             self.offered = self.offered.saturating_add(1);
@@ -43,7 +43,7 @@ impl Offers {
         }
     }
 
-    /// Lets ticks pass on a link. How many timers were due.
+    /// Lets ticks pass on a link. Returns how many timers were due.
     fn waits<R: Wait, L: Ledger>(
         &mut self,
         pool: &Pool<'_, R, L>,
@@ -60,7 +60,7 @@ impl Offers {
         }
     }
 
-    /// Whether it was answered as it should be.
+    /// Whether all replies were correct.
     fn is_answered(&self) -> [bool; 5] {
         [
             self.offered >= 20,
@@ -71,7 +71,7 @@ impl Offers {
         ]
     }
 
-    /// Whether the audit names the last receipt once its place is raised by one, also where it alone is asked for.
+    /// Whether the audit names the last receipt once its place is raised by one, also if only that receipt is audited.
     fn is_found_raised(&mut self, closed: &Closed) -> bool {
         let position = self.receipts.len().saturating_sub(1);
         match self.receipts.last_mut() {
@@ -104,7 +104,7 @@ impl Client for Offers {
     }
 }
 
-/// Whether the places of the receipts of each link rise.
+/// Whether the places of the receipts of a link increase.
 pub(crate) fn rise(receipts: &[Receipt], link: usize) -> bool {
     let mut last = None;
     for receipt in receipts {
@@ -123,8 +123,8 @@ fn clock_of(books: &[Book], link: usize) -> Option<u64> {
     books.get(link).map(Book::clock)
 }
 
-/// Whether what is left agrees with a client's receipts: the seats with the journals, the client's with the receipts, the clocks with its
-/// ticks, the places that rise, the audit, and the audit of a receipt that is wrong.
+/// Whether the final state agrees with a client's receipts: seats and journals, the client's count and receipts, clocks
+/// and ticks, increasing places, the audit, and the audit of a wrong receipt.
 fn is_left(client: &mut Offers, closed: &Closed) -> [bool; 6] {
     [
         agree(closed),
@@ -136,7 +136,7 @@ fn is_left(client: &mut Offers, closed: &Closed) -> [bool; 6] {
     ]
 }
 
-/// What a client of two links was answered, and what was left.
+/// The replies to a client of two links, and the final state.
 fn offered<R: Threads + Wait + Sync>(rt: &R, alloc: Global) -> Option<([bool; 5], [bool; 6])> {
     let books = links(alloc, ECHOES, 2, 4096)?;
     let mut client = Offers {
@@ -168,8 +168,8 @@ impl Client for Idle {
     fn drive<R: Wait, L: Ledger>(&mut self, _pool: &Pool<'_, R, L>, _seat: &mut Seat<L>) {}
 }
 
-/// What comes of serving so many links by so many workers: 1 where they are served and the seats agree, 2 where they come back for
-/// want of memory, 3 where they come back since nobody works. Books that come back are new. 0 where anything else happens.
+/// The result of serving links by `workers` workers: 1 if they are served and the seats agree; 2 if the books come back
+/// because memory ran out; 3 if they come back because there are no workers; otherwise 0. Returned books must be new.
 fn answer<R: Threads + Wait + Sync>(rt: &R, alloc: Global, books: Vec<Book>, workers: usize) -> u8 {
     let count = books.len();
     match serve(rt, alloc, books, workers, &Open, &mut Idle) {
@@ -180,7 +180,7 @@ fn answer<R: Threads + Wait + Sync>(rt: &R, alloc: Global, books: Vec<Book>, wor
     }
 }
 
-/// Whether these are so many books, and nothing has happened on them.
+/// Whether there are `count` books, and nothing has happened on them.
 fn are_new(books: &[Book], count: usize) -> bool {
     for book in books {
         if book.next() != 0 {
@@ -190,7 +190,7 @@ fn are_new(books: &[Book], count: usize) -> bool {
     books.len() == count
 }
 
-/// The same of new links; 0 where they can't be made.
+/// As `answer`, for new links; 0 if they can't be opened.
 fn answer_of<R: Threads + Wait + Sync>(rt: &R, alloc: Global, count: usize, workers: usize) -> u8 {
     match links(alloc, ECHO, count, 16) {
         Some(books) => answer(rt, alloc, books, workers),
@@ -209,7 +209,7 @@ fn nobody_is_served_by_too_few_or_too_many(rt: HostRuntime) {
     assert_eq!(rt; answers, [3, 3, 3, 1]);
 }
 
-/// Holds whichever request for memory is refused: of two threads one can be started then.
+/// Holds whichever allocation fails. Then one of two threads may have been started.
 #[test]
 fn want_of_memory_hands_the_books_back(rt: HostRuntime) {
     if let Some(books) = links(rt.alloc(), ECHO, 2, 16) {
@@ -227,21 +227,21 @@ fn want_of_threads_hands_the_books_back(rt: HostRuntime) {
     }
 }
 
-/// A link of which a turn is out, and that turn.
+/// A link with a turn out, and that turn.
 fn begun(alloc: Global) -> Option<(Vec<Book>, Job)> {
     let mut books = links(alloc, ECHO, 1, 64)?;
     let job = books.get_mut(0)?.begin(0).ok()?;
     Some((books, job))
 }
 
-/// Whether one turn is out on the first link, and this one can be ended.
+/// Whether one turn is out on the first link, and this job can be ended.
 fn can_be_ended(closed: &mut Closed, job: Job) -> Option<bool> {
     let book = closed.books.get_mut(0)?;
     let outs = book.state().outs();
     Some(outs == 1 && book.finish(run(job)).is_ok())
 }
 
-/// Whether a turn that was out as a pool began is out at its end, and can be ended then.
+/// Whether a turn that was out when a pool began is out at its end, and can be ended then.
 fn is_out_still<R: Threads + Wait + Sync>(rt: &R, alloc: Global) -> Option<bool> {
     let (books, job) = begun(alloc)?;
     match serve(rt, alloc, books, 1, &Open, &mut Idle) {

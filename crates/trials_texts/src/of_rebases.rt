@@ -1,4 +1,4 @@
-//! Clients that make room in journals.
+//! Tests of clients that make room in journals.
 use crate::links::{ECHO, UP, links};
 use crate::of_pools::ASKS;
 use actor_book::{Book, Refusal};
@@ -10,7 +10,7 @@ use std::thread;
 use std::thread::Threads;
 use turn_pool::{Client, Pool, PoolRefusal, Seat, serve};
 
-/// A client that offers and takes on a journal that is soon full, and makes room in it, a hundred times each.
+/// A client with a journal that is soon full. It offers, takes and makes room in the journal a hundred times each.
 #[derive(Drop)]
 struct Rebases {
     rebases: u32,
@@ -21,7 +21,7 @@ struct Rebases {
 }
 
 impl Rebases {
-    /// Offers a signal, and keeps the place that it got. Why it is refused, if it is.
+    /// Offers a signal, and keeps the place that it got. Returns why it is refused, if it is.
     fn offers<R: Wait, L: Ledger>(
         &mut self,
         pool: &Pool<'_, R, L>,
@@ -36,7 +36,7 @@ impl Rebases {
         }
     }
 
-    /// Takes what waits for the environment. Why that is refused, if it is.
+    /// Takes a signal for the environment. Returns why that is refused, if it is.
     fn takes<R: Wait, L: Ledger>(
         &mut self,
         pool: &Pool<'_, R, L>,
@@ -49,7 +49,7 @@ impl Rebases {
         refusal
     }
 
-    /// Offers and takes. Where neither goes time passes, so that what is left of the journal is used up. Whether it is full.
+    /// Offers and takes. If both are refused, a tick uses up the journal. Returns whether it is full.
     fn fills<R: Wait, L: Ledger>(&mut self, pool: &Pool<'_, R, L>, seat: &mut Seat<L>) -> bool {
         let full = Some(PoolRefusal::Refused(Refusal::JournalFull));
         let offered = self.offers(pool, seat);
@@ -60,7 +60,7 @@ impl Rebases {
         offered == full || taken == full || pool.advance(0, 1, seat).err() == full
     }
 
-    /// Makes room.
+    /// Rebases the journal to make room.
     fn rebases<R: Wait, L: Ledger>(&mut self, pool: &Pool<'_, R, L>, seat: &mut Seat<L>) {
         match pool.rebase(0, seat) {
             Ok(place) => {
@@ -73,7 +73,7 @@ impl Rebases {
         }
     }
 
-    /// Whether it came to a hundred of each, no rebase was refused, and the next place was behind each event's.
+    /// Whether there were a hundred of each, no rebase was refused, and each next place was after the last event.
     fn is_done(&self) -> bool {
         self.rebases >= 100 && self.taken >= 100 && self.refused == 0 && self.fallen == 0
     }
@@ -93,7 +93,7 @@ impl Client for Rebases {
     }
 }
 
-/// Whether on each link START and a turn for each of a hundred signals have ended, and its journal was full a hundred times.
+/// Whether on each link START and the turns of a hundred signals have ended, and the journal was full a hundred times.
 fn have_worked(books: &[Book]) -> bool {
     for book in books {
         if book.finishes() < 101 || book.next() < 1500 {
@@ -103,7 +103,7 @@ fn have_worked(books: &[Book]) -> bool {
     true
 }
 
-/// Whether a client with a short journal did what it wanted, workers came back to it, and the seats agree.
+/// Whether a client with a short journal succeeded, the workers returned to the link, and the seats agree.
 fn rebased<R: Threads + Wait + Sync>(rt: &R, alloc: Global) -> Option<[bool; 3]> {
     let books = links(alloc, ECHO, 1, 16)?;
     let mut client = Rebases {
@@ -124,7 +124,7 @@ fn workers_come_back_to_a_journal_that_was_full(rt: HostRuntime) {
     assert_eq!(rt; rebased(&rt, rt.alloc()), Some([true; 3]));
 }
 
-/// A client that lets a tick pass on each of two links, and makes the state of the second its base.
+/// A client that lets a tick pass on each of two links, and rebases the second.
 #[derive(Drop)]
 struct RebasesSecond {
     ticked: bool,
@@ -143,7 +143,7 @@ fn first_of(books: &[Book], link: usize) -> Option<u64> {
     books.get(link).map(Book::first)
 }
 
-/// Whether the first of two links has its whole journal still, and that of the second begins, behind its tick, where the client was told.
+/// Whether link 0 has its whole journal, and that of link 1 begins after its tick, at the place that `rebase` returned.
 fn second_rebased<R: Threads + Wait + Sync>(rt: &R, alloc: Global) -> Option<[bool; 3]> {
     let books = links(alloc, ECHO, 2, 64)?;
     let mut client = RebasesSecond {

@@ -1,4 +1,4 @@
-//! What a pool refuses, and by which name.
+//! Tests of what a pool refuses, and with which refusal.
 use crate::links::links;
 use actor_book::Refusal;
 use pool_soak::{Open, agree};
@@ -10,7 +10,7 @@ use std::thread::Threads;
 use turn_code::{SignalNumber, Value};
 use turn_pool::{Client, Pool, PoolRefusal, Seat, serve};
 
-/// Two processes: one that saves each Keep and sends a Pong for each Ping, and one that stops at once.
+/// Two processes. One saves each Keep and sends a Pong for each Ping. The other stops at once.
 const TEXT: &str =
     "BLOCK B; SIGNAL Keep, Ping, Pong; SIGNALROUTE i FROM ENV TO P WITH Keep, Ping; SIGNALROUTE o FROM P TO ENV WITH Pong; SIGNALROUTE z FROM ENV TO Z WITH Keep; PROCESS P; START; NEXTSTATE Run; STATE Run; SAVE Keep; INPUT Ping; OUTPUT Pong; NEXTSTATE Run; ENDPROCESS; PROCESS Z; START; STOP; ENDPROCESS; ENDBLOCK;";
 
@@ -18,22 +18,22 @@ const KEEP: SignalNumber = SignalNumber(0);
 
 const PONG: SignalNumber = SignalNumber(2);
 
-/// What a client asks of a pool.
+/// A call that a client makes to a pool.
 #[derive(Clone, Copy)]
 enum Call {
-    /// A link and an actor are offered a signal with these values.
+    /// Offers a signal with these values to an actor of a link.
     Offer(usize, u16, SignalNumber, &'static [Value]),
-    /// So many ticks pass on a link.
+    /// Lets this many ticks pass on a link.
     Advance(usize, u64),
-    /// What waits longest for the environment of a link is taken.
+    /// Takes the signal that has waited longest for the environment of a link.
     TakeEnv(usize),
-    /// A link's state becomes its base.
+    /// Rebases a link.
     Rebase(usize),
-    /// The pool closes.
+    /// Closes the pool.
     Close,
 }
 
-/// What is asked, why it is refused, if it is, and how often that is asked at most, where workers have to do something first.
+/// A call, why it is refused, if it is, and how often it is made at most, if workers have to act first.
 #[derive(Clone, Copy)]
 struct Row(Call, Option<PoolRefusal>, u32);
 
@@ -87,13 +87,13 @@ const ROWS: [Row; 24] = [
     Row(Call::Rebase(2), NO_LINK, 1),
 ];
 
-/// A client that asks what the rows say, until one is answered otherwise.
+/// A client that makes the calls of the rows until one has another reply.
 #[derive(Drop)]
 struct Asks {
     other: Option<usize>,
 }
 
-/// Why a call is refused, if it is.
+/// Makes a call. Returns why it is refused, if it is.
 fn answer<R: Wait, L: Ledger>(
     pool: &Pool<'_, R, L>,
     seat: &mut Seat<L>,
@@ -113,7 +113,7 @@ fn answer<R: Wait, L: Ledger>(
     }
 }
 
-/// Whether what a row asks is answered as it says.
+/// Whether a call has the expected reply.
 fn is_answered<R: Wait, L: Ledger>(
     pool: &Pool<'_, R, L>,
     seat: &mut Seat<L>,
@@ -142,7 +142,7 @@ impl Client for Asks {
     }
 }
 
-/// The number of the first row that is answered otherwise, and whether the seats agree.
+/// The number of the first row with another reply, and whether the seats agree.
 fn first_other<R: Threads + Wait + Sync>(rt: &R, alloc: Global) -> Option<(Option<usize>, bool)> {
     let books = links(alloc, TEXT, 2, 16)?;
     let mut client = Asks { other: None };

@@ -1,23 +1,23 @@
-//! What is refused of rooms, by name.
+//! Tests of what rooms refuse, and with which refusal.
 use crate::links::{ECHOES, links};
 use actor_book::Book;
 use std::alloc::Global;
 use turn_machine::Room;
 
-/// What is done with a room.
+/// An action on a room.
 #[derive(Clone, Copy)]
 enum Act {
-    /// An actor of a link begins a turn into it.
+    /// An actor of a link begins a turn into the room.
     Begin(usize, u16),
     /// An actor of a link begins a turn whose job is lost.
     Lose(usize, u16),
-    /// What lies there runs.
+    /// The turn in the room runs.
     Run,
-    /// What ran there ends on a link.
+    /// The turn that ran in the room ends on a link.
     Finish(usize),
 }
 
-/// What is done with a room, what is answered, and how many events the journals of the two links have then.
+/// An action on a room, the reply, and how many events the journals of the two links have then.
 #[derive(Clone, Copy)]
 struct Step {
     act: Act,
@@ -25,9 +25,9 @@ struct Step {
     events: [u64; 2],
 }
 
-/// Two links of one text with two actors each, at their beginning, and one room.
+/// Two new links of one text with two actors each, and one room.
 const STEPS: [Step; 19] = [
-    // nothing lies there
+    // the room is empty
     Step {
         act: Act::Run,
         answer: "ok",
@@ -38,7 +38,7 @@ const STEPS: [Step; 19] = [
         answer: "B6 Stranger",
         events: [0, 0],
     },
-    // the room keeps its turn until that has ended, on the link and for the actor whose it is
+    // the room keeps its turn until it has ended on its own link, for its own actor
     Step {
         act: Act::Begin(0, 0),
         answer: "ok",
@@ -90,7 +90,7 @@ const STEPS: [Step; 19] = [
         answer: "B6 Stranger",
         events: [2, 0],
     },
-    // what the book refuses leaves the room free
+    // a turn that the book refuses leaves the room free
     Step {
         act: Act::Begin(0, 0),
         answer: "B5 Nothing",
@@ -101,7 +101,7 @@ const STEPS: [Step; 19] = [
         answer: "B10 NoActor",
         events: [2, 0],
     },
-    // the second turn of one link is none of the other, where it would be the first
+    // the second turn of one link isn't a turn of the other link, where it would be the first
     Step {
         act: Act::Begin(0, 1),
         answer: "ok",
@@ -129,7 +129,7 @@ const STEPS: [Step; 19] = [
     },
 ];
 
-/// The same. Both have their first turn out, the same actor's on the same input: which of them lies in the room nothing tells.
+/// Two new links. Both have their first turn out, of the same actor on the same input, so the two can't be told apart.
 const EQUAL: [Step; 7] = [
     Step {
         act: Act::Begin(0, 0),
@@ -151,7 +151,7 @@ const EQUAL: [Step; 7] = [
         answer: "ok",
         events: [1, 2],
     },
-    // it ended, so it lies nowhere, and the other link's actor has it out
+    // the turn ended, so the room is empty, and the turn of the other link's actor is still out
     Step {
         act: Act::Finish(0),
         answer: "B6 Stranger",
@@ -169,7 +169,7 @@ const EQUAL: [Step; 7] = [
     },
 ];
 
-/// What is answered as an actor of a book begins a turn whose job is lost.
+/// The reply when an actor of a book begins a turn whose job is lost.
 fn lost(book: &mut Book, actor: u16) -> &'static str {
     match book.begin(actor) {
         Ok(_) => "ok",
@@ -177,7 +177,7 @@ fn lost(book: &mut Book, actor: u16) -> &'static str {
     }
 }
 
-/// What is answered as an actor of a book begins a turn into a room.
+/// The reply when an actor of a book begins a turn into a room.
 fn begun(book: &mut Book, room: &mut Room, actor: u16) -> &'static str {
     match book.begin_in(room, actor) {
         Ok(_) => "ok",
@@ -185,7 +185,7 @@ fn begun(book: &mut Book, room: &mut Room, actor: u16) -> &'static str {
     }
 }
 
-/// What is answered as what ran in a room ends on a book.
+/// The reply when the turn that ran in a room ends on a book.
 fn finished(book: &mut Book, room: &mut Room) -> &'static str {
     match book.finish_in(room) {
         Ok(_) => "ok",
@@ -193,7 +193,7 @@ fn finished(book: &mut Book, room: &mut Room) -> &'static str {
     }
 }
 
-/// What is answered.
+/// The reply to an action.
 fn answer(books: &mut [Book], room: &mut Room, act: Act) -> &'static str {
     match act {
         Act::Begin(link, actor) => match books.get_mut(link) {
@@ -215,7 +215,7 @@ fn answer(books: &mut [Book], room: &mut Room, act: Act) -> &'static str {
     }
 }
 
-/// Whether the journals of two links have so many events.
+/// Whether the journals of two links have these numbers of events.
 fn have(books: &[Book], events: [u64; 2]) -> bool {
     match books {
         [one, other] => one.next() == events[0] && other.next() == events[1],
@@ -223,7 +223,7 @@ fn have(books: &[Book], events: [u64; 2]) -> bool {
     }
 }
 
-/// The number of the first step with which something else comes.
+/// The number of the first step with another result.
 fn first_other(books: &mut [Book], steps: &[Step]) -> Option<usize> {
     let mut room = Room::new();
     for (number, step) in steps.iter().enumerate() {
@@ -235,7 +235,7 @@ fn first_other(books: &mut [Book], steps: &[Step]) -> Option<usize> {
     None
 }
 
-/// The same on new links; a number that no step has where there is no memory.
+/// As `first_other`, on new links; a number that no step has if memory runs out.
 fn first_other_of(alloc: Global, steps: &[Step]) -> Option<usize> {
     match links(alloc, ECHOES, 2, 64) {
         Some(mut books) => first_other(books.as_mut_slice(), steps),

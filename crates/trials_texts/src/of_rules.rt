@@ -1,10 +1,10 @@
-//! What `resolve` gives: the places of refusals, as bytes of the text, and the variables that are set in a state. The gate has a larger
-//! table of texts with the lines that are printed for them (examples/refusals.txt).
+//! Tests of `resolve`: the places of refusals, as bytes of the text, and the variables that are set in a state. A
+//! larger table of texts with the lines printed for them is in examples/refusals.txt.
 use crate::texts::read;
 use sdl_rules::resolve;
 use std::alloc::Global;
 
-/// The refusal of a text, as it is printed and as `Debug` shows it with its place, where it has one.
+/// The refusal of a text, as printed and as `Debug` shows it with its place, if it has one.
 fn refusal(alloc: Global, text: &str) -> Option<String> {
     let block = read(alloc, text)?;
     match resolve(alloc, &block) {
@@ -13,7 +13,7 @@ fn refusal(alloc: Global, text: &str) -> Option<String> {
     }
 }
 
-/// One text for each rule, with the byte of its place where it has one.
+/// One text for each rule, with the byte of its place if it has one.
 const RULES: [(&str, &str); 11] = [
     (
         "BLOCK B; SIGNAL Up, uP; ENDBLOCK;",
@@ -61,7 +61,7 @@ const RULES: [(&str, &str); 11] = [
     ),
 ];
 
-/// Whether a text is refused so.
+/// Whether a text has this refusal.
 fn is_refused(alloc: Global, text: &str, wanted: &str) -> bool {
     match refusal(alloc, text) {
         Some(found) => found.as_str() == wanted,
@@ -69,7 +69,7 @@ fn is_refused(alloc: Global, text: &str, wanted: &str) -> bool {
     }
 }
 
-/// The number of the first row that isn't refused so.
+/// The number of the first row with another refusal.
 fn first_other(alloc: Global, rows: &[(&str, &str)]) -> Option<usize> {
     for (number, (text, wanted)) in rows.iter().enumerate() {
         if !is_refused(alloc, text, wanted) {
@@ -84,7 +84,7 @@ fn each_rule_names_its_place(rt: HostRuntime) {
     assert_eq!(rt; first_other(rt.alloc(), &RULES), None);
 }
 
-/// Whether those are the sets of the states of the first process, and how many routes there are.
+/// Whether the states of the first process have these sets, and how many routes there are.
 fn has_sets(alloc: Global, text: &str, wanted: &[u32]) -> Option<(bool, usize)> {
     let block = read(alloc, text)?;
     let resolved = resolve(alloc, &block).ok()?;
@@ -98,7 +98,7 @@ fn has_sets(alloc: Global, text: &str, wanted: &[u32]) -> Option<(bool, usize)> 
 const COUNTER: &str =
     "BLOCK B; SIGNAL Up(Integer); PROCESS P; DCL n, total Integer; START; TASK total := 0; NEXTSTATE Run; STATE Run; INPUT Up(n); TASK total := total + n; NEXTSTATE Run; ENDSTATE; ENDPROCESS; ENDBLOCK;";
 
-/// Each way to S sets x, b and m.
+/// Each path to S sets x, b and m.
 const WAYS: &str =
     "BLOCK B; SIGNAL A; PROCESS P; DCL x Integer := 0, b Boolean := TRUE, n, m, k Integer; START; DECISION x; (0): TASK n := 1, m := 1; NEXTSTATE S; ELSE: JOIN c; ENDDECISION; STATE S; INPUT A; STOP; ENDSTATE; CONNECTION c: TASK m := 2; NEXTSTATE S; ENDCONNECTION; ENDPROCESS; ENDBLOCK;";
 

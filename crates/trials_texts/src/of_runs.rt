@@ -1,22 +1,22 @@
-//! Texts that are loaded, and turns of them: what they send, where they end, and how many instructions they take.
+//! Tests of turns of loaded texts: the signals that they send, where they end, and how many instructions they run.
 use arrayvec::ArrayVec;
 use mtp2_text::{Verified, load};
 use std::alloc::Global;
 use turn_code::{Address, Effect, End, Party, Place, ProcessNumber, StateNumber, Value};
 use turn_machine::{Done, Job, Received, fits, run};
 
-/// A sender of two numbers: a sum that wraps, and a remainder that isn't below 0.
+/// A process that sends two numbers: a sum that wraps, and a remainder that isn't negative.
 const NUMBERS: &str = "BLOCK B; SIGNAL N(Integer); SIGNALROUTE r FROM Z TO ENV WITH N;
 PROCESS Z; DCL x Integer; START; TASK x := 2147483647 + 1; OUTPUT N(x); TASK x := -1 MOD 128; OUTPUT N(x); STOP;
 ENDPROCESS; ENDBLOCK;";
 
-/// A choice between values, a relation and ELSE.
+/// A DECISION with values, a relation and ELSE.
 const CHOICE: &str = "BLOCK B; SIGNAL A; SIGNALROUTE r FROM ENV TO P WITH A;
 PROCESS P; DCL x Integer := 0; START; NEXTSTATE W;
 STATE W; INPUT A; DECISION x; (1, 2): TASK x := 5; (> 9): STOP; ELSE: ENDDECISION; NEXTSTATE W;
 ENDPROCESS; ENDBLOCK;";
 
-/// The one instance of a Boolean question, with an answer that joins a connection through another.
+/// A Boolean DECISION, with an answer that joins a connection through another.
 const SWITCH: &str = "BLOCK B; SIGNAL A(Boolean); SIGNALROUTE r FROM ENV TO P WITH A;
 PROCESS P; DCL b Boolean := FALSE, n Integer := 0; START; NEXTSTATE W;
 STATE W; INPUT A(b); DECISION b; (FALSE): TASK n := n - 1; (TRUE): JOIN up; ENDDECISION; NEXTSTATE W;
@@ -28,7 +28,7 @@ const WAITING: Place = Place::State(StateNumber(0));
 
 const WAITS: End = End::State(StateNumber(0));
 
-/// A place, and what goes into its first input: the variables, a parameter or none, and who sent it.
+/// A place, and the input for its first transition: the variables, a parameter or none, and the sender.
 #[derive(Clone, Copy)]
 struct Given(
     Place,
@@ -37,11 +37,11 @@ struct Given(
     Option<Address>,
 );
 
-/// What a turn gives: its end, its count of instructions, and the variables then.
+/// The result of a turn: its end, its number of instructions, and the variables after it.
 #[derive(Clone, Copy)]
 struct Turn(End, u32, &'static [Option<Value>]);
 
-/// Turns of [`CHOICE`]: what becomes of x, and how many instructions it takes.
+/// Turns of [`CHOICE`]: the resulting value of x, and the number of instructions.
 const CHOICES: [(Given, Turn); 4] = [
     (
         Given(WAITING, &[Some(Value::Int(1))], None, OUTSIDE),
@@ -107,7 +107,7 @@ fn received(parameter: Option<Value>, sender: Option<Address>) -> Received {
     Received { parameters, sender }
 }
 
-/// Runs the first input of a place, where all that fits.
+/// Runs the first input of a place, if the input fits.
 fn ran(set: &Verified, given: Given) -> Option<Done> {
     let variables = variables(given.1);
     let received = received(given.2, given.3);
@@ -118,7 +118,7 @@ fn ran(set: &Verified, given: Given) -> Option<Done> {
     }
 }
 
-/// Whether a turn gives that.
+/// Whether a turn has this result.
 fn gives(set: &Verified, given: Given, turn: Turn) -> bool {
     match ran(set, given) {
         Some(done) => done.end() == turn.0 && done.count() == turn.1 && done.variables() == turn.2,
@@ -126,7 +126,7 @@ fn gives(set: &Verified, given: Given, turn: Turn) -> bool {
     }
 }
 
-/// The number of the first turn of a set that gives something else.
+/// The number of the first turn of a set with another result.
 fn first_other(set: &Verified, turns: &[(Given, Turn)]) -> Option<usize> {
     for (number, (given, turn)) in turns.iter().enumerate() {
         if !gives(set, *given, *turn) {
@@ -136,7 +136,7 @@ fn first_other(set: &Verified, turns: &[(Given, Turn)]) -> Option<usize> {
     None
 }
 
-/// The same of a text; nothing where it isn't accepted.
+/// As `first_other`, for a text; `None` if it isn't accepted.
 fn first_other_of(alloc: Global, text: &str, turns: &[(Given, Turn)]) -> Option<Option<usize>> {
     let set = loaded(alloc, text)?;
     Some(first_other(&set, turns))
@@ -152,7 +152,7 @@ fn each_truth_value_has_its_answer(rt: HostRuntime) {
     assert_eq!(rt; first_other_of(rt.alloc(), SWITCH, &SWITCHES), Some(None));
 }
 
-/// The first value of what goes out as an effect.
+/// The first value of the output at this index among the effects.
 fn sent(done: &Done, place: usize) -> Option<Value> {
     match done.effects().get(place)? {
         Effect::Output(sending) => sending.parameters.as_slice().first().copied(),
@@ -160,7 +160,7 @@ fn sent(done: &Done, place: usize) -> Option<Value> {
     }
 }
 
-/// The end of START, its count of instructions, how many effects it has, and what the first two send.
+/// The end of START, its number of instructions and of effects, and the values that the first two send.
 fn numbers(alloc: Global) -> Option<(End, u32, usize, [Option<Value>; 2])> {
     let set = loaded(alloc, NUMBERS)?;
     let done = ran(&set, Given(Place::Start, &[None], None, None))?;

@@ -1,4 +1,4 @@
-//! The command `soak`, and the program's own sets at work in a pool.
+//! Tests of the command `soak`, and of the program's own sets in a pool.
 use crate::of_pools::rise;
 use actor_book::{Book, Event, Limits, Refusal, Standing};
 use mtp2_text::{monitors, standard};
@@ -12,10 +12,10 @@ use turn_check::Verified;
 use turn_code::{Place, ProcessNumber, SignalNumber, Value};
 use turn_pool::{Client, Closed, Pool, Receipt, Seat, serve};
 
-/// What is printed where all agrees.
+/// The text printed if all agrees.
 const AGREES: &[u8] = b"seats agree\naudit yes\n";
 
-/// A script, a number of workers, the exit status, and what is printed.
+/// A script, a number of workers, the exit status, and the text printed.
 const ROWS: [(&[u8], usize, u8, &[u8]); 15] = [
     (
         b"links 2\noffer LSC PowerOn\non 1\noffer LSC PowerOn\n",
@@ -74,7 +74,7 @@ const ROWS: [(&[u8], usize, u8, &[u8]); 15] = [
     (b"links 1\n", 17, 4, b""),
 ];
 
-/// Whether `soak` ends and prints as a row says.
+/// Whether `soak` has the exit status and the output of a row.
 fn is_as_wanted<R: Threads + Wait + Sync>(
     rt: &R,
     alloc: Global,
@@ -85,7 +85,7 @@ fn is_as_wanted<R: Threads + Wait + Sync>(
     status == row.2 && paper.as_slice() == row.3
 }
 
-/// The number of the first row of which something else comes.
+/// The number of the first row with another result.
 fn first_other<R: Threads + Wait + Sync>(
     rt: &R,
     alloc: Global,
@@ -104,13 +104,13 @@ fn soak_prints_what_it_finds(rt: HostRuntime) {
     assert_eq!(rt; first_other(&rt, rt.alloc(), &ROWS), None);
 }
 
-/// Two links, an offer on each, and on the second 5 ticks and an offer with a value; among them what is refused: an offer and ticks on
-/// a link that there isn't, the one behind the last among them, offers to a process and of a signal that there aren't, too many ticks, and a value
-/// too many.
+/// Two links, an offer on each, and on the second 5 ticks and an offer with a value. Refused lines are among them: an
+/// offer and ticks on links that don't exist, the first number past the last among them, offers to unknown processes
+/// and of an unknown signal, too many ticks, and one value too many.
 const BOTH: &str =
     "links 2\noffer LSC PowerOn\non 9\noffer LSC PowerOn\ntick 1\non 2\ntick 1\non 16\ntick 1\non 1\noffer Nobody PowerOn\noffer LSC.2 PowerOn\noffer LSC. PowerOn\noffer LSC Nothing\ntick 65536\noffer lsc.01 PowerOn\ntick 5\noffer TXC AckSeen true true\noffer TXC AckSeen true\n";
 
-/// What a value stands for in a row: 9 for none.
+/// The code of a value in a row: 9 for none.
 fn value_told(value: Option<&Value>) -> u64 {
     match value {
         None => 9,
@@ -119,7 +119,7 @@ fn value_told(value: Option<&Value>) -> u64 {
     }
 }
 
-/// The link of a receipt, and the actor, the signal and its first value, or the ticks and nothing.
+/// The link of a receipt, with the actor, the signal and its first value, or with the ticks.
 fn told(receipt: &Receipt) -> [u64; 4] {
     match &receipt.event {
         Event::Offer(offer) => [
@@ -133,7 +133,7 @@ fn told(receipt: &Receipt) -> [u64; 4] {
     }
 }
 
-/// How many receipts a script's client has on two links of a set, and whether they are these.
+/// Whether a script's client has exactly these receipts.
 fn are_these(receipts: &[Receipt], wanted: &[[u64; 4]]) -> bool {
     for (number, receipt) in receipts.iter().enumerate() {
         if wanted.get(number) != Some(&told(receipt)) {
@@ -143,7 +143,7 @@ fn are_these(receipts: &[Receipt], wanted: &[[u64; 4]]) -> bool {
     receipts.len() == wanted.len()
 }
 
-/// Whether `soak` has these receipts for what a script does on two links, their places rising on each.
+/// Whether `soak` has these receipts for a script on two links, with increasing places on each.
 fn has_receipts<R: Threads + Wait + Sync>(
     rt: &R,
     alloc: Global,
@@ -154,11 +154,11 @@ fn has_receipts<R: Threads + Wait + Sync>(
     Some(are_these(&receipts, wanted) && rise(&receipts, 0) && rise(&receipts, 1))
 }
 
-/// The receipts of [`BOTH`]: of `standard` LSC is the first process and TXC the fifth, PowerOn the first signal and AckSeen the
-/// thirteenth.
+/// The receipts of [`BOTH`]. In `standard`, LSC is the first process and TXC the fifth; PowerOn is the first signal and
+/// AckSeen the thirteenth.
 const WANTED: [[u64; 4]; 4] = [[0, 0, 0, 9], [1, 0, 0, 9], [1, 5, 99, 99], [1, 4, 12, 1]];
 
-/// Whether the client of [`BOTH`] has the receipts that it should have.
+/// Whether the client of [`BOTH`] has the expected receipts.
 fn script_is_done<R: Threads + Wait + Sync>(rt: &R, alloc: Global) -> Option<bool> {
     match soak_script(alloc, BOTH) {
         Ok(soak) => has_receipts(rt, alloc, &soak, &WANTED),
@@ -171,7 +171,7 @@ fn a_script_is_done(rt: HostRuntime) {
     assert_eq!(rt; script_is_done(&rt, rt.alloc()), Some(true));
 }
 
-/// How many ticks a long script has.
+/// The number of ticks in a long script.
 const TICKS: usize = 2_000;
 
 /// A script of many ticks.
@@ -184,7 +184,7 @@ fn long_text(alloc: Global) -> Result<String, AllocError> {
     Ok(text)
 }
 
-/// How many receipts a script's client has, and the clock of its first link in the end.
+/// How many receipts a script's client has, and the final clock of its first link.
 fn kept<R: Threads + Wait + Sync>(
     rt: &R,
     alloc: Global,
@@ -195,7 +195,7 @@ fn kept<R: Threads + Wait + Sync>(
     Some((receipts.len(), clock))
 }
 
-/// The same of the long script.
+/// As `kept`, for the long script.
 fn long_kept<R: Threads + Wait + Sync>(rt: &R, alloc: Global) -> Option<(usize, Option<u64>)> {
     let text = long_text(alloc).ok()?;
     match soak_script(alloc, text.as_str()) {
@@ -209,10 +209,10 @@ fn a_long_script_has_all_its_receipts(rt: HostRuntime) {
     assert_eq!(rt; long_kept(&rt, rt.alloc()), Some((TICKS, Some(2_000))));
 }
 
-/// How often the client asks.
+/// How often the client polls.
 const ASKS: u32 = 100_000_000;
 
-/// A client that turns a terminal on, and waits until it says what goes out on its line.
+/// A client that turns a terminal on, and waits until it reports what is sent on its line.
 #[derive(Drop)]
 struct TurnsOn {
     process: ProcessNumber,
@@ -224,7 +224,7 @@ struct TurnsOn {
 }
 
 impl TurnsOn {
-    /// A client for these names of a set.
+    /// A client with these names of a set.
     fn of(set: &Verified) -> Option<TurnsOn> {
         Some(TurnsOn {
             process: set.process_of("LSC")?,
@@ -236,7 +236,7 @@ impl TurnsOn {
         })
     }
 
-    /// Takes what waits longest for the environment of link 0. Whether that is its line's state.
+    /// Takes the signal that has waited longest for the environment of link 0. Returns whether it is the line's state.
     fn takes<R: Wait, L: Ledger>(&mut self, pool: &Pool<'_, R, L>, seat: &mut Seat<L>) -> bool {
         match pool.take_env(0, seat) {
             Ok((emitted, _)) => {
@@ -277,7 +277,7 @@ fn is_in(book: &Book, process: ProcessNumber, name: &[u8]) -> bool {
     }
 }
 
-/// Whether the terminal of link 0 is out of service, and link 1 has no third actor.
+/// Whether the offer was accepted, the line and then terminal 0 were out of service, and link 1 has no third actor.
 fn is_well(closed: &mut Closed, client: &TurnsOn) -> [bool; 4] {
     [
         client.has_offered,
@@ -295,13 +295,13 @@ fn is_well(closed: &mut Closed, client: &TurnsOn) -> [bool; 4] {
     ]
 }
 
-/// A link of a set.
+/// Opens a link of a set.
 fn book(alloc: Global, set: &Verified) -> Option<Book> {
     let limits = Limits::new(16, 64, 4096)?;
     Book::open(alloc, set, limits).ok()
 }
 
-/// A link of `monitors`.
+/// Opens a link of `monitors`.
 fn monitors_book(alloc: Global) -> Option<Book> {
     let set = monitors(alloc).ok()?;
     book(alloc, &set)
@@ -314,14 +314,14 @@ fn both(alloc: Global, one: Book, other: Book) -> Option<Vec<Book>> {
     Some(books)
 }
 
-/// A link of a set, and one of `monitors`.
+/// Opens a link of a set, and one of `monitors`.
 fn one_of_each(alloc: Global, set: &Verified) -> Option<Vec<Book>> {
     let one = book(alloc, set)?;
     let other = monitors_book(alloc)?;
     both(alloc, one, other)
 }
 
-/// What a client does with these links, and leaves.
+/// Serves these links to a client, and checks the result.
 fn driven<R: Threads + Wait + Sync>(
     rt: &R,
     alloc: Global,
@@ -334,7 +334,7 @@ fn driven<R: Threads + Wait + Sync>(
     }
 }
 
-/// The same of a client for a set and of links of that and of `monitors`.
+/// As `driven`, for a set: its client, one of its links and one of `monitors`.
 fn turned_on_of<R: Threads + Wait + Sync>(
     rt: &R,
     alloc: Global,
@@ -344,8 +344,8 @@ fn turned_on_of<R: Threads + Wait + Sync>(
     driven(rt, alloc, books, TurnsOn::of(set)?)
 }
 
-/// Has a terminal on link 0 turned on while link 1 has the monitors. Whether it was accepted, the line was out of service, the
-/// terminal is, and the monitors are two.
+/// Turns a terminal on link 0 on while link 1 has the monitors. Whether it was accepted, the line was out of service,
+/// the terminal is, and there are two monitors.
 fn turned_on<R: Threads + Wait + Sync>(rt: &R, alloc: Global) -> Option<[bool; 4]> {
     match standard(alloc) {
         Ok(set) => turned_on_of(rt, alloc, &set),

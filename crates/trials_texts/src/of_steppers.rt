@@ -1,5 +1,5 @@
-//! Turns by two steppers, on words and on values with their sorts: each transition of a set runs on ten inputs, with numbers at the ends of their range, and
-//! each of its places is stepped from.
+//! Compares turns by two steppers, on words and on values with their sorts. Each transition of a set runs on ten
+//! inputs, with numbers at the ends of their range, and each of its places is stepped from.
 
 ghost use Rattle.std.specs.Prelude.{◌≤◌, IsTrue, IfSome};
 ghost use Rattle.turn_code.specs.Code.{sends};
@@ -15,7 +15,7 @@ use turn_code::{
 };
 use turn_machine::{Received, fits, new_machine, run_in};
 
-/// Every operation and relation, parameters and variables of both sorts, all three effects, answers to whoever sent, ways that join.
+/// All operations, relations and effects; parameters and variables of both sorts; OUTPUTs TO SENDER; joining branches.
 const MILL: &str = "BLOCK Mill;
 SIGNAL Ask(Integer, Boolean, Integer, Boolean), Told(Integer, Boolean, Integer, Boolean), Push, Count(Integer);
 SIGNALROUTE hands FROM ENV TO Wheel WITH Ask, Push;
@@ -55,7 +55,7 @@ ENDCONNECTION back;
 ENDPROCESS Wheel;
 ENDBLOCK Mill;";
 
-/// A value of a sort: numbers at the ends of their range and about 0 come in turn, and both Booleans.
+/// A value of a sort. The Integers include both ends of their range and values about 0; the Booleans alternate.
 fn value_of(sort: Sort, turn: u32) -> Value {
     match sort {
         Sort::Boolean => Value::Bool(turn % 2 == 1),
@@ -95,7 +95,7 @@ fn parameters_of(sorts: &[Sort], turn: u32) -> ArrayVec<Value, 4> {
     values
 }
 
-/// The parties of a set in turn: the environment first, then its processes.
+/// The parties of a set by number: the environment first, then its processes.
 fn sender_of(number: u8) -> Address {
     Address {
         party: match number {
@@ -116,7 +116,7 @@ fn sends_few(instruction: Instruction) -> bool
     }
 }
 
-/// Whether there is room for an instruction, whatever it does.
+/// Whether there is room for an instruction, whatever its effect.
 fn has_room_for(instruction: Instruction, machine: &Machine) -> bool
     ensures { IsTrue result → HasRoomFor instruction machine.now.operands machine.now.effects.items }
 {
@@ -133,7 +133,7 @@ fn has_room(code: &[Instruction], place: usize, machine: &Machine) -> bool
     }
 }
 
-/// Runs code from its first instruction on, on the values of an input that the machine has already. None where it doesn't end within 512 instructions.
+/// Runs code from its first instruction on a machine set up for an input. `None` if it takes over 512 instructions.
 fn run_sorted(code: &[Instruction], input: &Input, machine: &mut Machine) -> Option<End> {
     let mut place = 0;
     for _ in 0..512u32 {
@@ -149,7 +149,7 @@ fn run_sorted(code: &[Instruction], input: &Input, machine: &mut Machine) -> Opt
     None
 }
 
-/// How many runs there were, and in how many the two steppers gave something else.
+/// How many runs there were, and in how many of them the two steppers differed.
 #[derive(Clone, Copy, PartialEq, Eq, Debug)]
 struct Tally {
     runs: u32,
@@ -157,7 +157,7 @@ struct Tally {
 }
 
 impl Tally {
-    /// One run more.
+    /// Counts one more run.
     fn add(&mut self, alike: bool) {
         self.runs = self.runs.wrapping_add(1);
         if !alike {
@@ -166,7 +166,7 @@ impl Tally {
     }
 }
 
-/// Whether both have the same effects.
+/// Whether the effects are the same.
 fn same_effects(one: &[Effect], other: &[Effect]) -> bool {
     for place in 0..one.len() {
         match other.get(place) {
@@ -177,14 +177,14 @@ fn same_effects(one: &[Effect], other: &[Effect]) -> bool {
     one.len() == other.len()
 }
 
-/// Whether both have the same variables, effects and count.
+/// Whether two machines have the same variables, effects and number of instructions.
 fn are_alike(one: &Machine, other: &Machine) -> bool {
     one.count == other.count
         && same_variables(one.variables.as_slice(), other.variables.as_slice())
         && same_effects(one.effects.as_slice(), other.effects.as_slice())
 }
 
-/// What comes with an input in a turn, from the first party that may send it.
+/// The parameters and the sender of an input in a turn, from the first party that may send it.
 fn received(
     set: &Verified,
     process: ProcessNumber,
@@ -212,7 +212,7 @@ fn received(
     None
 }
 
-/// Runs a transition in a turn by both steppers; nothing where no input fits it.
+/// Runs a transition in a turn by both steppers. `None` if no input fits it.
 fn run_both(
     tally: &mut Tally,
     set: &Verified,
@@ -276,7 +276,7 @@ fn tally_of(set: &Verified) -> Tally {
     tally
 }
 
-/// The same of a set, if it is accepted.
+/// As `tally_of`, if the set is accepted.
 fn tally_in(set: Result<Verified, LoadFault>) -> Option<Tally> {
     match set {
         Ok(set) => Some(tally_of(&set)),
@@ -284,7 +284,7 @@ fn tally_in(set: Result<Verified, LoadFault>) -> Option<Tally> {
     }
 }
 
-/// So many runs, all alike.
+/// The tally of this many runs without a difference.
 fn alike(runs: u32) -> Option<Tally> {
     Some(Tally { runs, unlike: 0 })
 }
@@ -307,7 +307,7 @@ fn every_operation_runs_alike_on_words(rt: HostRuntime) {
     assert_eq!(rt; tally_in(load(rt.alloc(), MILL)), alike(40));
 }
 
-/// Whether the steps at each place of a set were alike, and at least so many.
+/// Whether the steps at each place of a set were alike, and at least `least` of them were made.
 fn steps_alike(set: Result<Verified, LoadFault>, least: u32) -> bool {
     match set {
         Ok(set) => {
@@ -320,7 +320,7 @@ fn steps_alike(set: Result<Verified, LoadFault>, least: u32) -> bool {
 
 #[test]
 fn steps_are_alike_at_each_place(rt: HostRuntime) {
-    // at the first place of each transition alone there are sixteen
+    // the first place of each transition has sixteen steps by itself
     assert_eq!(rt; steps_alike(standard(rt.alloc()), 1_488), true);
     assert_eq!(rt; steps_alike(monitors(rt.alloc()), 160), true);
     assert_eq!(rt; steps_alike(load(rt.alloc(), MILL), 64), true);

@@ -1,5 +1,5 @@
-//! Turns that are ended elsewhere than where they began: on another link, as another instance's, and behind a rebase; and rebases of books with a turn out,
-//! and of those that hold much.
+//! Turns that are ended elsewhere than they began: on another link, as another instance's, or after a rebase. Also
+//! rebases of books with a turn out, and of large books.
 use crate::links::{TWINS, UP, book_of, links};
 use crate::of_books::numbers;
 use crate::texts::COUNTER;
@@ -8,15 +8,15 @@ use std::alloc::{AllocError, Global};
 use turn_code::{Value, VariableNumber};
 use turn_machine::{Done, Job, run};
 
-/// The variable in which the counter adds up.
+/// The variable in which the counter keeps its total.
 const TOTAL: VariableNumber = VariableNumber(1);
 
-/// START of a counter's link runs, and it is offered a number. Whether that went.
+/// Runs START of a counter's link, and offers it a number. Whether both succeeded.
 fn is_offered(book: &mut Book, number: i32) -> bool {
     book.turn(0).is_ok() && book.offer(0, UP, &[Value::Int(number)]).is_ok()
 }
 
-/// The total of a counter's link behind a turn that ends there; none where it is refused.
+/// The total of a counter's link after a turn ends there; `None` if it is refused.
 fn total_behind(book: &mut Book, done: Done) -> Option<Value> {
     match book.finish(done) {
         Ok(_) => book.variable(0, TOTAL),
@@ -24,7 +24,7 @@ fn total_behind(book: &mut Book, done: Done) -> Option<Value> {
     }
 }
 
-/// What comes back of a turn that a link doesn't have out; none where it is taken, or the link isn't as it was.
+/// The turn that a link returns because it doesn't have it out; `None` if it is accepted, or the link changed.
 fn refused_by(book: &mut Book, done: Done) -> Option<Done> {
     let before = numbers(book);
     let back = book.finish(done).err()?;
@@ -35,7 +35,7 @@ fn refused_by(book: &mut Book, done: Done) -> Option<Done> {
     }
 }
 
-/// Has two links begin, and ends the turn of the first on the second, and then what came back on the first. Both totals.
+/// Two links begin turns. Ends the first turn on the second link, then on the first, and then the second. Both totals.
 fn ended_at_home(one: &mut Book, other: &mut Book) -> Option<[Option<Value>; 2]> {
     let job = one.begin(0).ok()?;
     let own = other.begin(0).ok()?;
@@ -43,7 +43,7 @@ fn ended_at_home(one: &mut Book, other: &mut Book) -> Option<[Option<Value>; 2]>
     Some([total_behind(one, back), total_behind(other, run(own))])
 }
 
-/// The same of new links, of which the one is offered 5 and the other 7.
+/// As `ended_at_home`, with new links, of which one is offered 5 and the other 7.
 fn exchanged(alloc: Global) -> Option<[Option<Value>; 2]> {
     let mut books = links(alloc, COUNTER, 2, 16)?;
     let [one, other] = books.as_mut_slice() else {
@@ -56,7 +56,7 @@ fn exchanged(alloc: Global) -> Option<[Option<Value>; 2]> {
     }
 }
 
-/// A turn of another link, of the same process with another input, is refused and comes back; its own link takes that very one.
+/// A turn of the same process on another link, with another input, is refused and returned. Its own link accepts it.
 #[test]
 fn a_turn_ends_on_its_own_link(rt: HostRuntime) {
     assert_eq!(rt;
@@ -65,8 +65,8 @@ fn a_turn_ends_on_its_own_link(rt: HostRuntime) {
     );
 }
 
-/// Has the first instance of a process begin on one link and the second on another, ends the first one's turn on the other link, where only the second is out,
-/// and then what came back on its own, and the second one's too. The numbers of both links.
+/// The first instance begins on link `one`, the second on link `other`. Ends the first turn on `other`, which returns
+/// it, then both turns on their own links. The numbers of both links.
 fn ended_as_itself(one: &mut Book, other: &mut Book) -> Option<[[u64; 5]; 2]> {
     let job = one.begin(0).ok()?;
     let own = other.begin(1).ok()?;
@@ -76,7 +76,7 @@ fn ended_as_itself(one: &mut Book, other: &mut Book) -> Option<[[u64; 5]; 2]> {
     Some([numbers(one), numbers(other)])
 }
 
-/// The same of new links.
+/// As `ended_as_itself`, with new links.
 fn twins_exchanged(alloc: Global) -> Option<[[u64; 5]; 2]> {
     let mut books = links(alloc, TWINS, 2, 16)?;
     let [one, other] = books.as_mut_slice() else {
@@ -85,8 +85,8 @@ fn twins_exchanged(alloc: Global) -> Option<[[u64; 5]; 2]> {
     ended_as_itself(one, other)
 }
 
-/// The START of one instance is none of another instance's, though process, turn number, place and input are the same: it is refused and comes back, and both
-/// are taken where they are out. Each link has one turn, of one instruction, and two events.
+/// One instance's START isn't another's, though process, turn number, place and input are the same. Both are accepted
+/// only where they are out. Each link has one turn, of one instruction, and two events.
 #[test]
 fn a_turn_ends_as_its_own_instance(rt: HostRuntime) {
     assert_eq!(rt;
@@ -95,8 +95,8 @@ fn a_turn_ends_as_its_own_instance(rt: HostRuntime) {
     );
 }
 
-/// Makes the state of a link, of which a turn is out, its base, and ends the turn. How many turns the base has out, the link's numbers then, and
-/// whether the turn's end is the one event of the journal.
+/// Rebases a link with a turn out, and ends the turn. Returns how many turns the base has out, the link's numbers after
+/// that, and whether the turn's end is the only event of the journal.
 fn ended_behind_rebase(book: &mut Book, job: Job) -> Option<(usize, [u64; 5], bool)> {
     book.rebase().ok()?;
     let outs = book.base().outs();
@@ -108,14 +108,14 @@ fn ended_behind_rebase(book: &mut Book, job: Job) -> Option<(usize, [u64; 5], bo
     Some((outs, numbers(book), is_first))
 }
 
-/// The same of a new link of the counter, with its START.
+/// As `ended_behind_rebase`, with a new link of the counter and its START.
 fn start_behind_rebase(alloc: Global) -> Option<(usize, [u64; 5], bool)> {
     let mut book = book_of(alloc, COUNTER, Limits::new(1, 1, 16)?)?;
     let job = book.begin(0).ok()?;
     ended_behind_rebase(&mut book, job)
 }
 
-/// One turn has ended, of three instructions; the journal begins at 1 and the next event comes at 2; no turn had ended in the base.
+/// One turn of three instructions has ended. The journal begins at 1, the next event is 2. The base has no ended turn.
 #[test]
 fn a_turn_ends_behind_a_rebase(rt: HostRuntime) {
     assert_eq!(rt;
@@ -124,11 +124,11 @@ fn a_turn_ends_behind_a_rebase(rt: HostRuntime) {
     );
 }
 
-/// How often a link with a turn out is rebased in a row.
+/// The number of consecutive rebases of a link with a turn out.
 const REBASES: u32 = 20;
 
-/// Lets a tick pass on a link of which a turn is out, and makes its state its base. Whether its journal is empty then and the base has the turn
-/// out; where there is no memory, whether both are as they were.
+/// Lets a tick pass on a link with a turn out, and rebases it. Whether its journal is empty and the base has the turn
+/// out; or if memory runs out, whether both are unchanged.
 fn is_rebased_or_stays(book: &mut Book) -> bool {
     let ticked = book.advance(1).is_ok();
     let (first, next, outs) = (book.first(), book.next(), book.base().outs());
@@ -140,7 +140,7 @@ fn is_rebased_or_stays(book: &mut Book) -> bool {
     ticked && (book.first(), book.base().outs()) == wanted && book.next() == next
 }
 
-/// Whether all rebases of a link with a turn out do what they should, and the turn can be ended behind them.
+/// Whether all rebases of a link with a turn out succeed or change nothing, and the turn can be ended after them.
 fn is_out_throughout(book: &mut Book) -> bool {
     let Ok(job) = book.begin(0) else {
         return false;
@@ -153,19 +153,19 @@ fn is_out_throughout(book: &mut Book) -> bool {
     book.state().outs() == 1 && book.finish(run(job)).is_ok()
 }
 
-/// The same of a new link; nothing where there is none.
+/// As `is_out_throughout`, with a new link; `None` if it can't be opened.
 fn new_is_out_throughout(alloc: Global) -> Option<bool> {
     let mut book = book_of(alloc, COUNTER, Limits::new(1, 1, 16)?)?;
     Some(is_out_throughout(&mut book))
 }
 
-/// Holds whichever request for memory is refused: one rebase changes nothing then.
+/// Holds whichever allocation fails: a rebase that fails changes nothing.
 #[test]
 fn want_of_memory_leaves_a_turn_out(rt: HostRuntime) {
     assert!(rt; new_is_out_throughout(rt.alloc()) != Some(false));
 }
 
-/// How many processes the large set has: as many as one may.
+/// The number of processes of the large set: the limit of a set.
 const PROCESSES: u16 = 16;
 
 /// The text of a set of processes, each of which sends each Up of the environment back.
@@ -186,7 +186,7 @@ fn large_text(alloc: Global) -> Result<String, AllocError> {
     Ok(text)
 }
 
-/// Each process of the large set is offered an Up and has a turn, if it is at START that. How many of both were refused.
+/// Offers each process of the large set an Up and runs a turn, at first START. Returns the number of refusals.
 fn round(book: &mut Book) -> u64 {
     let mut refused = 0u64;
     for actor in 0..PROCESSES {
@@ -197,7 +197,7 @@ fn round(book: &mut Book) -> u64 {
     refused
 }
 
-/// Fills a link of the large set: 100 rounds, and an Up more for the last process. How many offers and turns were refused.
+/// Fills a link of the large set: 100 rounds, and one more Up for the last process. Returns the number of refusals.
 fn fill(book: &mut Book) -> u64 {
     let mut refused = 0u64;
     for _ in 0..100u32 {
@@ -207,7 +207,7 @@ fn fill(book: &mut Book) -> u64 {
     refused.saturating_add(u64::from(!offered))
 }
 
-/// Who sent what waits for the environment at a place; 99 where nothing does.
+/// The number of the process that sent the signal waiting for the environment at an index; 99 if there is none.
 fn sender_at(book: &Book, place: usize) -> u64 {
     match book.waiting_at(place) {
         Some(emitted) => u64::from(emitted.sender.process.0),
@@ -215,8 +215,8 @@ fn sender_at(book: &Book, place: usize) -> u64 {
     }
 }
 
-/// Makes the state of a link its base while its last process is out. The place where the journal begins, how many turns are out, how many signals
-/// wait for the environment, who sent the last of 1,024, and how many turns had ended.
+/// Rebases a link while its last process is out. Returns the place where the journal begins, the number of turns out,
+/// the number of signals that wait for the environment, the sender of the last of 1,024, and the number of ended turns.
 fn rebased_out(book: &mut Book) -> Option<[u64; 5]> {
     let job = book.begin(PROCESSES - 1).ok()?;
     book.rebase().ok()?;
@@ -232,7 +232,7 @@ fn rebased_out(book: &mut Book) -> Option<[u64; 5]> {
     Some(found)
 }
 
-/// The same of a new link of the large set, once it is filled, with how many offers and turns were refused.
+/// As `rebased_out`, with a new link of the large set after it is filled, and the number of refused offers and turns.
 fn large_rebased(alloc: Global) -> Option<(u64, [u64; 5])> {
     let text = large_text(alloc).ok()?;
     let mut book = book_of(alloc, text.as_str(), Limits::new(2, 1_024, 65_536)?)?;
@@ -241,7 +241,7 @@ fn large_rebased(alloc: Global) -> Option<(u64, [u64; 5])> {
     Some((refused, found))
 }
 
-/// 100 rounds of 16 offers and turns are 4,800 events, an offer and a begin are two more; of 1,584 outputs 1,024 find room.
+/// 100 rounds of 16 offers and turns are 4,800 events; an offer and a begin are two more. 1,024 of 1,584 outputs fit.
 #[test]
 fn a_book_that_holds_much_is_rebased(rt: HostRuntime) {
     assert_eq!(rt;

@@ -1,20 +1,20 @@
-//! What texts read as, as `Debug` shows it with all places, worked out by hand; how operators bind, and how deep decisions may stand
-//! in one another.
+//! The trees of texts, as `Debug` shows them with all places, worked out by hand; how operators bind, and how deeply
+//! decisions may be nested.
 use crate::texts::{COUNTER, read};
 use sdl_ast::{Action, Block, Entity, Expression, Statement};
 use sdl_lex::{Token, tokens};
 use sdl_tree::{ParseFault, parse};
 use std::alloc::{AllocError, Global};
 
-/// What stands before a part, and what behind it.
+/// The text before a part, and the text after it.
 type Around = (&'static str, &'static str);
 
-/// A part of a text, and what is shown of it.
+/// A part of a text, and what `Debug` shows of it.
 type Row = (&'static str, &'static str);
 
 const NOTHING: Around = ("", "");
 
-/// A text with one TASK that assigns something, at byte 37.
+/// A text with one TASK that assigns a value, at byte 37.
 const TASK: Around = (
     "BLOCK B; PROCESS P; START; TASK x := ",
     "; ENDPROCESS; ENDBLOCK;",
@@ -27,7 +27,7 @@ declarations: [], start: Start { at: 20, transition: Transition { statements: [A
     " }] }))], end: None } }, states: [], connections: [] })] }",
 );
 
-/// A text with one DECISION, which has one answer, which has one range, at byte 40.
+/// A text with one DECISION, which has one answer with one range, at byte 40.
 const ANSWER: Around = (
     "BLOCK B; PROCESS P; START; DECISION 1; (",
     "): ENDDECISION; ENDPROCESS; ENDBLOCK;",
@@ -40,7 +40,7 @@ declarations: [], start: Start { at: 20, transition: Transition { statements: [D
     "], body: Transition { statements: [], end: None } }], otherwise: None })], end: None } }, states: [], connections: [] })] }",
 );
 
-/// The counter; states and connections in turn; answers in order, and ELSE.
+/// The counter; alternating states and connections; answers in order, and ELSE.
 const WHOLE: [Row; 3] = [
     (
         COUNTER,
@@ -81,7 +81,7 @@ None }) })], end: Some(Stop(98)) } }, states: [], connections: [] })] }",
     ),
 ];
 
-/// A tree has the place of its parenthesis.
+/// A tree in parentheses has the place of the parenthesis.
 const VALUES: [Row; 2] = [
     (
         "-((1) + 2)",
@@ -128,30 +128,30 @@ const RANGES: [Row; 10] = [
     ),
 ];
 
-/// A part with what stands around it.
+/// A part, with the text around it.
 fn whole(alloc: Global, around: &Around, part: &str) -> Option<String> {
     format!(in alloc; "{}{part}{}", around.0, around.1).ok()
 }
 
-/// What is shown of the tree of a text.
+/// What `Debug` shows of the tree of a text.
 fn shown(alloc: Global, text: &str) -> Option<String> {
     let block = read(alloc, text)?;
     format!(in alloc; "{block:?}").ok()
 }
 
-/// What is shown of a part of a text with what stands around it.
+/// What `Debug` shows of a part of a text, with the text around it.
 fn shown_within(alloc: Global, around: &Around, part: &str) -> Option<String> {
     shown(alloc, whole(alloc, around, part)?.as_str())
 }
 
-/// Whether what a row says is shown of it.
+/// Whether `Debug` shows the tree that a row has.
 fn is_shown(alloc: Global, text: &Around, told: &Around, row: &Row) -> Option<bool> {
     let found = shown_within(alloc, text, row.0)?;
     let wanted = whole(alloc, told, row.1)?;
     Some(found.as_str() == wanted.as_str())
 }
 
-/// The number of the first row of which something else is shown.
+/// The number of the first row with another tree.
 fn first_other(alloc: Global, text: &Around, told: &Around, rows: &[Row]) -> Option<usize> {
     for (number, row) in rows.iter().enumerate() {
         if is_shown(alloc, text, told, row) != Some(true) {
@@ -171,7 +171,7 @@ fn trees_have_all_that_stands_there_with_its_place(rt: HostRuntime) {
     );
 }
 
-/// The expression that the START of the first entity assigns at first.
+/// The first expression that the START of the first entity assigns.
 fn first_value(block: &Block) -> Option<&Expression> {
     match block.entities.first()? {
         Entity::Process(process) => match process.start.transition.statements.first()? {
@@ -212,20 +212,20 @@ fn group(text: &mut String, tree: &Expression) -> Result<(), AllocError> {
     }
 }
 
-/// The same, as a text.
+/// The expression with parentheses, as a text.
 fn grouped(alloc: Global, tree: &Expression) -> Option<String> {
     let mut text = String::new(alloc);
     group(&mut text, tree).ok()?;
     Some(text)
 }
 
-/// An expression in a text, with its groups.
+/// An expression in a text, with parentheses.
 fn grouped_value(alloc: Global, value: &str) -> Option<String> {
     let block = read(alloc, whole(alloc, &TASK, value)?.as_str())?;
     grouped(alloc, first_value(&block)?)
 }
 
-/// Expressions, and how they are grouped.
+/// Expressions, and their grouping.
 const GROUPS: [Row; 6] = [
     (
         "a OR b AND NOT c = d + e * -f",
@@ -247,7 +247,7 @@ const GROUPS: [Row; 6] = [
     ),
 ];
 
-/// Whether an expression is grouped so.
+/// Whether an expression has this grouping.
 fn is_grouped(alloc: Global, value: &str, wanted: &str) -> bool {
     match grouped_value(alloc, value) {
         Some(found) => found.as_str() == wanted,
@@ -255,7 +255,7 @@ fn is_grouped(alloc: Global, value: &str, wanted: &str) -> bool {
     }
 }
 
-/// The number of the first row that is grouped otherwise.
+/// The number of the first row with another grouping.
 fn first_grouped_otherwise(alloc: Global, rows: &[Row]) -> Option<usize> {
     for (number, (value, wanted)) in rows.iter().enumerate() {
         if !is_grouped(alloc, value, wanted) {
@@ -270,7 +270,7 @@ fn groups_as_operators_bind(rt: HostRuntime) {
     assert_eq!(rt; first_grouped_otherwise(rt.alloc(), &GROUPS), None);
 }
 
-/// Puts the tokens of a part of a text behind others so many times.
+/// Appends the tokens of a part of a text `times` times.
 fn repeat(found: &mut Vec<Token>, alloc: Global, part: &str, times: usize) -> Option<()> {
     let row = tokens(alloc, part).ok()?;
     for _ in 0..times {
@@ -279,7 +279,7 @@ fn repeat(found: &mut Vec<Token>, alloc: Global, part: &str, times: usize) -> Op
     Some(())
 }
 
-/// The tokens of a text with so many decisions in one another, so many of which are closed.
+/// The tokens of a text with `times` nested decisions, of which `closed` are closed.
 fn nested(alloc: Global, times: usize, closed: usize) -> Option<Vec<Token>> {
     let mut found = Vec::new(alloc);
     repeat(&mut found, alloc, "BLOCK B; PROCESS P; START;", 1)?;
@@ -289,13 +289,13 @@ fn nested(alloc: Global, times: usize, closed: usize) -> Option<Vec<Token>> {
     Some(found)
 }
 
-/// Why they have no tree, if so.
+/// Why these tokens have no tree, if they have none.
 fn nested_fault(alloc: Global, times: usize, closed: usize) -> Option<Option<ParseFault>> {
     let found = nested(alloc, times, closed)?;
     Some(parse(alloc, found.as_slice()).err())
 }
 
-/// So many decisions, so many that are closed, and the fault.
+/// The number of nested decisions, the number of those that are closed, and the fault.
 const NESTED: [(usize, usize, Option<ParseFault>); 5] = [
     (31, 31, None),
     (32, 32, Some(ParseFault::TooDeep(7))),

@@ -1,4 +1,4 @@
-//! Workers: that they run at once, that they end what they begin, that they come to an end.
+//! Tests of workers: they run at the same time, they end the turns that they begin, and they end.
 use crate::links::{ECHO, ECHOES, ENDLESS, TWINS, WASTEFUL, links, links_of};
 use actor_book::{Book, Limits};
 use std::alloc::Global;
@@ -9,34 +9,34 @@ use std::thread;
 use std::thread::Threads;
 use turn_pool::{Client, Closed, Gate, JobName, Pool, Seat, serve};
 
-/// How often a loop looks for what is to come.
+/// How often a loop polls.
 pub(crate) const LOOKS: u32 = 1_000_000_000;
 
 /// Which turns are held at the gate, and until when.
 #[derive(Clone, Copy)]
 struct Plan {
     text: &'static str,
-    /// Each of the links has so many instances of processes.
+    /// The number of process instances of each link.
     processes: u64,
     links: usize,
     workers: usize,
-    /// So many turns are held, the first ones.
+    /// This many turns are held, the first ones.
     held: usize,
-    /// Until so many have begun,
+    /// They are held until this many have begun,
     until_begun: usize,
-    /// and so many have ended,
+    /// and this many have ended,
     until_ended: usize,
-    /// and, if so, the client has returned.
+    /// and, if this is true, the client has returned.
     until_returned: bool,
-    /// The client returns once so many turns have begun
+    /// The client returns once this many turns have begun
     wanted_begun: usize,
-    /// and so many have ended.
+    /// and this many have ended.
     wanted_ended: usize,
-    /// What the names come to that the gate is told, as each turn begins and as it ends.
+    /// The sum of the codes of the turns of which the gate is notified, as they begin and as they end.
     names: usize,
 }
 
-/// What can only come to an end where turns run at once, under no lock, and where a turn that has begun is ended.
+/// Plans that can only end if turns run at the same time without a lock, and if a turn that has begun is ended.
 const PLANS: [Plan; 4] = [
     // two actors of one link: the first turn is held until the second has ended
     Plan {
@@ -52,7 +52,7 @@ const PLANS: [Plan; 4] = [
         wanted_ended: 2,
         names: 112,
     },
-    // two instances of one process: the same
+    // two instances of one process: the first turn is held until the second has ended
     Plan {
         text: TWINS,
         processes: 2,
@@ -96,8 +96,8 @@ const PLANS: [Plan; 4] = [
     },
 ];
 
-/// A number for what a gate is told of a turn: 1, and 100,000 for each instance, 1,000 for each link, 100 for each process and 10 for each turn
-/// before its own.
+/// A code for a turn of which a gate is notified: 1, plus 100,000 for each instance, 1,000 for each link, 100 for each
+/// process and 10 for each turn before it.
 fn number_of(name: JobName) -> usize {
     let turn = name.turn.min(9) as usize;
     let process = usize::from(name.actor.process.0).min(9);
@@ -105,7 +105,7 @@ fn number_of(name: JobName) -> usize {
     1 + 100_000 * before + 1_000 * name.link.min(9) + 100 * process + 10 * turn
 }
 
-/// A gate that holds turns as a plan says.
+/// A gate that holds turns as a plan states.
 #[derive(Drop)]
 struct Holds {
     plan: Plan,
@@ -134,14 +134,14 @@ impl Holds {
         self.begun.load(Ordering::SeqCst) >= begun && self.ended.load(Ordering::SeqCst) >= ended
     }
 
-    /// Whether it was told of the turns that the plan has, each as it began and as it ended, and held none in vain.
+    /// Whether it was notified of the plan's turns, each at its begin and at its end, and held none in vain.
     fn was_told(&self) -> bool {
         !self.in_vain.load(Ordering::SeqCst)
             && self.names_begun.load(Ordering::SeqCst) == self.plan.names
             && self.names_ended.load(Ordering::SeqCst) == self.plan.names
     }
 
-    /// Whether what holds a turn came to an end.
+    /// Waits for the condition that releases a turn. Whether it became true.
     fn lets_go(&self) -> bool {
         for _ in 0..LOOKS {
             let returned = !self.plan.until_returned || self.returned.load(Ordering::SeqCst);
@@ -179,7 +179,7 @@ impl Gate for Holds {
     }
 }
 
-/// A client that looks on.
+/// A client that only waits.
 #[derive(Drop)]
 struct LooksOn<'a> {
     gate: &'a Holds,
@@ -199,7 +199,7 @@ impl Client for LooksOn<'_> {
     }
 }
 
-/// Of how many books so many turns have ended, and none is out.
+/// The number of books on which `turns` turns have ended and none is out.
 fn all_ended(books: &[Book], turns: u64) -> usize {
     let mut ended = 0usize;
     for book in books {
@@ -210,7 +210,7 @@ fn all_ended(books: &[Book], turns: u64) -> usize {
     ended
 }
 
-/// Whether each worker has two events on its seat: in each of the plans it begins one turn and ends it.
+/// Whether each worker has two events on its seat. In each of the plans it begins one turn and ends it.
 fn made_two_each(workers: &[u64]) -> bool {
     for events in workers {
         if *events != 2 {
@@ -220,7 +220,7 @@ fn made_two_each(workers: &[u64]) -> bool {
     true
 }
 
-/// On how many links each START has run and ended; none where the gate was told of others than a plan has, or a worker's count isn't its own.
+/// On how many links each START has run and ended; `None` if the gate saw other turns, or a worker's count is wrong.
 fn ended_as_planned(gate: &Holds, plan: Plan, closed: &Closed) -> Option<usize> {
     if gate.was_told() && made_two_each(&closed.workers) {
         Some(all_ended(&closed.books, plan.processes))
@@ -229,8 +229,8 @@ fn ended_as_planned(gate: &Holds, plan: Plan, closed: &Closed) -> Option<usize> 
     }
 }
 
-/// On how many links of a plan each START has run and ended; none where a turn was held in vain, the gate was told of others, or a worker's
-/// count isn't its own.
+/// On how many links of a plan each START has run and ended. `None` if a turn was held in vain, the gate was notified
+/// of other turns, or a worker's count is wrong.
 fn links_ended<R: Threads + Wait + Sync>(rt: &R, alloc: Global, plan: Plan) -> Option<usize> {
     let books = links(alloc, plan.text, plan.links, 64)?;
     let gate = Holds::new(plan);
@@ -247,7 +247,7 @@ fn links_ended<R: Threads + Wait + Sync>(rt: &R, alloc: Global, plan: Plan) -> O
     }
 }
 
-/// The number of the first plan with which something else comes.
+/// The number of the first plan with another result.
 fn first_other<R: Threads + Wait + Sync>(rt: &R, alloc: Global, plans: &[Plan]) -> Option<usize> {
     for (number, plan) in plans.iter().enumerate() {
         if links_ended(rt, alloc, *plan) != Some(plan.links) {
@@ -262,7 +262,7 @@ fn turns_run_at_once_and_are_ended(rt: HostRuntime) {
     assert_eq!(rt; first_other(&rt, rt.alloc(), &PLANS), None);
 }
 
-/// A gate that counts.
+/// A gate that counts the turns begun.
 #[derive(Drop)]
 struct Counts {
     begun: AtomicUsize,
@@ -284,7 +284,7 @@ impl Gate for Counts {
     fn leave(&self, _name: JobName) {}
 }
 
-/// How many turns are to begin before the pool closes: many times what a worker makes after that.
+/// How many turns must begin before the pool closes: many times the number that a worker begins after that.
 const MANY: usize = 3000;
 
 /// A client that closes the pool once many turns have begun.
@@ -307,7 +307,7 @@ impl Client for Closes<'_> {
     }
 }
 
-/// Whether as many turns have ended on each book as on the others, or one more or less.
+/// Whether the numbers of ended turns on all books differ by at most one.
 fn took_turns(books: &[Book]) -> bool {
     for book in books {
         for other in books {
@@ -319,8 +319,8 @@ fn took_turns(books: &[Book]) -> bool {
     true
 }
 
-/// How many turns had begun as the pool closed, and how many began in all, on links that always have something to do; nothing where one of
-/// them had more turns than another.
+/// How many turns had begun as the pool closed, and how many began in all, on links that always have work. `None` if
+/// the turns weren't distributed evenly.
 fn turns_begun<R: Threads + Wait + Sync>(
     rt: &R,
     alloc: Global,
@@ -344,7 +344,7 @@ fn turns_begun<R: Threads + Wait + Sync>(
     }
 }
 
-/// Whether many turns began on such links, and after closing so many at most.
+/// Whether many turns began on these links, and at most `most` after closing.
 fn comes_to_an_end<R: Threads + Wait + Sync>(
     rt: &R,
     alloc: Global,
@@ -361,12 +361,12 @@ fn a_worker_goes_round_and_ends_though_there_is_more_to_do(rt: HostRuntime) {
     assert_eq!(rt; comes_to_an_end(&rt, rt.alloc(), books, 1000), Some(true));
 }
 
-/// A link on which a signal is thrown away for each that is taken.
+/// A link on which one signal is discarded for each one consumed.
 fn wasteful(alloc: Global) -> Option<Vec<Book>> {
     links_of(alloc, WASTEFUL, 1, Limits::new(3, 4, 65536)?)
 }
 
-/// Of 1,000 begins and skips half are begins.
+/// Of 1,000 begins and skips, half are begins.
 #[test]
 fn a_worker_counts_skips_after_closing(rt: HostRuntime) {
     let books = wasteful(rt.alloc());

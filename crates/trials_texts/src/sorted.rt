@@ -19,7 +19,7 @@ fn sends_few(instruction: Instruction) -> bool
     }
 }
 
-/// Whether there is room for an instruction, whatever it does.
+/// Whether there is room for an instruction, whatever its effect.
 fn has_room_for(instruction: Instruction, machine: &Machine) -> bool
     ensures { IsTrue result → HasRoomFor instruction machine.now.operands machine.now.effects.items }
 {
@@ -36,7 +36,7 @@ fn has_room(code: &[Instruction], place: usize, machine: &Machine) -> bool
     }
 }
 
-/// Operands, the topmost first, as a machine has them; at most 16.
+/// Operands, given topmost first, in the form that a machine has. At most 16 are used.
 fn laid(values: &[Value]) -> Operands {
     let mut operands = Operands::new();
     for value in values.iter().rev() {
@@ -47,7 +47,7 @@ fn laid(values: &[Value]) -> Operands {
     operands
 }
 
-/// A machine with the variables of an input and with these operands, the topmost first.
+/// A machine with the variables of an input and with these operands, topmost first.
 pub fn machine_with(input: &Input, operands: &[Value]) -> Machine {
     Machine {
         operands: laid(operands),
@@ -57,7 +57,7 @@ pub fn machine_with(input: &Input, operands: &[Value]) -> Machine {
     }
 }
 
-/// A step on values at a place of code; none where there may be no room for it.
+/// A step on values at a place of code; `None` if there may be no room for it.
 pub fn step_sorted(
     code: &[Instruction],
     input: &Input,

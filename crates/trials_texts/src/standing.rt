@@ -1,4 +1,4 @@
-//! Whether values may be at a place.
+//! Whether values are allowed at a place.
 
 ghost use Rattle.std.specs.Prelude.{◌≡◌, ◌↔◌, IsTrue, map};
 ghost use Rattle.turn_code.specs.Values.{sort_of};
@@ -8,7 +8,7 @@ ghost use Rattle.trials_texts.specs.Holding.{HoldAt};
 
 use turn_code::{DraftPiece, Sort, Value, VariableNumber, VariableSet};
 
-/// Whether what is claimed of a place of a piece holds of these operands, the topmost first, and of these variables.
+/// Whether these operands, topmost first, and variables satisfy the claims about a place of a piece.
 pub fn hold_at(
     piece: &DraftPiece,
     place: usize,

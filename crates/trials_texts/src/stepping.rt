@@ -9,14 +9,14 @@ use turn_check::Verified;
 use turn_code::{Input, Place, ProcessNumber, Value};
 use turn_machine::{After, Piece, Words, step_bare};
 
-/// What a step on words gave, and the words then.
+/// The result of a step on words, and the words after it.
 #[derive(Clone, Copy)]
 pub struct Stepped {
     pub after: After,
     pub words: Words,
 }
 
-/// A step on words at a place of a transition's code, with these operands, the topmost first; none where they may not be there.
+/// A step on words at a place of a transition's code. `None` if the operands, topmost first, aren't allowed there.
 pub fn step_words(
     set: &Verified,
     process: ProcessNumber,

@@ -1,4 +1,4 @@
-//! Both steps at each place of a set.
+//! Runs both steppers at each place of a set.
 
 use crate::alike::are_alike;
 use crate::inputs::{input_of, operands_of};
@@ -7,7 +7,7 @@ use crate::stepping::step_words;
 use turn_check::{Transition, Verified};
 use turn_code::{Place, ProcessNumber, StateNumber};
 
-/// How many steps there were, in how many the two gave something else, and at how many places and turns there was none.
+/// How many steps were alike, how many were not, and for how many places and turns there was none.
 #[derive(Clone, Copy, PartialEq, Eq, Debug)]
 pub struct Tally {
     pub steps: u32,
@@ -16,7 +16,7 @@ pub struct Tally {
 }
 
 impl Tally {
-    /// One place and turn more.
+    /// Counts one more place and turn.
     fn add(&mut self, alike: Option<bool>) {
         match alike {
             Some(true) => self.steps = self.steps.wrapping_add(1),
@@ -26,7 +26,7 @@ impl Tally {
     }
 }
 
-/// Whether both steps at a place of a transition's code give the same in a turn; none where no values may be there.
+/// Whether both steps at a place of a transition's code are alike in a turn; `None` if no values are allowed there.
 fn alike_at(
     set: &Verified,
     process: ProcessNumber,
@@ -50,7 +50,7 @@ fn alike_at(
     Some(are_alike(sorted, &mut machine, &stepped, input.sender))
 }
 
-/// Both steps at each place of a transition's code, in sixteen turns.
+/// Counts both steps at each place of a transition's code, in sixteen turns.
 fn step_all(
     tally: &mut Tally,
     set: &Verified,
@@ -66,7 +66,7 @@ fn step_all(
     }
 }
 
-/// The same of an input's transition, if it is there.
+/// Counts the steps of an input's transition, if it exists.
 fn step_input(
     tally: &mut Tally,
     set: &Verified,
@@ -79,7 +79,7 @@ fn step_input(
     }
 }
 
-/// The same of all transitions of a process.
+/// Counts the steps of all transitions of a process.
 fn step_process(tally: &mut Tally, set: &Verified, process: ProcessNumber) {
     step_input(tally, set, process, Place::Start, 0);
     for state in 0..set.state_count(process).min(256) {
@@ -90,7 +90,7 @@ fn step_process(tally: &mut Tally, set: &Verified, process: ProcessNumber) {
     }
 }
 
-/// The same of all transitions of a set.
+/// Counts the steps of all transitions of a set.
 pub fn tally_of(set: &Verified) -> Tally {
     let mut tally = Tally {
         steps: 0,

@@ -1,10 +1,10 @@
-//! Texts, and what each layer makes of them.
+//! Texts, and functions that read them.
 use sdl_ast::Block;
 use sdl_lex::tokens;
 use sdl_tree::parse;
 use std::alloc::Global;
 
-/// Up(Integer) adds to a total.
+/// A process that adds each Up(Integer) to a total.
 pub const COUNTER: &str = "BLOCK B; SIGNAL Up(Integer);
 SIGNALROUTE r FROM ENV TO P WITH Up;
 PROCESS P (1,1); DCL n, total Integer;
@@ -13,7 +13,7 @@ STATE Run; INPUT Up(n); TASK total := total + n; NEXTSTATE Run;
 ENDSTATE Run; ENDPROCESS P; ENDBLOCK B;
 ";
 
-/// The tree of a text, where it has one.
+/// The tree of a text, if it has one.
 pub fn read(alloc: Global, text: &str) -> Option<Block> {
     let found = tokens(alloc, text).ok()?;
     parse(alloc, found.as_slice()).ok()

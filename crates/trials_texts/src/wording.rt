@@ -1,4 +1,4 @@
-//! Words of values.
+//! Words that represent values.
 
 ghost use Rattle.std.specs.Prelude.{◌≡◌, ℕ, ◌<◌, ◌≤◌, [], List, Option as Maybe, Some, length, slice_get};
 ghost use Rattle.turn_check.specs.Bare.{bare_of, pushed};
@@ -10,7 +10,7 @@ ghost use Rattle.turn_machine.specs.Wording.{kept_value, IsKeptTo};
 use turn_code::{Input, Value};
 use turn_machine::Words;
 
-/// The words of an input, with these operands, the topmost first.
+/// The words of an input, with these operands, topmost first.
 pub fn words_with(input: &Input, operands: &[Value]) -> Words
     requires { length operands.now ≤ MOST_OPERANDS }
     ensures { AreWordsOf (bare_of result) operands.now input.now.variables.items input.now.parameters.items }
@@ -20,7 +20,7 @@ pub fn words_with(input: &Input, operands: &[Value]) -> Words
     words
 }
 
-/// Puts operands on words that have none.
+/// Adds operands to words that have none.
 fn put_all(words: &mut Words, operands: &[Value])
     requires few { length operands.now ≤ MOST_OPERANDS }
     requires none { words.old.depth ≡ 0 }
@@ -36,7 +36,7 @@ fn put_all(words: &mut Words, operands: &[Value])
     }
 }
 
-/// A word more on top.
+/// Pushes a word as the topmost operand.
 fn push(words: &mut Words, word: i32)
     requires { words.old.depth < MOST_OPERANDS }
     ensures { bare_of words.new ≡ pushed (bare_of words.old) word }
@@ -45,7 +45,7 @@ fn push(words: &mut Words, word: i32)
     words.depth += 1;
 }
 
-/// The words of an input, with no operand.
+/// The words of an input, without operands.
 fn words_of(input: &Input) -> Words
     ensures words { AreWordsOf (bare_of result) [] input.now.variables.items input.now.parameters.items }
     ensures none { result.depth ≡ 0 }
@@ -63,7 +63,7 @@ fn words_of(input: &Input) -> Words
     words
 }
 
-/// The words of parameters, and 0 behind them.
+/// The words of parameters, followed by zeros.
 fn words_of_parameters(values: &[Value]) -> [i32; 4]
     requires { length values.now ≤ MOST_PARAMETERS }
     ensures { (j : ℕ) (x : AnyValue) → slice_get values.now j ≡ Some x → slice_get result j ≡ Some (word_of x) }
@@ -76,7 +76,7 @@ fn words_of_parameters(values: &[Value]) -> [i32; 4]
     words
 }
 
-/// Keeps the values of variables, where no variable is set yet.
+/// Stores the values of variables. No variable may be set before.
 fn keep_all(words: &mut Words, values: &[Option<Value>])
     requires few { length values.now ≤ MOST_VARIABLES }
     requires none { words.old.set ≡ 0 }
@@ -88,7 +88,7 @@ fn keep_all(words: &mut Words, values: &[Option<Value>])
     }
 }
 
-/// Keeps the value of a variable, if it has one.
+/// Stores the value of a variable, if it has one.
 fn keep(words: &mut Words, variable: usize, value: Option<Value>)
     requires { variable < MOST_VARIABLES }
     ensures { bare_of words.new ≡ kept_value (bare_of words.old) variable value }
@@ -103,7 +103,7 @@ fn keep(words: &mut Words, variable: usize, value: Option<Value>)
     }
 }
 
-/// The word of a value.
+/// The word that represents a value.
 pub fn word_of(value: Value) -> i32
     ensures { result ≡ word_of value }
 {

@@ -5,7 +5,7 @@ use Rattle.std.proofs.lemmas.Nat.Bits.{bit_at_above}
 use Rattle.turn_machine.specs.Fitting.{IsSetAt}
 use Rattle.trials_texts.proofs.standing.are_set.Goals as goal
 
--- no set of 32 bits has a variable from 32 on
+-- A set of 32 bits has no variable numbered 32 or above.
 all_set : (s n : ℕ) (P : ℕ → Type 0) → s < 2 ^ 32 → 32 ≤ n → ((v : ℕ) → v < n → bit_at s v ≡ 1 → P v) → (v : ℕ) → bit_at s v ≡ 1 → P v
 all_set s n P small long below v h =
     ⊎_elim
