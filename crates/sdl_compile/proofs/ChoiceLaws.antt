@@ -1,4 +1,4 @@
--- Answers that name truth values: one of both is there, and the sort of the question says which answers there are.
+-- Answers that name truth values: one of the two has an answer, and the sort of the question decides the answers.
 use Rattle.std.proofs.Common.{◌≡◌, ◌+◌, ◌<◌, Bool, true, false, cond, ◌&&◌, List, [], ◌∷◌, ◌⊎◌, inl, inr, Some, refl, arith, nat_lt, nat_eq}
 use Rattle.std.specs.List.{list_any, sum_by}
 use Rattle.std.proofs.lemmas.Bool.Decides.{nat_tests}

@@ -17,7 +17,7 @@ use Rattle.sdl_facts.specs.Entries.{entry_at, end_met, met, answers_met, else_me
 use Rattle.sdl_meaning.proofs.Branches.{EachEnd, EachJoin, ChoiceJoin}
 use Rattle.sdl_compile.proofs.UnsetLaws.{meet_front, meet_back}
 
--- each set is within the one at the same place
+-- Each set is within the one at the same place.
 abbrev pub Shrinks : List VariableSet → List VariableSet → Type 0
 Shrinks es fs = (k : ℕ) → IsWithin (entry_at fs k) (entry_at es k)
 
@@ -49,7 +49,7 @@ module _ (c : Scope) where
   abbrev pub number_at : Identifier → ℕ
   number_at id = number_or_zero (connector_at c id)
 
-  -- ---- each JOIN's set has that of its connection in it
+  -- ---- the set at each JOIN includes that of its connection
 
   abbrev pub EndFits : List VariableSet → VariableSet → End → Type 0
   EndFits es m (NextState n) = Unit {0}
@@ -68,7 +68,7 @@ module _ (c : Scope) where
     ChoiceFits es m (otherwise body) = TextFits es m body
     ChoiceFits es m (answer at ranges body others) = TextFits es m body × ChoiceFits es m others
 
-  -- those of the answers, and that of ELSE
+  -- The sets at the JOINs of the answers, and of ELSE.
   abbrev AnswersFits : List VariableSet → VariableSet → Choice → Type 0
   AnswersFits es m nothing_else = Unit {0}
   AnswersFits es m (otherwise body) = Unit {0}
@@ -112,7 +112,7 @@ module _ (c : Scope) where
     else_less m (otherwise body) h = fits_less m body h
     else_less m (answer at ranges body others) h = else_less m others h
 
-  -- ---- one text makes the sets less
+  -- ---- one text makes the sets smaller
 
   by_sort : (P : List VariableSet → Type 0) (b : Bool) (es fs : List VariableSet) → P es → P fs → P (cond b es fs)
   by_sort P true es fs h k = h
@@ -144,7 +144,7 @@ module _ (c : Scope) where
     else_shrinks m (otherwise body) es k v has = met_shrinks m body es k v has
     else_shrinks m (answer at ranges body others) es k v has = else_shrinks m others es k v has
 
-  -- ---- and changes that of no connection to which it has no JOIN
+  -- ---- and changes only the sets of the connections to which it has a JOIN
 
   abbrev pub IsOther : ℕ → tree_join.Join → Type 0
   IsOther k j = number_at j.connector ≡ k → ⊥
@@ -176,7 +176,7 @@ module _ (c : Scope) where
       else_apart m (otherwise body) es h = met_apart m body es h
       else_apart m (answer at ranges body others) es h = else_apart m others es h.1
 
-  -- ---- its JOINs fit
+  -- ---- the JOINs of a text fit
 
   end_length : (m : VariableSet) (e : End) (es : List VariableSet) → length (end_met c m e es) ≡ length es
   end_length m (NextState n) es = refl
@@ -204,7 +204,7 @@ module _ (c : Scope) where
     else_length m (otherwise body) es = met_length m body es
     else_length m (answer at ranges body others) es = else_length m others es
 
-  -- the connection of a JOIN has a set
+  -- The connection of a JOIN has a set.
   abbrev pub IsIn : ℕ → tree_join.Join → Type 0
   IsIn n j = number_at j.connector < n
 
@@ -253,7 +253,7 @@ module _ (c : Scope) where
 
   -- ---- one connection after another
 
-  -- the text of no connection has a JOIN to one of these, where each comes before those that join it
+  -- No connection has a JOIN to connection n, if each comes before those that join it.
   abbrev pub JoinsNone : List ℕ → ℕ → Type 0
   JoinsNone [] n = Unit {0}
   JoinsNone (m ∷ ms) n = ((k : PlainConnection) → slice_get c.process.connections n ≡ Some k → EachJoin (IsOther m) k.text) × JoinsNone ms n
@@ -262,7 +262,7 @@ module _ (c : Scope) where
   AreApart [] = Unit {0}
   AreApart (n ∷ ns) = JoinsNone (n ∷ ns) n × AreApart ns
 
-  -- the connection with this number fits
+  -- The connection with this number fits.
   abbrev pub Fits : List VariableSet → ℕ → Type 0
   Fits es n = (k : PlainConnection) → slice_get c.process.connections n ≡ Some k → TextFits es (entry_at es n) k.text
 
@@ -299,7 +299,7 @@ module _ (c : Scope) where
   connections_length [] es = refl
   connections_length (n ∷ ns) es = connection_length n (connections_met c ns es) ∙ connections_length ns es
 
-  -- those behind keep their sets
+  -- The connections that come later keep their sets.
   still_fit : (n : ℕ) (es : List VariableSet) (ns : List ℕ) → JoinsNone ns n → AllFit es ns → AllFit (connection_met c n es) ns
   still_fit n es [] apart h = tt
   still_fit n es (m ∷ ns) apart h = (
@@ -307,7 +307,7 @@ module _ (c : Scope) where
     still_fit n es ns apart.1 h.1,
   )
 
-  -- its own JOINs fit
+  -- The JOINs of the connection itself fit.
   connection_fits : (n : ℕ) (es : List VariableSet) → ((k : PlainConnection) → slice_get c.process.connections n ≡ Some k → EachJoin (IsOther n) k.text × EachJoin (IsIn (length es)) k.text) → Fits (connection_met c n es) n
   connection_fits n es h k at =
       let own : connection_met c n es ≡ met c (entry_at es n) k.text es = ap (λ o. option_map_or (λ (x : PlainConnection). met c (entry_at es n) x.text es) o es) at in

@@ -1,5 +1,5 @@
--- Each place of a text with DECISIONs is right: its instruction finds what it takes, and what it leaves is what is claimed of
--- each place where the code goes on.
+-- Each place of a text with DECISIONs is right: its instruction has what it requires, and what it leaves agrees with
+-- the claims about each place where the code goes on.
 use Rattle.std.proofs.Common.{◌≡◌, ℕ, ◌+◌, ◌<◌, Bool, true, false, cond, ◌||◌, List, [], ◌∷◌, ◌++◌, ◌⊎◌, inl, inr, ⊎_elim, length, Some, refl, sym, ap, ◌∙◌, subst, arith, length-append, append_assoc}
 use Rattle.std.proofs.Math.Bool.{or-true}
 use Rattle.std.specs.List.{list_any}
@@ -72,11 +72,11 @@ module _ (d : Draft) (t : Transition) (all : List Spot) where
     abbrev vs : List Variable
     vs = variables_of c.process
 
-    -- the connection of a JOIN begins with its set
+    -- The connection of a JOIN begins with its set.
     abbrev pub Begins : tree_join.Join → Type 0
     Begins j = Enters d t all [] (entry_at es (number_at c j.connector)) (to (number_at c j.connector))
 
-    -- a jump
+    -- A jump.
     jumped : (n k : ℕ) (m : VariableSet) → HasSpots d t all k (O d t all [] m (jump n ∷ [])) → Enters d t all [] m n → Stretch d t all k [] m (O d t all [] m (jump n ∷ [])) []
     jumped n k m has enters = single d t all (jump n) [] m k (jump_right d t c stands n m) has (All-nil (Enters d t all [] m)) (one_at (Enters d t all [] m) n enters)
 
@@ -89,7 +89,7 @@ module _ (d : Draft) (t : Transition) (all : List Spot) where
         let n = number_at c j.connector in
         jumped (to n) k m has (enters_more d t all [] (entry_at es n) m (to n) fits joins)
 
-    -- a body with what ends it
+    -- A body with the jump that ends it.
     body_fine : (body : Text) (k mid n end : ℕ) (m : VariableSet) → k + size vs body ≡ mid → mid + jump_size body ≡ n → HasSpots d t all k (T k m body ++ Leave end (left c m body) body)
         → (HasSpots d t all k (T k m body) → (goes_on body ≡ true → Enters d t all [] (left c m body) mid) → Stretch d t all k [] m (T k m body) [])
         → (goes_on body ≡ true → Enters d t all [] (left c m body) end)
@@ -107,7 +107,7 @@ module _ (d : Draft) (t : Transition) (all : List Spot) where
         by_going true g has = let s = jumped end mid (left c m body) has (enters g) in ((s.fine, s.chain), λ _. s.enters)
         by_going false g has = ((tt, refl), λ h. absurd (let k : ⊥ = cc in k))
 
-    -- code of which it is known what it leaves
+    -- Straight code with known operands and sets after it.
     pub stretch : (code : List Instruction) (s s2 : List Sort) (m m2 : VariableSet) (k n dp co ef : ℕ) → Leads d.signals t.process.variables t.parameters s m code s2 m2 dp co ef → k + length code ≡ n → AreRight d t s m code → HasSpots d t all k (O d t all s m code)
         → Enters d t all s2 m2 n → Stretch d t all k s m (O d t all s m code) s2
     stretch code s s2 m m2 k n dp co ef leads e right has enters =
@@ -117,13 +117,13 @@ module _ (d : Draft) (t : Transition) (all : List Spot) where
 
     -- ---- the tests of an Integer DECISION
 
-    -- the bodies of its answers, from a place on, begin with this set
+    -- The bodies of the answers, from place n on, begin with this set.
     abbrev AnswersEnter : VariableSet → ℕ → Choice → Type 0
     AnswersEnter m n nothing_else = Unit {0}
     AnswersEnter m n (otherwise body) = Unit {0}
     AnswersEnter m n (answer at rs body others) = Enters d t all [] m n × AnswersEnter m (n + body_size c body) others
 
-    -- and so do those of all
+    -- The bodies of all answers and of ELSE begin with this set.
     abbrev AllEnter : VariableSet → ℕ → Choice → Type 0
     AllEnter m n nothing_else = Unit {0}
     AllEnter m n (otherwise body) = Enters d t all [] m n
@@ -132,7 +132,7 @@ module _ (d : Draft) (t : Transition) (all : List Spot) where
     abbrev Number : List Sort
     Number = Integer ∷ []
 
-    -- a test in front of what is right
+    -- A test before code that is right.
     test_fine : (r : Range) (k n : ℕ) (m : VariableSet) (code : List Instruction) → Enters d t all [] m n → HasSpots d t all k (O d t all Number m (range_code n r ∷ code)) → (HasSpots d t all (k + 1) (O d t all Number m code) → Stretch d t all (k + 1) Number m (O d t all Number m code) [])
         → Stretch d t all k Number m (O d t all Number m (range_code n r ∷ code)) []
     test_fine (ranges.Value v) k n m code enters has more =
@@ -200,12 +200,12 @@ module _ (d : Draft) (t : Transition) (all : List Spot) where
         single d t all x (Boolean ∷ []) m k right has (All-nil (Enters d t all [] m))
         (two_at (Enters d t all [] m) (picked c n choice false) (picked c n choice true) (picked_enters choice n m false (both_named choice false answered) entered) (picked_enters choice n m true (both_named choice true answered) entered))
 
-    -- ---- a DECISION behind its question
+    -- ---- a DECISION after its question
 
     abbrev Going : VariableSet → ℕ → Choice → Type 0
     Going m end choice = choice_goes_on choice ≡ true → Enters d t all [] (choice_left c m choice) end
 
-    -- what follows: nothing where no body goes on
+    -- What follows a DECISION: nothing if no body goes on.
     after_fine : (choice : Choice) (rest : Text) (n : ℕ) (m : VariableSet) → (choice_goes_on choice ≡ false → rest ≡ falls) → (choice_goes_on choice ≡ true → Stretch d t all n [] (choice_left c m choice) (T n (choice_left c m choice) rest) [])
         → (AllFine d t all n (T n (choice_left c m choice) rest) × Chain d t all [] (T n (choice_left c m choice) rest) []) × Going m n choice
     after_fine choice rest n m none some = by_going (choice_goes_on choice) refl
@@ -217,7 +217,7 @@ module _ (d : Draft) (t : Transition) (all : List Spot) where
           λ h. not_true (choice_goes_on choice) h e,
         )
 
-    -- what is known of bodies one behind another
+    -- Bodies one after another.
     record Parts (k : ℕ) (spots : List Spot) (E : Type 0) : Type 0 where
       fine : AllFine d t all k spots
       entered : E
@@ -258,7 +258,7 @@ module _ (d : Draft) (t : Transition) (all : List Spot) where
           chain = chain_append d t all tests (a ++ b) Number [] [] first.chain (chain_append d t all a b [] [] [] one.chain others.chain);
         }
 
-    -- a DECISION whose parts are right
+    -- A DECISION whose parts are right.
     decision_fine : (q : Tree) (choice : Choice) (rest : Text) (k p n : ℕ) (m : VariableSet) (a1 a2 : List Spot) → k + cost_of q ≡ p
         → NamedTree c q → is_answered vs q choice ≡ true → RightTree c q → ReadTree c m q
         → HasSpots d t all k (O d t all [] m (tree_code c q) ++ (cond (is_truth c q) a1 a2 ++ T n (choice_left c m choice) rest))
@@ -292,7 +292,7 @@ module _ (d : Draft) (t : Transition) (all : List Spot) where
             subst (λ r. Stretch d t all p (r ∷ []) m a2 []) (sym (number_sort s (sym g ∙ f))) (numbers f (answered_number (is_truth c q) (answers_both choice) (has_else choice) f (and_second (has_values choice) (cond (is_truth c q) (answers_both choice) (has_else choice)) answered)) has)
 
     mutual
-      -- a text at a place, where what follows it stands at another one
+      -- A text at place k, followed by code at place n.
       pub text_fine : (u : Text) (k n : ℕ) (m : VariableSet) → k + size vs u ≡ n → HasSpots d t all k (T k m u) → NamedText c u → RightText c is u → ReadText c t.process.states m u → TextFits c es m u → EachJoin Begins u
           → (goes_on u ≡ true → Enters d t all [] (left c m u) n) → Stretch d t all k [] m (T k m u) []
       text_fine falls k n m e has named right read fits joins enters = let f : n ≡ k = omega (arith, e) in record { fine = tt; enters = subst (Enters d t all [] m) f (enters refl); chain = refl }

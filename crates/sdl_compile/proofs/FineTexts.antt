@@ -1,4 +1,4 @@
--- What is right in the texts of a process, for one origin and for several.
+-- Texts of a process that break no rule, for one origin and for several.
 use Rattle.std.proofs.Common.{◌≡◌, ℕ, ◌+◌, ◌≤◌, true, false, cond, ◌&&◌, List, [], ◌∷◌, ◌++◌, length, Option, Some, None, refl, ap, ◌∙◌, arith, nat_lt}
 use Rattle.std.specs.Prelude.{nat_eq}
 use Rattle.std.specs.List.{flat_map, list_any}
@@ -48,14 +48,14 @@ small_pieces c qs law e f g = by_piece qs (each_false (λ q. nat_lt 512 (piece_s
     by_piece [] e f g = tt
     by_piece (q ∷ qs) e f g = (small_piece c q (law q.text) e.0 f.0 g.0, by_piece qs e.1 f.1 g.1)
 
--- ---- what is right in a text
+-- ---- texts that break no rule
 
--- no rule is broken in a text to which what begins so comes; a place tells where it runs off its end
+-- A text with these origins breaks no rule; `at` is the place to report if it runs off its end.
 pub record FineText (c : Scope) (is : List Origin) (at : ℕ) (t : Text) : Type 0 where
   pub statements : Each (FineStatement c is) (statements_of t)
   pub ended : strays (states_of c.process) (at ∷ []) t ≡ []
 
--- nor in the connections to which the text comes, with what begins so
+-- Nor do the connections to which the text leads, with this origin.
 abbrev pub FineReached : Scope → Origin → Text → PlainConnection → Type 0
 FineReached c o t k = reaches c.process t k.name.name ≡ true → Each (FineStatement c (o ∷ [])) (statements_of k.text)
 
@@ -84,7 +84,7 @@ pub record FineProcess (c : Scope) : Type 0 where
   pub distinct : repeats [] (variable_names c.process) ≡ []
   pub connectors : repeats [] (connector_names c.process) ≡ []
 
--- the lists of places of each rule, statement by statement
+-- The lists of places of each rule, statement by statement.
 module _ (c : Scope) (is : List Origin) where
   abbrev NoneIn : (Statement → List ℕ) → List Statement → Type 0
   NoneIn f ss = flat_map f ss ≡ []
@@ -101,7 +101,7 @@ module _ (c : Scope) (is : List Origin) where
       by_statement (s ∷ ss) u w l d a v =
           (record { named = u.0; sorted = w.0; received = l.0; single = d.0; answered = a.0; divided = v.0 }, by_statement ss u.1 w.1 l.1 d.1 a.1 v.1)
 
-  -- what each statement has, all have
+  -- What holds of each statement holds of all.
   pub all_sorted : (ss : List Statement) → Each (FineStatement c is) ss → NoneIn (wrong_statement c.block (variables_of c.process)) ss
   all_sorted [] fine = refl
   all_sorted (s ∷ ss) fine = both_nil (wrong_statement c.block (variables_of c.process) s) (flat_map (wrong_statement c.block (variables_of c.process)) ss) fine.0.sorted (all_sorted ss fine.1)

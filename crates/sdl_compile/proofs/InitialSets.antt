@@ -1,4 +1,4 @@
--- Lists by place, which variables are set from the start, and the sorts of initial values.
+-- Lists by place, the variables that are set from the start, and the sorts of initial values.
 use Rattle.std.proofs.Common.{◌≡◌, ℕ, zero, suc, ◌+◌, ◌-◌, ◌*◌, ◌^◌, ◌<◌, Bool, true, false, ◌||◌, ◌&&◌, cond, List, [], ◌∷◌, ◌++◌, Option, Some, None, map, refl, sym, ap, ◌∙◌, subst, arith}
 use Rattle.std.specs.Prelude.{slice_get, All, is_some, option_map, IfSome}
 use Rattle.std.specs.Int.{bit_at}
@@ -27,7 +27,7 @@ use Rattle.plain_laws.proofs.Lists.{append-nil_left as nil_front, append-nil_rig
 
 -- ---- lists by place
 
--- what stands beside an item
+-- The item paired with y at place k.
 pub record Beside {A B : Type 0} (R : A → B → Type 0) (xs : List A) (k : ℕ) (y : B) : Type 0 where
   pub item : A
   pub there : slice_get xs k ≡ Some item
@@ -58,7 +58,7 @@ all_ready_at c (js ∷ iss) (suc k) is h e = all_ready_at c iss k is h.1 e
 
 -- ---- initial values
 
--- a variable with an initial value, whose name is this one
+-- A variable with this name and an initial value.
 pub record StartsSet (vs : List Variable) (x : List ℕ) : Type 0 where
   pub number : ℕ
   pub name : Identifier
@@ -66,7 +66,7 @@ pub record StartsSet (vs : List Variable) (x : List ℕ) : Type 0 where
   pub same : same_name x name.name ≡ true
   pub set : Has (initial_set (map drafted vs)) number
 
--- bit v of the set of all these variables is that of the first, or bit v - 1 of the set of the others
+-- Bit v of the set of all variables is that of the first variable, or bit v - 1 of the set of the others.
 bit_first : (b n : ℕ) → b < 2 → bit_at (b + 2 * n) 0 ≡ b
 bit_first b n small = bit_at_lowest (b + 2 * n) ∙ omega arith
 

@@ -1,4 +1,4 @@
--- What is said of the counts of a piece is what a valid draft keeps.
+-- The claims about the counts of a piece are those that a valid draft keeps.
 use Rattle.std.proofs.Common.{◌≡◌, ℕ, zero, suc, ◌+◌, ◌≤◌, List, [], ◌∷◌, length, map, refl, sym, ap, ◌∙◌}
 use Rattle.std.specs.Prelude.{slice_get}
 use Rattle.turn_code.specs.declared.draft.PlaceFacts.{PlaceFacts}
@@ -41,7 +41,7 @@ keeps_counts c q t h longest deep k =
           ∙ ap (λ n. weight Effects i + n) (same_greatest (number_at (map (λ (f : PlaceFacts). f.effects) fs)) (λ j. effects_in (slice_get fs j)) (successors i k) (effects_at_is fs));
     }
 
--- the piece of a transition keeps its counts and its certificate
+-- The piece of a transition keeps its counts and its certificate.
 pub piece_keeps : (c : Scope) (q : Piece) (t : Transition) → NamedPiece c q → AreSorted c q.text → length q.places ≤ length t.parameters → IsPieceOf c t.parameters t.entry q t.piece → (k : ℕ) → KeepsCounts t k
 piece_keeps c q t named fits le made =
     keeps_counts c q t made.counted made.certificate

@@ -1,4 +1,4 @@
--- A text none of whose names is unknown, whose sorts and receivers are right, and that doesn't run off its end, has all that the compiler asks of names.
+-- A text with known names, right sorts and receivers, and no open end has all that the compiler requires of names.
 use Rattle.std.proofs.Common.{◌≡◌, ℕ, ◌+◌, ◌<◌, ◌≤◌, Bool, true, false, not, cond, ◌||◌, ◌&&◌, List, [], ◌∷◌, ◌++◌, length, Option, Some, None, IsSome, refl, sym, ap, ◌∙◌, subst, arith, nat_lt}
 use Rattle.std.specs.Prelude.{zip}
 use Rattle.std.specs.List.{list_any, flat_map, position, position_or_len, prefix_len}
@@ -31,7 +31,7 @@ use Rattle.sdl_meaning.proofs.Sorting.{passed}
 use Rattle.sdl_compile.proofs.Actions.{as_many}
 use Rattle.plain_laws.proofs.Lists.{append-nil_left as nil_front, append-nil_right as nil_back}
 
--- a list has an item that passes: the first one has a place
+-- If a list has an item that passes, the first such item has a place.
 before_end : {A : Type 0} (p : A → Bool) (xs : List A) → list_any p xs ≡ true → prefix_len (λ x. not (p x)) xs < length xs
 before_end p [] e = absurd (let k : ⊥ = cc in k)
 before_end p (x ∷ xs) e = by_first (p x) e (before_end p xs)
@@ -69,7 +69,7 @@ none_some : (o : Option ℕ) → o ≡ None → IsSome o → ⊥
 none_some None e h = let k : ⊥ = cc in k
 none_some (Some v) e h = let k : ⊥ = cc in k
 
--- a name among the signals and timers
+-- A name among the signals and timers.
 pub trigger_known : (c : Scope) (id : Identifier) → is_in (trigger_names c.block c.process) id.name ≡ true → IsTrigger c id
 trigger_known c id e none =
     by_signal (is_in (signal_names c.block) id.name) refl (sym (list_any-append (λ (n : Identifier). same_name id.name n.name) (signal_names c.block) (timers_of c.process)) ∙ e)
@@ -78,7 +78,7 @@ trigger_known c id e none =
     by_signal true f h = absurd (none_some (number_of (signal_names c.block) id.name) none (has_number (signal_names c.block) id.name f))
     by_signal false f h = has_number (timers_of c.process) id.name h
 
--- No rule is broken in a statement, to which what begins so comes.
+-- A statement with these origins breaks no rule.
 pub record FineStatement (c : Scope) (is : List Origin) (s : Statement) : Type 0 where
   pub named : statement_unknown c.block c.process s ≡ []
   pub sorted : wrong_statement c.block (variables_of c.process) s ≡ []
@@ -87,7 +87,7 @@ pub record FineStatement (c : Scope) (is : List Origin) (s : Statement) : Type 0
   pub answered : statement_unanswered (variables_of c.process) s ≡ []
   pub divided : statement_divisors s ≡ []
 
--- a text that is named where it runs off its end doesn't do so
+-- If the rule reports no place for the end of a text, the text doesn't run off its end.
 pub text_ends : (states : List Identifier) (at : ℕ) (t : Text) → strays states (at ∷ []) t ≡ [] → goes_on t ≡ false
 text_ends states at falls e = absurd (let k : ⊥ = cc in k)
 text_ends states at (ends t) e = refl
@@ -170,7 +170,7 @@ module _ (c : Scope) where
         (named_tree t (known (variable_names c.process) (tree_names t) (nil_front a b u)), (known (timers_of c.process) (n ∷ []) (nil_back a b u)).0)
     named_action (reset_timer at n) u w l d = (known (timers_of c.process) (n ∷ []) u).0
 
-    -- no rule is broken in a statement, for what comes there
+    -- A statement breaks no rule, for its origins.
     named_end : (e : End) → statement_unknown c.block c.process (finishes e) ≡ [] → stray_end (states_of c.process) e ≡ [] → NamedEnd c e
     named_end (NextState n) u s = has_number (states_of c.process) n.state.name (passed (is_in (states_of c.process) n.state.name) n.at s)
     named_end (Stop at) u s = tt
@@ -188,7 +188,7 @@ module _ (c : Scope) where
     nothing_first (does a rest) e = absurd (let k : ⊥ = cc in k)
     nothing_first (decides at q choice rest) e = absurd (let k : ⊥ = cc in k)
 
-    -- what stands behind a DECISION
+    -- What follows a DECISION.
     behind_reached : (off : List ℕ) (choice : Choice) (rest : Text) → cond (choice_goes_on choice) (strays (states_of c.process) off rest) (first_place rest ++ strays (states_of c.process) [] rest) ≡ [] → choice_goes_on choice ≡ false → rest ≡ falls
     behind_reached off choice rest e f =
         let states = states_of c.process in

@@ -1,4 +1,4 @@
--- What may happen to a variable in a transition of a sound process, where its sets are settled.
+-- The chances of a variable in a transition of a sound process with settled sets.
 use Rattle.std.proofs.Common.{ℕ, List, inl, inr, refl, sym, ap, subst}
 use Rattle.std.specs.Prelude.{Contains}
 use Rattle.std.specs.List.{enumerate_from}

@@ -1,4 +1,4 @@
--- What a piece is made of, for the function that makes it.
+-- The parts of a piece, for the function that makes it.
 use Rattle.std.proofs.Common.{◌≡◌, ℕ, ◌<◌, List, [], ◌∷◌, length, map, get_or, refl, sym, ap, ◌∙◌, subst}
 use Rattle.std.proofs.lemmas.List.{length-map}
 use Rattle.std.proofs.lemmas.List.Elements.{Contains-get_or}
@@ -26,13 +26,13 @@ use Rattle.sdl_compile.proofs.Depths.{facts_deep}
 use Rattle.sdl_meaning.proofs.Reached.{placed_stands}
 use Rattle.turn_code.proofs.Lists.{within as there_within}
 
--- the connections of a piece are there
+-- The connections of a piece exist.
 pub placed_within : (c : Scope) (q : Piece) (ns : List ℕ) → NamedPiece c q → ArePlaced c q.text ns → (k d : ℕ) → k < length ns → get_or ns k d < length c.process.connections
 placed_within c q ns named placed k d lt =
     let s = placed_stands c named.connections q.text named.text.text ns placed (get_or ns k d) (Contains-get_or ns k d lt) in
     there_within c.process.connections (get_or ns k d) s.connection s.there
 
--- there is a set for each instruction
+-- There is a set for each instruction.
 pub sets_length : (c : Scope) (m : VariableSet) (q : Piece) (order ns : List ℕ) → length (piece_sets c m q order ns) ≡ length (piece_code c q ns)
 sets_length c m q order ns =
     let es = piece_entries c m q order in
@@ -47,7 +47,7 @@ pub first_effects_are : (fs : List PlaceFacts) → effects_from fs ≡ number_at
 first_effects_are [] = refl
 first_effects_are (f ∷ fs) = refl
 
--- the piece, made of its code, its facts and its certificate
+-- The piece, made of its code, its facts and its certificate.
 module _ (c : Scope) (q : Piece) (ps : List Sort) (entry : VariableSet) (ready : IsReadyPiece c q ps) (ns : List ℕ) (placed : ArePlaced c q.text ns) (code : List Instruction) (is : code ≡ piece_code c q ns) (fs : List PlaceFacts) where
   pub is_deep : map (λ (f : PlaceFacts). f.shape) fs ≡ shapes_from (drafted_signals c.block) (drafted_variables c.process) ps [] code → greatest (depths fs) ≡ piece_depth c.process q
   is_deep shaped = facts_deep c ps q ns placed ready.named ready.sorted ready.places code fs is shaped

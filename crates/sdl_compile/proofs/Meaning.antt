@@ -1,4 +1,4 @@
--- The run of a draft's transition on an input that fits it is what the text means.
+-- The run of a draft's transition on an input that fits it is the meaning of the text.
 use Rattle.std.proofs.Common.{◌≡◌, ℕ, zero, suc, List, [], ◌∷◌, map, Option, Some, None, refl, sym, ap, ◌∙◌, subst}
 use Rattle.std.specs.Prelude.{slice_get, Any}
 use Rattle.std.specs.List.{AllZip}
@@ -36,7 +36,7 @@ use Rattle.sdl_sound.proofs.Items.{Each}
 use Rattle.sdl_compile.proofs.Sent.{sent_by}
 use Rattle.sdl_compile.proofs.Whole.{known_paths}
 
--- the item of the first list that stands where one of the second does
+-- The item of the first list at the place of one of the second.
 pub record Paired {A B : Type 0} (R : A → B → Type 0) (xs : List A) (n : ℕ) (y : B) : Type 0 where
   pub item : A
   pub there : slice_get xs n ≡ Some item
@@ -51,7 +51,7 @@ paired R (x ∷ xs) (z ∷ ys) (suc n) y zips e =
     let r = paired R xs ys n y zips.1 e in record { item = r.item; there = r.there; related = r.related }
 
 module _ (b : PlainBlock) (d : Draft) (matches : MatchesBlock b d) (known : Each (IsKnownPath b) (paths_of b)) where
-  -- who fits may have sent it
+  -- A sender that fits is a possible sender.
   may_send : (n : ℕ) (p : PlainProcess) (id : Identifier) (sender : Option Address) → slice_get (process_names b) n ≡ Some p.name → IsBrought d n (Some (trigger_of (scope_of b p) id)) sender → IsSentTo (scope_of b p) (Some id) sender
   may_send n p id sender at brought = by_number (signal_at (scope_of b p) id) refl sender brought
     where
@@ -112,6 +112,6 @@ module _ (b : PlainBlock) (d : Draft) (matches : MatchesBlock b d) (known : Each
           let r = paired (MatchesProcess b) (processes_of b) d.processes n dp matches.processes f in
           place_meant n s i t x r.item dp r.there (name_at (processes_of b) n r.item r.there) r.related e fits
 
--- what matches a sound block runs as the block means
+-- A draft that matches a sound block runs as the block means.
 pub runs_as_meant : (b : PlainBlock) (d : Draft) → Sound b → MatchesBlock b d → RunsAsMeant b d
 runs_as_meant b d sound matches = record { each = meant b d matches (known_paths b sound) }

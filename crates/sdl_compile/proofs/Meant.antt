@@ -1,4 +1,4 @@
--- A draft that matches a sound block means it as a function, and is certified as the block counts.
+-- A draft that matches a sound block means it as a function, and its certificates are those that the block counts.
 use Rattle.std.proofs.Common.{◌≡◌, ℕ, zero, suc, List, Option, Some, None, refl, sym, ap, ◌∙◌, subst}
 use Rattle.std.specs.Prelude.{slice_get}
 use Rattle.std.specs.Option.{option_map}

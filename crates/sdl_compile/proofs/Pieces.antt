@@ -20,7 +20,7 @@ use Rattle.sdl_compile.specs.Settings.{IsReadyPiece}
 use Rattle.sdl_meaning.proofs.Acts.{run_is_act}
 use Rattle.sdl_meaning.proofs.Reached.{placed_reached}
 
--- an item that passes a test is among those that do
+-- An item that passes a test is among those that pass it.
 kept_there : {A : Type 0} (test : A → Bool) (xs : List A) (n : ℕ) (x : A) → slice_get xs n ≡ Some x → test x ≡ true → Contains (filter test xs) x
 kept_there test [] n x e h = absurd (let k : ⊥ = cc in k)
 kept_there test (y ∷ xs) zero x e h =
@@ -37,7 +37,7 @@ kept_there test (y ∷ xs) (suc n) x e h = by_test (test y) (kept_there test xs 
     by_test false r = r
 
 module _ (c : Scope) (q : Piece) (ps : List Sort) (entry : VariableSet) (ready : IsReadyPiece c q ps) where
-  -- the connections of the piece answer senders, as the text does
+  -- The connections of the piece answer senders, as the text does.
   others_answer : (ns : List ℕ) → ArePlaced c q.text ns → (from : Option Identifier) → AnswersAll c from q.text → (n : ℕ) → Contains ns n → AnswersSenders c from (text_at c n)
   others_answer ns placed from answers n h = by_connection (slice_get c.process.connections n) refl
     where

@@ -1,4 +1,4 @@
--- The transitions of a process that the compiler makes keep every rule.
+-- The transitions that the compiler makes for a process keep every rule.
 use Rattle.std.proofs.Common.{◌≡◌, ℕ, zero, suc, ◌<◌, ◌≤◌, true, false, List, [], ◌∷◌, ◌⊎◌, inl, inr, ⊎_elim, length, Option, Some, None, IsSome, map, refl, sym, ap, ◌∙◌, subst, arith}
 use Rattle.std.specs.Prelude.{slice_get, All, Contains, option_map, zip}
 use Rattle.std.specs.Int.{bit_at}
@@ -70,7 +70,7 @@ use Rattle.plain_laws.proofs.Lists.{append-nil_right as nil_back}
 use Rattle.sdl_sound.proofs.Numbered.{number_alike}
 use Rattle.sdl_compile.proofs.InitialSets.{beside, first_of, ready_at, all_ready_at, starts_set, all_start_right}
 
--- ---- what waits and what is saved is there
+-- ---- the signals and timers that are waited for or saved exist
 
 trigger_params : (c : Scope) (id : Identifier) → trigger_parameters (drafted_signals c.block) (trigger_of c id) ≡ trigger_sorts c id
 trigger_params c id = by_number (number_of (signal_names c.block) id.name) refl
@@ -100,7 +100,7 @@ all_saved c ss d (ids ∷ idss) (q ∷ qs) e f h z =
 
 -- ---- one transition
 
--- what is known of a transition of a draft
+-- The facts known of a transition of a draft.
 pub record IsKnownTransition (c : Scope) (d : Draft) (t : Transition) : Type 0 where
   pub signals : d.signals ≡ drafted_signals c.block
   pub variables : t.process.variables ≡ drafted_variables c.process
@@ -137,13 +137,13 @@ stands_in c d t h = record {
   parameters = λ n some. ap (λ (ss : List DraftSignal). parameters_of (slice_get ss (number_or_zero (signal_at c n)))) h.signals ∙ signal_sorted c.block n.name some;
 }
 
--- what is proved elsewhere of a piece: which connections it has, and what it counts
+-- The facts proved elsewhere of a piece: its connections and its counts.
 pub record IsCounted (c : Scope) (t : Transition) (q : Piece) (ns : List ℕ) : Type 0 where
   pub reached : (n : ℕ) (k : PlainConnection) → Contains ns n → slice_get c.process.connections n ≡ Some k → reaches c.process q.text k.name.name ≡ true
   pub counts : (k : ℕ) → KeepsCounts t k
   pub size : length t.piece.code ≡ piece_size c.process q
 
--- what is set as the transition begins, and what its walks may do
+-- The variables that are set as the transition begins, and those that its walks read.
 pub record IsBegun (c : Scope) (t : Transition) (q : Piece) : Type 0 where
   pub read : (order : List ℕ) → IsOrder c.process order → ReadText c t.process.states (places_set c t.entry q.places) q.text
       × ((n : ℕ) (k : PlainConnection) → slice_get c.process.connections n ≡ Some k → ReadText c t.process.states (entry_at (piece_entries c t.entry q order) n) k.text)
@@ -192,11 +192,11 @@ transition_valid c d t q sorts o at known named small params le placed fine reac
 
 -- ---- a process
 
--- START's transition, or that of an input
+-- The transition of START, or that of an input.
 abbrev pub IsInProcess : PlainProcess → Paths.Transition → Type 0
 IsInProcess p t = (t ≡ start_transition p) ⊎ ((q : ℕ) × (is : List Input) × (k : ℕ) × (i : Input) × (slice_get (inputs_by_state p) q ≡ Some is) × (slice_get is k ≡ Some i) × (t ≡ input_transition i))
 
--- what may happen to each variable that isn't set before its text: what is read was set as it began, and what a state wants too
+-- For variables not set before the text: if one is read, or a state entered has it as set, it was set at the start.
 pub record Tells (c : Scope) (ranges : List ℕ) (before : ℕ) (t : Paths.Transition) : Type 0 where
   pub reads : (v q : ℕ) (id : Identifier) → slice_get (variable_names c.process) v ≡ Some id → sets_in t.first id.name ≡ false → (text_chances c.process t.text id.name q).reads ≡ true → bit_at before v ≡ 1
   pub enters : (v q set : ℕ) (id : Identifier) → slice_get (variable_names c.process) v ≡ Some id → sets_in t.first id.name ≡ false → (text_chances c.process t.text id.name q).enters ≡ true
@@ -282,7 +282,7 @@ module _ (c : Scope) (n : ℕ) (d : DraftProcess) (fine : FineProcess c) (ready 
   few : length (variable_names c.process) ≤ 32
   few = let e = length-map (variables_of c.process) (λ (v : Variable). v.name) in omega (arith, e, fine.variables)
 
-  -- what is read in a piece of the process
+  -- The variables that a piece of the process reads.
   begins_with : (before : ℕ) (t : Paths.Transition) (places : List (Option Identifier)) (m : VariableSet) (order : List ℕ) → IsOrder c.process order → NamedText c t.text → NamedConnections c → IsInProcess c.process t → IsSettled c.process ranges before t
       → Holds c before numbered t.first m → ReadText c d.states m t.text
       × ((i : ℕ) (k : PlainConnection) → slice_get c.process.connections i ≡ Some k
@@ -301,7 +301,7 @@ module _ (c : Scope) (n : ℕ) (d : DraftProcess) (fine : FineProcess c) (ready 
       (record { read = λ order ordered. begins_with 0 (start_transition c.process) [] (initial_set d.variables) order ordered ready.start.text.text ready.start.connections (inl refl) made.settled.start start_holds })
       made.start (counted draft t q known ready.start ready.sorted ready.small (omega arith) made.start)
 
-  -- input i, in a state that is entered with this set
+  -- Input i, in a state that is entered with this set.
   one_input : (draft : Draft) → Declares c.block draft → (set : VariableSet) (i : Input) (piece : DraftPiece) → FineInput c i → IsReadyInput c i → IsSettled c.process ranges set.0 (input_transition i) → IsInProcess c.process (input_transition i)
       → IsPieceOf c (trigger_sorts c i.stimulus.name) set (input_piece i) piece → IsValidTransition draft (transition (Some (trigger_of c i.stimulus.name)) (trigger_sorts c i.stimulus.name) set piece)
   one_input draft e set i piece f r settled inside is =

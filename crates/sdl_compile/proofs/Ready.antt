@@ -41,7 +41,7 @@ use Rattle.sdl_compile.proofs.FineTexts.{unequal_number, FineText, FineReached, 
 
 -- ---- the inputs of a process
 
--- what each part gives, each state has
+-- What holds of each part of a state holds of the state.
 module _ {X : Type 0} (P : X → Type 0) (in_part : PlainState → List X) (p : PlainProcess) where
   if_given : (t : Bool) (xs : List X) → Each P xs → Each P (cond t xs [])
   if_given true xs h = h
@@ -80,7 +80,7 @@ module _ (c : Scope) where
   abbrev vs : List Variable
   vs = variables_of c.process
 
-  -- ---- what a rule on statements asks of each transition
+  -- ---- what a rule on statements requires of each transition
 
   module _ (ask : List Origin → Statement → List ℕ) (none : in_statements ask p ≡ []) where
     abbrev at_start : List ℕ
@@ -108,7 +108,7 @@ module _ (c : Scope) where
   fine_each from text (x ∷ xs) u w l d a v =
       (fine_statements c (from x) (statements_of (text x)) u.0 w.0 l.0 d.0 a.0 v.0, fine_each from text xs u.1 w.1 l.1 d.1 a.1 v.1)
 
-  -- ---- the connections to which a transition comes
+  -- ---- the connections to which a transition leads
 
   abbrev FineOther : PlainConnection → Type 0
   FineOther k = Each (FineStatement c (connection_origins p k)) (statements_of k.text)
@@ -127,7 +127,7 @@ module _ (c : Scope) where
         start_reached ks fine.1,
       )
 
-  -- those that the part `i` of the INPUTs comes to, where the parts from it on are `is`
+  -- The connections to which part `i` of the INPUTs leads, where `is` are the parts after it.
   part_reached : (i : PlainInput) (is : List PlainInput) (y : PlainStimulus) → ((s : List ℕ) → list_all (answers_origin b p s) (input_origins i) ≡ true → answers_origin b p s (takes y) ≡ true)
       → ((k : PlainConnection) (s : List ℕ) → list_all (answers_origin b p s) (joining k (input_parts p)) ≡ true → list_all (answers_origin b p s) (joining k (i ∷ is)) ≡ true)
       → (ks : List PlainConnection) → Each FineOther ks → Each (FineReached c (takes y) i.text) ks
@@ -142,7 +142,7 @@ module _ (c : Scope) where
         part_reached i is y among among_parts ks fine.1,
       )
 
-  -- ---- the stimuli of an INPUT, from some on
+  -- ---- the stimuli of an INPUT, from one of them on
 
   stimuli_fine : (i : PlainInput) (is : List PlainInput) (ss : List PlainStimulus) → ((s : List ℕ) → list_all (answers_origin b p s) (input_origins i) ≡ true → list_all (answers_origin b p s) (map takes ss) ≡ true)
       → ((k : PlainConnection) (s : List ℕ) → list_all (answers_origin b p s) (joining k (input_parts p)) ≡ true → list_all (answers_origin b p s) (joining k (i ∷ is)) ≡ true)
@@ -246,9 +246,9 @@ module _ (c : Scope) where
         connectors = connectors;
       }
 
-  -- ---- what the compiler asks
+  -- ---- what the compiler requires
 
-  -- an order of the connections tells how many steps there are from each
+  -- The number of steps from each connection, by an order of the connections.
   abbrev steps_in : List ℕ → ℕ → ℕ
   steps_in order n = position_or_len (λ (m : ℕ). nat_eq m n) order
 

@@ -1,4 +1,4 @@
--- Who gets a signal by the text's routes gets it by the draft's.
+-- A party that receives a signal by the text's routes receives it by the draft's.
 use Rattle.std.proofs.Common.{◌≡◌, ℕ, zero, suc, ◌<◌, Bool, true, false, not, cond, ◌&&◌, List, [], ◌∷◌, ◌++◌, length, map, Option, Some, None, IsSome, refl, sym, ap, ◌∙◌, subst, arith, nat_lt}
 use Rattle.std.specs.Prelude.{slice_get, All, Contains, Any, fold, option_map}
 use Rattle.std.specs.List.{list_any, list_all, flat_map}
@@ -65,7 +65,7 @@ same_place ids v w x y e f g =
 
 -- ---- parties
 
--- whoever receives is reached by a path
+-- A path leads to each receiver.
 each_received : (from : Party) (s : List ℕ) (paths : List PlainPath) → Each (λ q. list_any (brings from q s) paths ≡ true) (flat_map (path_receivers from s) paths)
 each_received from s [] = tt
 each_received from s (path ∷ paths) =
@@ -96,7 +96,7 @@ each_folded P seen (q ∷ qs) h k = each_folded P (add_party seen q) qs (each_ad
 received : (b : PlainBlock) (from : Party) (s : List ℕ) → Each (λ q. carries b from q s ≡ true) (receivers b from s)
 received b from s = each_folded (λ q. carries b from q s ≡ true) [] (flat_map (path_receivers from s) (paths_of b)) tt (each_received from s (paths_of b))
 
--- what all senders pass, the sender of each path passes
+-- What holds of all senders holds of the sender of each path.
 each_sender : (f : Party → Bool) (to : Party) (s : List ℕ) (paths : List PlainPath) → list_all f (flat_map (path_senders to s) paths) ≡ true → Each (λ (path : PlainPath). same_party to path.to && is_in path.signals s ≡ true → f path.from ≡ true) paths
 each_sender f to s [] e = tt
 each_sender f to s (path ∷ paths) e =
@@ -126,7 +126,7 @@ module _ (c : Scope) (n : ℕ) (numbers : AreNumbered (process_names c.block)) (
   own_number : number_of names c.process.name.name ≡ Some n
   own_number = numbers n c.process.name here
 
-  -- one party, named in two ways
+  -- The same party under two spellings of its name.
   same_draft : (q r : Party) → same_party q r ≡ true → drafted_party names q ≡ drafted_party names r
   same_draft Environment Environment e = refl
   same_draft Environment (Process y) e = absurd (let k : ⊥ = cc in k)
@@ -189,7 +189,7 @@ module _ (c : Scope) (n : ℕ) (numbers : AreNumbered (process_names c.block)) (
       by_number None e k = absurd (let k : ⊥ = cc in k)
       by_number (Some v) e k = let h = (number_there names id.name v e).within in omega (arith, h, l)
 
-  -- ---- what the compiler asks of a receiver
+  -- ---- what the compiler requires of a receiver
 
   some_numbered : (q : Party) → KnownParty names q → IsSome (numbered c q)
   some_numbered Environment k = refl
@@ -262,7 +262,7 @@ module _ (c : Scope) (n : ℕ) (numbers : AreNumbered (process_names c.block)) (
   not_both true e f = let k : ⊥ = cc in k
   not_both false e f = let k : ⊥ = cc in k
 
-  -- whoever sent what this input waits for gets the answer
+  -- The answer reaches each possible sender of this input.
   pub answers_sender : (i : PlainStimulus) (x : Identifier) → IsTrigger c i.name → answers c.block c.process x.name i.name.name ≡ true → (sender : Option code_address.Address) → IsSentTo c (Some i.name) sender → IsSome (to_sender c x sender)
   answers_sender i x trigger e sender sent = by_number (number_of sigs i.name.name) refl sender sent
     where
@@ -283,7 +283,7 @@ module _ (c : Scope) (n : ℕ) (numbers : AreNumbered (process_names c.block)) (
           subst (λ o. IsSome (if_named c x o p)) (sym h.1) (subst (λ b. IsSome (cond b (Some p) None)) (sym back) refl)
 
   module _ (d : Draft) (routes : d.routes ≡ map (drafted_path c.block) (paths_of c.block)) (count : length d.processes ≡ length names) where
-    -- a route of the draft carries it where a route of the text does
+    -- A route of the draft carries the signal where a route of the text does.
     carried : (q : Party) (x : List ℕ) → carries c.block own q x ≡ true → IsPartyOf d.processes (drafted_party names q) × Reaches d.routes n (drafted_party names q) (sig x)
     carried q x e = (
       is_party d.processes count q (known_reached q x (paths_of c.block) known e),
@@ -295,7 +295,7 @@ module _ (c : Scope) (n : ℕ) (numbers : AreNumbered (process_names c.block)) (
         let f = numbered_known q (known_reached q x (paths_of c.block) known e) in
         subst (λ (r : code_party.Party). IsPartyOf d.processes r × Reaches d.routes n r (sig x)) (sym f) (carried q x e)
 
-    -- the one receiver
+    -- The only receiver.
     to_one : (x : List ℕ) (qs : List Party) → Each (λ q. carries c.block own q x ≡ true) qs → nat_lt 0 (length qs) ≡ true → nat_lt 1 (length qs) ≡ false
         → IsPartyOf d.processes (party_or_environment (the_one c qs)) × Reaches d.routes n (party_or_environment (the_one c qs)) (sig x)
     to_one x [] h e f = absurd (let k : 0 < 0 = grind (arith, nat_tests) in omega (arith, k))
@@ -347,7 +347,7 @@ module _ (c : Scope) (n : ℕ) (numbers : AreNumbered (process_names c.block)) (
       answered x s v e paths k.1 h.1,
     )
 
-    -- what goes to the sender of this input gets there
+    -- A signal TO SENDER for this input arrives.
     pub answers_input : (i : PlainStimulus) (s : List ℕ) → IsTrigger c i.name → answers c.block c.process s i.name.name ≡ true → AnswersSender d n (sig s) (Some (trigger_of c i.name))
     answers_input i s trigger e = by_number (number_of sigs i.name.name) refl
       where
@@ -368,7 +368,7 @@ module _ (c : Scope) (n : ℕ) (numbers : AreNumbered (process_names c.block)) (
             subst (λ (rs : List DraftRoute). All (Answers d.processes d.routes n m (sig s)) rs) (sym routes)
             (all_items (Answers d.processes d.routes n m (sig s)) (map (drafted_path c.block) (paths_of c.block)) (answered i.name.name s v f (paths_of c.block) known each))
 
-    -- what arrives by the text's routes reaches its receiver
+    -- A signal that arrives by the text's routes reaches its receiver.
     pub arriving : (is : List Origin) (trigger : Option Trigger) → ((s : List ℕ) → answers_all c.block c.process is s ≡ true → AnswersSender d n (sig s) trigger)
         → (to : Option Destination) (x : Identifier) → arrives c.block c.process is to x.name ≡ true → is_doubtful c.block c.process to x.name ≡ false
         → ReachesReceiver d n (sig x.name) trigger (receiver_code c to x)

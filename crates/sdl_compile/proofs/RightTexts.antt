@@ -1,4 +1,4 @@
--- What has to be right in a text, and that what is left behind a DECISION is left by each of its bodies.
+-- The right sorts, divisors and receivers of a text; and each body leaves set what is set after its DECISION.
 use Rattle.std.proofs.Common.{◌≡◌, ℕ, List, [], ◌∷◌}
 use Rattle.std.specs.Prelude.{All}
 use Rattle.std.proofs.lemmas.List.Elements.{All-cons}
@@ -15,7 +15,7 @@ use Rattle.sdl_facts.specs.Reads.{everything, meet, left, answers_left, else_lef
 use Rattle.sdl_facts.proofs.Rights.{one_of as one_at}
 use Rattle.sdl_compile.proofs.UnsetLaws.{meet_front, meet_back}
 
--- ---- what a text has to be
+-- ---- the property of a right text
 
 abbrev pub RightAction : Scope → List Origin → PlainAction → Type 0
 RightAction c is a =
@@ -24,7 +24,7 @@ RightAction c is a =
 abbrev pub RightTree : Scope → Tree → Type 0
 RightTree c q = (wrong_in (variables_of c.process) q ≡ []) × (bad_divisors_in q ≡ [])
 
--- its sorts, divisors and receivers are right
+-- The sorts, divisors and receivers of a text are right.
 abbrev mutual
   pub RightText : Scope → List Origin → Text → Type 0
   RightText c is falls = Unit {0}
@@ -42,10 +42,10 @@ abbrev mutual
 pub two_at : (P : ℕ → Type 0) (v w : ℕ) → P v → P w → All P (v ∷ w ∷ [])
 two_at P v w h k = All-cons P v (w ∷ []) h (one_at P w k)
 
--- ---- what is left behind a DECISION is left by each body
+-- ---- what is set after a DECISION is set after each body
 
 module _ (c : Scope) where
-  -- the bodies of the answers leave this at least
+  -- The bodies of the answers leave at least this set.
   abbrev AnswersLeave : VariableSet → VariableSet → Choice → Type 0
   AnswersLeave x m nothing_else = Unit {0}
   AnswersLeave x m (otherwise body) = Unit {0}
@@ -56,7 +56,7 @@ module _ (c : Scope) where
   ElseLeaves x m (otherwise body) = IsWithin x (left c m body)
   ElseLeaves x m (answer at rs body others) = ElseLeaves x m others
 
-  -- those of all do
+  -- All bodies leave at least this set.
   abbrev pub Leaves : VariableSet → VariableSet → Choice → Type 0
   Leaves x m nothing_else = Unit {0}
   Leaves x m (otherwise body) = IsWithin x (left c m body)

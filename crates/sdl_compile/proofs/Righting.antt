@@ -1,4 +1,4 @@
--- A text no rule is broken in has its sorts, divisors and receivers right.
+-- A text that breaks no rule has the right sorts, divisors and receivers.
 use Rattle.std.proofs.Common.{List}
 use Rattle.sdl_ast.specs.Plain.{Tree, Text, falls, ends, does, decides, Choice, nothing_else, otherwise, answer}
 use Rattle.sdl_sound.specs.Statements.{statements_of, choice_statements}

@@ -1,4 +1,4 @@
--- Who brings a signal to a process by the draft's routes may have sent it by the text's.
+-- A party that sends a signal to a process by the draft's routes may have sent it by the text's.
 use Rattle.std.proofs.Common.{◌≡◌, ℕ, zero, suc, Bool, true, false, ◌||◌, ◌&&◌, List, [], ◌∷◌, map, Option, Some, None, IsSome, refl, sym, ap, ◌∙◌, subst, arith}
 use Rattle.std.specs.Prelude.{slice_get, Any, All, Contains, bytes_eq}
 use Rattle.std.proofs.lemmas.List.Elements.{All-head, All-tail}
@@ -27,7 +27,7 @@ use Rattle.sdl_sound.proofs.Numbered.{same_folded as folded_alike, same_back as 
 names_alike : (x y z : List ℕ) → same_name x y ≡ true → same_name x z ≡ same_name y z
 names_alike x y z h = ap (λ f. bytes_eq f (folded z)) (folded_alike x y h)
 
--- a name that is there is spelled alike where its number says
+-- A known name has the spelling of the identifier at its number.
 record Spelled (ids : List Identifier) (x : List ℕ) (n : ℕ) : Type 0 where
   id : Identifier
   there : slice_get ids n ≡ Some id
@@ -42,7 +42,7 @@ spelled ids x n some e = by_number (number_of ids x) refl some e
         let t = number_there ids x n (f ∙ ap Some e) in
         record { id = t.id; there = t.there; same = t.same }
 
--- the party that has the number of one that is there
+-- The party with the number of a known one.
 record Names (b : PlainBlock) (p : PlainProcess) (q : tree_party.Party) (sender : Party) : Type 0 where
   party : tree_party.Party
   named_so : named (scope_of b p) sender ≡ Some party
@@ -64,7 +64,7 @@ name_of b p (tree_parties.Process id) sender known e =
     as_party None = None
     as_party (Some id) = Some (tree_parties.Process id)
 
--- the process with this number is this one
+-- The process with this number is this one.
 own_party : (b : PlainBlock) (p : PlainProcess) (n : ℕ) (q : tree_party.Party) → slice_get (process_names b) n ≡ Some p.name → KnownParty (process_names b) q → IsProcess n (drafted_party (process_names b) q) → same_party (party_of p) q ≡ true
 own_party b p n tree_parties.Environment at known h = absurd h
 own_party b p n (tree_parties.Process id) at known h =
@@ -73,7 +73,7 @@ own_party b p n (tree_parties.Process id) at known h =
     let f : t.id ≡ p.name = cc in
     same_other_way id.name p.name.name (ap (λ (i : Identifier). same_name id.name i.name) (sym f) ∙ t.same)
 
--- a signal with this number is among a path's
+-- A signal with this number is among those of a path.
 in_signals : (b : PlainBlock) (x : List ℕ) (m : SignalNumber) → number_of (signal_names b) x ≡ Some m.0 → (ids : List Identifier) → All (IsKnown (signal_names b)) ids
     → Contains (map (signal_numbered (signal_names b)) ids) m → is_in ids x ≡ true
 in_signals b x m e [] known h = absurd (let l = h.1 in omega (arith, l))
@@ -95,7 +95,7 @@ in_signals b x m e (id ∷ ids) known (suc k, l, f) =
     or_true true t e = refl
     or_true false t e = e
 
--- the sender by the draft's routes is one by the text's
+-- The sender by the draft's routes is one by the text's.
 pub record IsNamed (b : PlainBlock) (p : PlainProcess) (x : List ℕ) (sender : Party) (paths : List PlainPath) : Type 0 where
   pub party : tree_party.Party
   pub named_so : named (scope_of b p) sender ≡ Some party
@@ -132,7 +132,7 @@ paths_bring b p n x m sender (path ∷ paths) at e known (suc k, r, l, f, h) =
     or_true true t e = refl
     or_true false t e = e
 
--- a sender from whom a draft's route brings the signal may have sent it
+-- A sender with a draft's route for the signal may have sent it.
 pub sent_by : (b : PlainBlock) (p : PlainProcess) (n : ℕ) (id : Identifier) (m : SignalNumber) (sender : Address)
     → slice_get (process_names b) n ≡ Some p.name → signal_at (scope_of b p) id ≡ Some m.0 → Each (IsKnownPath b) (paths_of b) → Any (Brings sender.party n m) (map (drafted_path b) (paths_of b)) → IsBroughtBy (scope_of b p) id (Some sender)
 sent_by b p n id m sender at e known h =

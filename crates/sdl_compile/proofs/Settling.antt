@@ -1,4 +1,4 @@
--- What a piece needs for its facts: its text and its connections read what is set, and the sets of connections fit.
+-- The facts of a piece need this: its text and connections read what is set, and the sets of connections fit.
 use Rattle.std.proofs.Common.{◌≡◌, ℕ, zero, suc, ◌+◌, ◌<◌, ◌≤◌, Bool, true, false, List, [], ◌∷◌, ◌++◌, inl, inr, length, map, Some, refl, sym, ap, ◌∙◌, subst, arith, length-append, append_assoc}
 use Rattle.std.specs.Prelude.{slice_get, nat_eq}
 use Rattle.std.specs.Int.{bit_at}
@@ -36,7 +36,7 @@ module _ (c : Scope) (order : List ℕ) (is : IsOrder c.process order) (named : 
       let f = is.once b.0 p m (b.2 ∙ ap Some same) there in
       let z : ⊥ = omega (arith, b.1, f, le) in z)
 
-  -- these stand in the order from a place on
+  -- These are in the order from place p on.
   abbrev Tail : List ℕ → ℕ → Type 0
   Tail [] p = Unit {0}
   Tail (m ∷ l) p = (slice_get order p ≡ Some m) × Tail l (p + 1)
@@ -83,7 +83,7 @@ module _ (c : Scope) (order : List ℕ) (is : IsOrder c.process order) (named : 
       let lt = within c.process.connections (number_at c j.connector) h.connection h.there in
       omega (arith, lt, e))
 
-  -- the sets of a piece's connections fit at each of its JOINs
+  -- The sets of a piece's connections fit at each of its JOINs.
   pub all_fit : (t : Text) (m : VariableSet) → NamedText c t
       → TextFits c (connections_met c order (met c m t (map (λ (x : PlainConnection). everything) c.process.connections))) m t
       × ((n : ℕ) (k : PlainConnection) → slice_get c.process.connections n ≡ Some k
@@ -104,7 +104,7 @@ module _ (c : Scope) (order : List ℕ) (is : IsOrder c.process order) (named : 
 module _ (c : Scope) (numbered : AreNumbered (variable_names c.process)) (few : length (variable_names c.process) ≤ 32) (ranges : List ℕ) (ss : List DraftState)
     (declared : (q set v : ℕ) → slice_get ranges q ≡ Some set → bit_at set v ≡ 1 → v < length (variable_names c.process))
     (same : (q : ℕ) (s : DraftState) → slice_get ss q ≡ Some s → slice_get ranges q ≡ Some s.set.0) where
-  -- what may happen in a text is known of each variable that the start of its transition doesn't set
+  -- The chances of a text for each variable that the start of its transition doesn't set.
   pub record Starts (before : ℕ) (first : List Event) (t : Text) : Type 0 where
     pub reads : (v q : ℕ) (id : Identifier) → slice_get (variable_names c.process) v ≡ Some id → sets_in first id.name ≡ false → (text_chances c.process t id.name q).reads ≡ true → bit_at before v ≡ 1
     pub enters : (v q set : ℕ) (id : Identifier) → slice_get (variable_names c.process) v ≡ Some id → sets_in first id.name ≡ false → (text_chances c.process t id.name q).enters ≡ true
@@ -131,7 +131,7 @@ module _ (c : Scope) (numbered : AreNumbered (variable_names c.process)) (few : 
       none true h = absurd (h refl)
       none false h = refl
 
-  -- a piece and its connections read what is set
+  -- A piece and its connections read what is set.
   pub all_read : (before : ℕ) (first : List Event) (t : Text) (m : VariableSet) (order : List ℕ) → NamedText c t → NamedConnections c → Holds c before numbered first m → Starts before first t
       → ReadText c ss m t × ((i : ℕ) (k : PlainConnection) → slice_get c.process.connections i ≡ Some k
       → ReadText c ss (entry_at (connections_met c order (met c m t (map (λ (x : PlainConnection). everything) c.process.connections))) i) k.text)

@@ -1,4 +1,4 @@
--- Each place of a piece is right: its text's, and those of the connections that it comes to.
+-- Each place of a piece is right: those of its text, and those of the connections to which it leads.
 use Rattle.std.proofs.Common.{◌≡◌, ℕ, zero, suc, ◌+◌, ◌≤◌, Bool, true, false, cond, List, [], ◌∷◌, ◌++◌, length, map, Option, Some, None, IsSome, refl, sym, ap, ◌∙◌, subst, arith, length-append, append_assoc, nat_eq}
 use Rattle.std.specs.Prelude.{slice_get, Contains, zip}
 use Rattle.std.specs.List.{flat_map}
@@ -49,7 +49,7 @@ module _ (d : Draft) (t : Transition) (all : List Spot) where
   abbrev O : List Sort → VariableSet → List Instruction → List Spot
   O s m code = over d.signals t.process.variables t.parameters s m code
 
-  -- a place without operands where these variables are set
+  -- A place without operands at which these variables are set.
   pub record Start (m : VariableSet) (k : ℕ) : Type 0 where
     pub spot : Spot
     pub there : slice_get all k ≡ Some spot
@@ -65,7 +65,7 @@ module _ (d : Draft) (t : Transition) (all : List Spot) where
   over_start [] rest m k some has = absurd (omega (arith, some))
   over_start (x ∷ is) rest m k some has = record { spot = record { instruction = x; shape = []; set = m }; there = has.0; shape = refl; set = refl }
 
-  -- a stretch that may be empty
+  -- A stretch that may be empty.
   over_then : (code : List Instruction) (rest : List Spot) (m m2 : VariableSet) (k n : ℕ) → k + length code ≡ n → left_set m code ≡ m2 → HasSpots d t all k (O [] m code ++ rest) → (HasSpots d t all n rest → Start m2 n) → Start m k
   over_then [] rest m m2 k n e f has more =
       let same : k ≡ n = omega (arith, e) in
@@ -85,7 +85,7 @@ module _ (d : Draft) (t : Transition) (all : List Spot) where
     end_start (Stop at) m k has = over_start (end_code c to (Stop at)) [] m k (omega arith) has
     end_start (Join j) m k has = over_start (end_code c to (Join j)) [] m k (omega arith) has
 
-    -- a text that doesn't run off its end begins with its set
+    -- A text that doesn't run off its end begins with its set.
     pub text_start : (u : Text) (m : VariableSet) (k : ℕ) → NamedText c u → RightText c is u → goes_on u ≡ false → HasSpots d t all k (T k m u) → Start m k
     text_start falls m k named right ended has = absurd (let k : ⊥ = cc in k)
     text_start (ends e) m k named right ended has = end_start e m k has
@@ -97,7 +97,7 @@ module _ (d : Draft) (t : Transition) (all : List Spot) where
     text_start (decides at q choice rest) m k named right ended has =
         over_start (tree_code c q) _ m k (let s = tree_size c q in let o = cost_some q in omega (arith, s, o)) has
 
-    -- ---- connections one behind another
+    -- ---- connections one after another
 
     abbrev Others : ℕ → List ℕ → List Spot
     Others p ns = connections_spots d.signals t.process.variables t.parameters c to es p ns
@@ -123,7 +123,7 @@ module _ (d : Draft) (t : Transition) (all : List Spot) where
       text_is : (n : ℕ) (k : PlainConnection) → slice_get c.process.connections n ≡ Some k → text_at c n ≡ k.text
       text_is n k e = ap (λ o. option_map_or (λ (k : PlainConnection). k.text) o falls) e
 
-      -- a JOIN to a connection that is there comes where it begins
+      -- A JOIN to a connection that exists leads to the place where it begins.
       begins : (p : ℕ) (j : tree_join.Join) → HasSpots d t all p (Others p ns) → ((n : ℕ) → to n ≡ place_in c p ns n) → IsSome (connector_at c j.connector) → Contains ns (number_at c j.connector) → Begins d t all c stands is reaching to es j
       begins p j has places some there =
           let h = has_connection c j.connector some in
@@ -170,7 +170,7 @@ at_end [] l p (suc k) f = absurd (omega (arith, f))
 at_end (x ∷ before) l p zero f = absurd (omega (arith, f))
 at_end (x ∷ before) l p (suc k) f = at_end before l p k (omega (arith, f))
 
--- a list stands in itself
+-- A list has its own places.
 stands_behind : (d : Draft) (t : Transition) (all before l : List Spot) (k : ℕ) → all ≡ before ++ l → length before ≡ k → HasSpots d t all k l
 stands_behind d t all before [] k e f = tt
 stands_behind d t all before (p ∷ l) k e f = (
@@ -185,7 +185,7 @@ module _ (d : Draft) (t : Transition) (c : Scope) (stands : Stands c d t) (is : 
   abbrev to : ℕ → ℕ
   to = place_in c (connections_place c q) ns
 
-  -- what is known of the places of a piece
+  -- The facts known of the places of a piece.
   pub record Made : Type 0 where
     pub fine : AllFine d t all 0 all
     pub start : Start d t all m 0

@@ -1,4 +1,4 @@
--- Places one behind another: what is claimed of each is what comes there.
+-- Places one after another: the claims about each agree with the state in which it is reached.
 use Rattle.sdl_facts.proofs.Actions.{Stands}
 use Rattle.sdl_meaning.specs.Code.{jump, range_code}
 use Rattle.sdl_meaning.specs.Outcomes.{Scope}
@@ -30,7 +30,7 @@ module _ (d : Draft) (t : Transition) (all : List Spot) where
   abbrev pub O : List Sort → VariableSet → List Instruction → List Spot
   O s m code = over d.signals t.process.variables t.parameters s m code
 
-  -- what is claimed of a place is what comes there
+  -- The claims about a place agree with the operands and the set on arrival there.
   pub record Enters (s : List Sort) (m : VariableSet) (j : ℕ) : Type 0 where
     pub inside : j < length all
     pub facts : (g : Spot) → slice_get all j ≡ Some g → (g.shape ≡ s) × IsWithin g.set m
@@ -48,7 +48,7 @@ module _ (d : Draft) (t : Transition) (all : List Spot) where
   HasSpots k [] = Unit {0}
   HasSpots k (p ∷ ps) = (slice_get all k ≡ Some p) × HasSpots (k + 1) ps
 
-  -- each place has the shape that the instruction before it leaves
+  -- The shape of each place is the shape after the instruction before it.
   abbrev pub Chain : List Sort → List Spot → List Sort → Type 0
   Chain s [] s2 = s ≡ s2
   Chain s (p ∷ ps) s2 = (p.shape ≡ s) × Chain (A p.instruction s) ps s2
@@ -107,7 +107,7 @@ module _ (d : Draft) (t : Transition) (all : List Spot) where
         chain = (refl, more.chain);
       }
 
-  -- one instruction
+  -- One instruction.
   pub single : (x : Instruction) (s : List Sort) (m : VariableSet) (k : ℕ) → IsRight d t s m x → HasSpots k (O s m (x ∷ [])) → All (Enters (A x s) (set_after x m)) (behind x k)
       → All (Enters (shape_left d.signals t.process.variables x s) (set_after x m)) (jumps x) → Stretch k s m (O s m (x ∷ [])) (A x s)
   single x s m k right has going jumping = record {
@@ -116,7 +116,7 @@ module _ (d : Draft) (t : Transition) (all : List Spot) where
     chain = (refl, refl);
   }
 
--- ---- jumps and tests stand right
+-- ---- jumps and tests are right
 
 module _ (d : Draft) (t : Transition) (c : Scope) (stands : Stands c d t) where
   abbrev Number : List Sort

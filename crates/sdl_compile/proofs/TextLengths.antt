@@ -1,4 +1,4 @@
--- How many places the parts of a text take.
+-- How many places the parts of a text have.
 use Rattle.std.proofs.Common.{◌≡◌, ℕ, suc, ◌+◌, Bool, true, false, cond, List, [], ◌∷◌, ◌++◌, length, refl, sym, ap, ◌∙◌, arith, length-append}
 use Rattle.std.proofs.lemmas.List.{length-map}
 use Rattle.sdl_ast.specs.Plain.{Text, Choice}
@@ -16,7 +16,7 @@ use Rattle.sdl_meaning.specs.Code.{leave_code, tests_code, else_size, pick_code,
 use Rattle.sdl_meaning.proofs.Sizes.{leave_size, tests_are, text_size_is, bodies_size_is, answers_size_is, else_size_is}
 use Rattle.sdl_facts.proofs.Spots.{Spot, instructions, over, leave_spots, text_spots, else_spots, answers_spots, bodies_spots, text_instructions, else_instructions, answers_instructions, bodies_instructions}
 
--- code has as many places as instructions
+-- Code has as many places as instructions.
 module _ (d : Draft) (t : Transition) where
   abbrev A : Instruction → List Sort → List Sort
   A x s = shape_after d.signals t.process.variables t.parameters x s

@@ -1,4 +1,4 @@
--- Where a variable isn't said to be set, no walk reads it from there, and none comes with it unset to a state that wants it.
+-- If a variable isn't claimed as set at a place, no walk from there reads it or ends in a state that has it as set.
 use Rattle.std.proofs.Common.{◌≡◌, ℕ, zero, suc, ◌+◌, ◌-◌, ◌<◌, ◌≤◌, Bool, true, false, not, cond, ◌==◌, ◌||◌, ◌&&◌, List, [], ◌∷◌, ◌++◌, ◌⊎◌, inl, inr, ⊎_elim, length, get_or, map, Option, Some, None, IsSome, refl, sym, ap, ◌∙◌, subst, arith}
 use Rattle.std.specs.Prelude.{slice_get, slice_set, nat_eq}
 use Rattle.std.specs.Int.{bit_at}
@@ -74,7 +74,7 @@ module _ (c : Scope) (numbered : AreNumbered (variable_names c.process)) (few : 
   action_add (set_timer at u n) m v id at2 h = not_true (sets_in (tree_events u) id.name) h (reads_set_none (tree_names u) id.name)
   action_add (reset_timer at n) m v id at2 h = absurd (let k : ⊥ = cc in k)
 
-  -- where a variable isn't left unset, it is left set
+  -- A variable that isn't left unset is left set.
   mutual
     left_set : (states : List Identifier) (join : List ℕ → Chances) (q : ℕ) (t : Text) (m : VariableSet) (v : ℕ) (id : Identifier) → Named v id → (chances states join id.name q t).leaves ≡ false → Has (left c m t) v
     left_set states join q falls m v id at e = absurd (let k : ⊥ = cc in k)
@@ -114,17 +114,17 @@ module _ (c : Scope) (numbered : AreNumbered (variable_names c.process)) (few : 
   choice_set states join q choice m v id at e =
       has_meet (answers_left c m everything choice) (else_left c m choice) v (answers_set states join q choice m everything v id at (everything_at v id at) e) (else_set states join q choice m v id at e)
 
-  -- ---- what comes to each place
+  -- ---- what reaches each place
 
   module _ (ranges : List ℕ) (ss : List DraftState)
       (declared : (q set v : ℕ) → slice_get ranges q ≡ Some set → bit_at set v ≡ 1 → v < length (variable_names c.process))
       (same : (q : ℕ) (s : DraftState) → slice_get ss q ≡ Some s → slice_get ranges q ≡ Some s.set.0) where
-    -- nothing reads variable v, and a state that wants it set isn't entered
+    -- Nothing reads variable v, and no state that has it as set is entered.
     pub record Calm (h : Chances) (q v : ℕ) : Type 0 where
       pub reads : h.reads ≡ false
       pub enters : (set : ℕ) → slice_get ranges q ≡ Some set → bit_at set v ≡ 1 → h.enters ≡ false
 
-    -- each variable is set, or what comes doesn't want it
+    -- Each variable is set, or what follows doesn't need it.
     abbrev pub Safe : VariableSet → (List ℕ → ℕ → Chances) → Type 0
     Safe m f = (v q : ℕ) (id : Identifier) → Named v id → Has m v ⊎ Calm (f id.name q) q v
 
@@ -163,7 +163,7 @@ module _ (c : Scope) (numbered : AreNumbered (variable_names c.process)) (few : 
     after_tree : (u : Tree) (m : VariableSet) (f : List ℕ → ℕ → Chances) → Safe m (λ x q. behind (event_chances (tree_events u) x) (f x q)) → Safe m f
     after_tree u m f safe = safe_behind (tree_events u) m m f (λ v h. h) (λ v id at s. not_true (sets_in (tree_events u) id.name) s (reads_set_none (tree_names u) id.name)) safe
 
-    -- where some bodies leave a variable unset, what follows doesn't want it
+    -- If some bodies leave a variable unset, what follows doesn't need it.
     safe_front : (m : VariableSet) (f g : List ℕ → ℕ → Chances) → Safe m (λ x q. behind (f x q) (g x q)) → Safe m f
     safe_front m f g safe v q id at =
         let h = f id.name q in
@@ -263,7 +263,7 @@ module _ (c : Scope) (numbered : AreNumbered (variable_names c.process)) (few : 
     set_entry (x ∷ es) (suc n) zero v e new old = old
     set_entry (x ∷ es) (suc n) (suc k) v e new old = set_entry es n k v e (λ f. new (ap suc f)) old
 
-    -- what the text of a connection may do, where at most so many JOINs are followed
+    -- The chances of the text of a connection, if at most n JOINs are followed.
     abbrev pub inside_by : ℕ → List ℕ → ℕ → PlainConnection → Chances
     inside_by n x q k = chances (states_of c.process) (chances_by c.process n x q) x q k.text
 
@@ -283,12 +283,12 @@ module _ (c : Scope) (numbered : AreNumbered (variable_names c.process)) (few : 
     abbrev connection_name : PlainConnection → Identifier
     connection_name k = k.name
 
-    -- each JOIN in a connection leads to one with fewer steps
+    -- Each JOIN in a connection leads to one with fewer steps.
     module _ (steps : ℕ → ℕ) where
       abbrev pub AllSafe : List VariableSet → Type 0
       AllSafe es = (n : ℕ) (k : PlainConnection) → slice_get c.process.connections n ≡ Some k → Safe (entry_at es n) (λ x q. inside_by (steps n) x q k)
 
-      -- a JOIN after which this many are followed at most
+      -- A JOIN to a connection with fewer than n steps.
       abbrev pub IsFewer : ℕ → tree_join.Join → Type 0
       IsFewer n j = steps (number_or_zero (connector_at c j.connector)) < n
 
@@ -377,7 +377,7 @@ module _ (c : Scope) (numbered : AreNumbered (variable_names c.process)) (few : 
         all_everything (k ∷ ks) zero v lt = has_everything v lt
         all_everything (k ∷ ks) (suc i) v lt = all_everything ks i v lt
 
-        -- A piece: where its text is safe, it and each connection read what is set, with the sets with which they begin.
+        -- A piece: if its text is safe, it and each connection read only what is set, given their first sets.
         pub piece_reads : (n : ℕ) (t : Text) (m : VariableSet) (order : List ℕ) → NamedText c t → EachJoin (IsFewer n) t → Safe m (of_text (λ x q. chances_by c.process n x q) t)
             → ReadText c ss m t × ((i : ℕ) (k : PlainConnection) → slice_get c.process.connections i ≡ Some k → ReadText c ss (entry_at (connections_met c order (met c m t (map (λ (x : PlainConnection). everything) c.process.connections))) i) k.text)
         piece_reads n t m order named joins safe =

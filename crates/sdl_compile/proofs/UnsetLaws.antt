@@ -1,4 +1,4 @@
--- Sets of variables, where less may happen, and what stays set.
+-- Sets of variables, smaller chances, and the variables that stay set.
 use Rattle.std.proofs.Common.{◌≡◌, ℕ, zero, suc, ◌<◌, min, Bool, true, false, not, ◌||◌, ◌&&◌, List, [], ◌∷◌, Option, Some, None, refl, ap, ◌∙◌, arith}
 use Rattle.std.specs.Prelude.{bit_and}
 use Rattle.std.specs.Int.{bit_at}
@@ -60,7 +60,7 @@ meet_back a b v h =
     let g = bit_at-lt a.0 v in
     omega (arith, e, h, f, g)
 
--- ---- where fewer JOINs are followed, less may happen
+-- ---- if fewer JOINs are followed, the chances are fewer
 
 pub record IsLess (a b : Chances) : Type 0 where
   pub reads : b.reads ≡ false → a.reads ≡ false

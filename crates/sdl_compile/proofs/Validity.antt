@@ -1,4 +1,4 @@
--- A transition each of whose places is right is valid.
+-- A transition whose places are all right is valid.
 use Rattle.std.proofs.Common.{◌≡◌, ℕ, zero, suc, ◌+◌, ◌<◌, List, [], ◌∷◌, length, map, Option, Some, None, refl, sym, ap, ◌∙◌, subst, arith}
 use Rattle.std.specs.Prelude.{slice_get, option_map, All, Contains}
 use Rattle.std.proofs.lemmas.List.{length-map}
@@ -23,14 +23,14 @@ mapped : {A B : Type 0} (f : A → B) (o : Option A) (y : B) → option_map f o 
 mapped f None y e = absurd (let k : ⊥ = cc in k)
 mapped f (Some x) y e = (x, refl, let g : f x ≡ y = cc in g)
 
--- an item of a list that another one was made of
+-- The item of a list from which an item of another list was made.
 pub item_of : {A B : Type 0} (f : A → B) (xs : List A) (ys : List B) (k : ℕ) (y : B) → ys ≡ map f xs → slice_get ys k ≡ Some y → (x : A) × (slice_get xs k ≡ Some x) × (f x ≡ y)
 item_of f xs ys k y e h = mapped f (slice_get xs k) y (sym (slice_get-map f xs k) ∙ ap (λ l. slice_get l k) (sym e) ∙ h)
 
 only_first : (P : ℕ → Type 0) → P 0 → (j : ℕ) → Contains (0 ∷ []) j → P j
 only_first P h j there = All-contains P (0 ∷ []) j (All-cons P 0 [] h (All-nil P)) there
 
--- what the compiler knows of a transition
+-- What the compiler knows of a transition.
 pub record IsMade (d : Draft) (t : Transition) : Type 0 where
   pub places : List Spot
   pub code : t.piece.code ≡ instructions places
@@ -53,7 +53,7 @@ module _ (d : Draft) (t : Transition) (made : IsMade d t) where
   long : length all ≡ length t.piece.code
   long = sym (length-map all (λ (p : Spot). p.instruction)) ∙ ap length (sym made.code)
 
-  -- the facts of a place
+  -- The facts about a place.
   record Facts (k : ℕ) (f : PlaceFacts) : Type 0 where
     spot : Spot
     there : slice_get all k ≡ Some spot
@@ -77,7 +77,7 @@ module _ (d : Draft) (t : Transition) (made : IsMade d t) where
       subst (λ k. IsFine d t all k p) f (subst (IsFine d t all k) same fine.0)
   fine_at (q ∷ l) k (suc j) n p e fine at = fine_at l (k + 1) j n p (omega (arith, e)) fine.1 at
 
-  -- the instruction of a place
+  -- The instruction of a place.
   record Code (k : ℕ) (x : Instruction) : Type 0 where
     spot : Spot
     there : slice_get all k ≡ Some spot
@@ -89,7 +89,7 @@ module _ (d : Draft) (t : Transition) (made : IsMade d t) where
       let h = item_of (λ (p : Spot). p.instruction) all t.piece.code k x made.code e in
       record { spot = h.0; there = h.1; is = h.2; fine = fine_at all 0 k k h.0 (omega arith) made.fine h.1 }
 
-  -- both
+  -- The facts and the instruction of a place.
   record Place (k : ℕ) (x : Instruction) (f : PlaceFacts) : Type 0 where
     right : IsRight d t f.shape f.set x
     going : All (Enters d t all (shape_after d.signals t.process.variables t.parameters x f.shape) (set_after x f.set)) (behind x k)
@@ -126,7 +126,7 @@ module _ (d : Draft) (t : Transition) (made : IsMade d t) where
       let b = facts_at j g at in
       subst (λ x. IsWithin x m) b.set (e.facts b.spot b.there).1
 
-  -- the sets of the places where the code goes on
+  -- The sets of the places where the code goes on.
   abbrev IsNext : VariableSet → ℕ → Type 0
   IsNext m j = (g : PlaceFacts) → slice_get t.piece.facts j ≡ Some g → IsWithin g.set m
 

@@ -1,4 +1,4 @@
--- What actions read is set where their events say so, and what they set is set behind them.
+-- Actions read only what is set, as their events say, and set what is set after them.
 use Rattle.std.proofs.Common.{◌≡◌, ℕ, ◌^◌, Bool, true, false, ◌||◌, max, List, [], ◌∷◌, ◌++◌, ◌⊎◌, inl, inr, ⊎_elim, Option, Some, None, IsSome, map, refl, sym, ap, ◌∙◌, subst, arith, append_assoc}
 use Rattle.std.specs.Prelude.{slice_get, bit_or}
 use Rattle.std.specs.Int.{bit_at}
@@ -61,7 +61,7 @@ reads_among (id ∷ ids) after x h = by_test (same_name x id.name) h (reads_amon
     by_test true e more = refl
     by_test false e more = more e
 
--- of two tests one of which passes, the second does where the first doesn't
+-- If the first of two tests fails and one passes, the second passes.
 last : (t : Bool) → false || (t || false) ≡ true → t ≡ true
 last true e = refl
 last false e = e
@@ -71,7 +71,7 @@ by_bool true f g = f refl
 by_bool false f g = g refl
 
 module _ (c : Scope) (start : ℕ) (numbered : AreNumbered (variable_names c.process)) where
-  -- the set has each variable that was set at the start or that the events set
+  -- The set has each variable that was set at the start or by the events.
   abbrev pub Holds : List Event → VariableSet → Type 0
   Holds before m = (x : List ℕ) (v : ℕ) → number_of (variable_names c.process) x ≡ Some v → (bit_at start v ≡ 1) ⊎ (sets_in before x ≡ true) → Has m v
 
@@ -95,7 +95,7 @@ module _ (c : Scope) (start : ℕ) (numbered : AreNumbered (variable_names c.pro
           (λ e. has_more m (number_or_zero (variable_at c n)) v (h x v at (inr e)))
           (λ e. same (last (same_name x n.name) (ap (λ t. t || sets_in (sets n.name ∷ []) x) (sym e) ∙ sym (sets_append before (sets n.name ∷ []) x) ∙ b)))
 
-  -- each of these names that isn't set before was set at the start
+  -- Each of these names that isn't set before was set at the start.
   abbrev Wants : List Event → List Identifier → Type 0
   Wants before ids = (v : ℕ) (id : Identifier) → slice_get (variable_names c.process) v ≡ Some id → sets_in before id.name ≡ false → is_in ids id.name ≡ true → bit_at start v ≡ 1
 
@@ -123,7 +123,7 @@ module _ (c : Scope) (start : ℕ) (numbered : AreNumbered (variable_names c.pro
         tree_read u before m named.1 h (λ v id at s i. w v id at s (in_append a b id.name ∙ ap (λ x. is_in a id.name || x) i ∙ or-true (is_in a id.name))),
       )
 
-  -- what the events read first was set at the start
+  -- Each variable that the events read first was set at the start.
   abbrev Reads : List Event → Type 0
   Reads events = (v : ℕ) (id : Identifier) → slice_get (variable_names c.process) v ≡ Some id → reads_first events id.name ≡ true → bit_at start v ≡ 1
 
@@ -146,7 +146,7 @@ module _ (c : Scope) (start : ℕ) (numbered : AreNumbered (variable_names c.pro
         subst (λ l. Holds l (tasks_set c m2 ts)) (append_assoc before (rs ++ s) fm) rest.1,
       )
 
-  -- an expression reads, and sets nothing
+  -- An expression reads, and sets nothing.
   pub one_read : (u : Tree) (before after : List Event) (m : VariableSet) → NamedTree c u → Holds before m → Reads (before ++ (tree_events u ++ after)) → ReadTree c m u
   one_read u before after m named h r =
       let names = tree_names u in

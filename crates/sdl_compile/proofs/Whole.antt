@@ -1,4 +1,4 @@
--- The draft of a block, from what its parts are.
+-- The draft of a block, made from its parts.
 use Rattle.std.proofs.Common.{◌≡◌, ℕ, zero, suc, ◌<◌, ◌≤◌, false, List, [], ◌∷◌, ◌++◌, length, get_or, map, Option, Some, None, refl, sym, ap, ◌∙◌, subst, arith, nat_lt, length-append}
 use Rattle.std.specs.Prelude.{slice_get, All, find, sum_by, option_map}
 use Rattle.std.specs.List.{AllZip, flat_map, list_any, position_or_len}
@@ -92,7 +92,7 @@ whole_count b (p ∷ ps) (d ∷ ds) z =
     let first = inputs_count (scope_of b p) (inputs_by_state p) d.states z.0.inputs in
     omega (arith, sum_by-cons draft_pieces d ds, sum_by-cons (λ (p : PlainProcess). length (pieces_of p)) p ps, first, rest)
 
--- ---- what a sound block has
+-- ---- properties of a sound block
 
 known_party : (ids : List Identifier) (party : Party) → Each (IsKnown ids) (party_names party) → KnownParty ids party
 known_party ids Environment h = tt
@@ -111,12 +111,12 @@ known_path b path e =
       signals = all_items (IsKnown (signal_names b)) path.signals (known (signal_names b) path.signals (nil_back parties signals e));
     }
 
--- an order of the connections of a process
+-- An order of the connections of a process.
 pub record HasOrder (p : PlainProcess) : Type 0 where
   pub order : List ℕ
   pub is : IsOrder p order
 
--- what a piece counts, and which connections it has
+-- The counts of a piece, and its connections.
 counted : (c : Scope) → (draft : Draft) (t : Transition) (q : Piece) → IsKnownTransition c draft t → NamedPiece c q → AreSorted c q.text → IsSmall c q → length q.places ≤ length t.parameters
     → (made : IsPieceOf c t.parameters t.entry q t.piece) → IsCounted c t q made.code.numbers
 counted c draft t q there named sorted small places made = record {
@@ -125,7 +125,7 @@ counted c draft t q there named sorted small places made = record {
   size = size_is c q named made.code.numbers made.code.placed t.piece.code made.code.code;
 }
 
--- no walk costs more than its code has instructions
+-- No walk costs more instructions than its code has.
 pub each_lawful : BudgetLaw → (ps : List PlainProcess) → flat_map process_cycles ps ≡ [] → Each (λ (p : PlainProcess). (t : Text) → text_budget p t ≤ text_size p t) ps
 each_lawful law ps e = each_with (λ (p : PlainProcess). process_cycles p ≡ []) (λ (p : PlainProcess). (t : Text) → text_budget p t ≤ text_size p t) (λ p e t. law p t e) ps (each_nil process_cycles ps e)
 
@@ -134,7 +134,7 @@ each_ordered [] orders z = tt
 each_ordered (p ∷ ps) [] z = absurd z
 each_ordered (p ∷ ps) (v ∷ orders) z = (record { order = v.items; is = z.0 }, each_ordered ps orders z.1)
 
--- an item with its place in the whole list
+-- An item with its place in the whole list.
 record Held {A : Type 0} (xs : List A) (x : A) : Type 0 where
   place : ℕ
   there : slice_get xs place ≡ Some x
@@ -239,7 +239,7 @@ module _ (b : PlainBlock) (sound : Sound b) where
   named_there : (n : ℕ) (p : PlainProcess) → slice_get ps n ≡ Some p → slice_get (process_names b) n ≡ Some p.name
   named_there n p e = slice_map (λ (p : PlainProcess). p.name) ps n ∙ ap (option_map (λ (p : PlainProcess). p.name)) e
 
-  -- ---- what the functions that make the parts ask
+  -- ---- what the functions that make the parts require
 
   pub few_names : HasFewNames b
   few_names = record {
@@ -309,7 +309,7 @@ module _ (b : PlainBlock) (sound : Sound b) where
     pub all_ready : All (λ p. IsReadyProcess (scope_of b p)) ps
     all_ready = all_items (λ p. IsReadyProcess (scope_of b p)) ps are_ready
 
-    -- a draft of a sound block whose processes are made of those of the block is valid
+    -- A draft of a sound block is valid if its processes are made from those of the block.
     pub valid : ChancesLaw → (d : Draft) (ds : List DraftProcess) → d.signals ≡ drafted_signals b → d.routes ≡ drafted_routes b → d.processes ≡ ds → AllZip (IsProcessOf b) ps ds → IsValid d
     valid chances d ds signals routes e zips =
         let size = zip_length (IsProcessOf b) ps ds zips in
@@ -351,7 +351,7 @@ zip_at R (x ∷ xs) [] i d e lt z = absurd z
 zip_at R (x ∷ xs) (y ∷ ys) zero d e lt z = z.0
 zip_at R (x ∷ xs) (y ∷ ys) (suc i) d e lt z = zip_at R xs ys i d e (omega arith) z.1
 
--- what is found of one process
+-- The row found for one process.
 pub row_at : {X : Type 0} (R : PlainProcess → List X → Type 0) (all : List PlainProcess) (ts : List the_process.Process) (rows : List (Vec X)) (i : ℕ) (t : the_process.Process) (v : Vec X) (row : List X) → map process_of ts ≡ all → i < length ts
     → t ≡ get_or ts i t → v ≡ get_or rows i v → row ≡ v.items → AllZip (λ p (v : Vec X). R p v.items) all rows → R (process_of t) row
 row_at {X} R all ts rows i t v row m lt e f g zips =
@@ -367,7 +367,7 @@ paired {X} R all ts rows m zips =
     let f = ap length m in
     omega (arith, e, f, length-map ts process_of)
 
--- what holds of each process holds of that in table i
+-- What holds of each process holds of that in table i.
 pub one_ready : (P : PlainProcess → Type 0) (all : List PlainProcess) (ts : List the_process.Process) (i : ℕ) (t : the_process.Process) → map process_of ts ≡ all → i < length ts → t ≡ get_or ts i t → All P all → P (process_of t)
 one_ready P all ts i t m lt e h = subst (λ t. P (process_of t)) (sym e) (at_place ts i t lt (subst (All P) (sym m) h))
   where

@@ -23,7 +23,7 @@ use Rattle.sdl_compile.specs.Settings.{IsReadyPiece}
 use Rattle.sdl_meaning.proofs.Counted.{size_is}
 use Rattle.sdl_compile.proofs.Pieces.{means}
 
--- one more item of both lists
+-- One more item in both lists.
 pub zip_more : {A B C : Type 0} (R : B → C → Type 0) (f : A → B) (xs : List A) (i : ℕ) (d : A) (ys : List C) (y : C) → i < length xs → AllZip R (map f (take i xs)) ys → R (f (get_or xs i d)) y → AllZip R (map f (take (suc i) xs)) (ys ++ y ∷ [])
 zip_more R f [] i d ys y lt zips r = absurd (omega arith)
 zip_more R f (x ∷ xs) zero d [] y lt zips r = (r, tt)
@@ -31,7 +31,7 @@ zip_more R f (x ∷ xs) zero d (z ∷ ys) y lt zips r = absurd zips
 zip_more R f (x ∷ xs) (suc i) d [] y lt zips r = absurd zips
 zip_more R f (x ∷ xs) (suc i) d (z ∷ ys) y lt zips r = (zips.0, zip_more R f xs i d ys y (omega arith) zips.1 r)
 
--- one more item, where the first list is asked by place
+-- One more item, if the first list is read by place.
 pub zip_some : {B C : Type 0} (R : B → C → Type 0) (xs : List B) (i : ℕ) (ys : List C) (y : C) → i < length xs → AllZip R (take i xs) ys → IfSome (slice_get xs i) (λ x. R x y) → AllZip R (take (suc i) xs) (ys ++ y ∷ [])
 zip_some R [] i ys y lt zips r = absurd (omega arith)
 zip_some R (x ∷ xs) zero [] y lt zips r = (r, tt)
@@ -39,7 +39,7 @@ zip_some R (x ∷ xs) zero (z ∷ ys) y lt zips r = absurd zips
 zip_some R (x ∷ xs) (suc i) [] y lt zips r = absurd zips
 zip_some R (x ∷ xs) (suc i) (z ∷ ys) y lt zips r = (zips.0, zip_some R xs i ys y (omega arith) zips.1 r)
 
--- each of them is ready
+-- Each of them is ready.
 pub ready_at : {A : Type 0} (c : Scope) (f : A → Input) (xs : List A) (i : ℕ) (x : A) → i < length xs → x ≡ get_or xs i x → AreReady c (map f xs) → IsReadyInput c (f x)
 ready_at c f [] i x lt is h = absurd (omega arith)
 ready_at c f (y ∷ xs) zero x lt is h = subst (λ y. IsReadyInput c (f y)) (sym is) h.0
@@ -49,13 +49,13 @@ ready_parts : (c : Scope) (xs ys : List Input) → AreReady c (xs ++ ys) → Are
 ready_parts c [] ys h = (tt, h)
 ready_parts c (x ∷ xs) ys h = let r = ready_parts c xs ys h.1 in ((h.0, r.0), r.1)
 
--- and so are those that one of the others stands for
+-- So are the items of each of the lists that are joined.
 pub ready_within : {A : Type 0} (c : Scope) (f : A → List Input) (xs : List A) (i : ℕ) (x : A) → i < length xs → x ≡ get_or xs i x → AreReady c (flat_map f xs) → AreReady c (f x)
 ready_within c f [] i x lt is h = absurd (omega arith)
 ready_within c f (y ∷ xs) zero x lt is h = subst (λ y. AreReady c (f y)) (sym is) (ready_parts c (f y) (flat_map f xs) h).0
 ready_within c f (y ∷ xs) (suc i) x lt is h = ready_within c f xs i x (omega arith) is (ready_parts c (f y) (flat_map f xs) h).1
 
--- what an INPUT takes, signal by signal
+-- The inputs of an INPUT, signal by signal.
 pub stimuli_taken : (i : InputPart) → stimulus_inputs (input_of i) ≡ map (input_by i) i.stimuli.items
 stimuli_taken i = mapped i.stimuli.items
   where
@@ -68,13 +68,13 @@ all_ready_more c f [] i d lt h = absurd (omega arith)
 all_ready_more c f (x ∷ xs) zero d lt h = h
 all_ready_more c f (x ∷ xs) (suc i) d lt h = all_ready_more c f xs i d (omega arith) h
 
--- what each list of names is, list i is
+-- What holds of each list of names holds of list i.
 pub triggers_at : {A : Type 0} (c : Scope) (f : A → List Identifier) (xs : List A) (i : ℕ) (d : A) → i < length xs → AllTriggers c (map f xs) → AreTriggers c (f (get_or xs i d))
 triggers_at c f [] i d lt h = absurd (omega arith)
 triggers_at c f (x ∷ xs) zero d lt h = h.0
 triggers_at c f (x ∷ xs) (suc i) d lt h = triggers_at c f xs i d (omega arith) h.1
 
--- inputs that are made do what they mean
+-- Inputs that are made match what they mean.
 inputs_match : (c : Scope) (entry : VariableSet) (is : List Input) (ds : List DraftInput) → AreReady c is → AllZip (IsInputOf c entry) is ds → AllZip (MatchesInput c) is ds
 inputs_match c entry [] [] ready made = tt
 inputs_match c entry [] (d ∷ ds) ready made = absurd made
@@ -91,14 +91,14 @@ inputs_match c entry (i ∷ is) (d ∷ ds) ready made = (
   inputs_match c entry is ds ready.1 made.1,
 )
 
--- and so do those of all states
+-- The inputs of all states match, too.
 pub states_match : (c : Scope) (iss : List (List Input)) (ds : List DraftState) → AllReady c iss → AllZip (AreInputsOf c) iss ds → AllZip (MatchesInputs c) iss ds
 states_match c [] [] ready made = tt
 states_match c [] (d ∷ ds) ready made = absurd made
 states_match c (is ∷ iss) [] ready made = absurd made
 states_match c (is ∷ iss) (d ∷ ds) ready made = (inputs_match c d.set is d.inputs ready.0 made.0, states_match c iss ds ready.1 made.1)
 
--- one more state has its set
+-- One more state has its set.
 pub sets_more : (ds : List DraftState) (d : DraftState) (sets : List ℕ) (i : ℕ) → i < length sets → sets_of ds ≡ take i sets → d.set.0 ≡ get_or sets i 0 → sets_of (ds ++ d ∷ []) ≡ take (suc i) sets
 sets_more ds d sets i lt e f =
     map-append (λ (d : DraftState). d.set.0) ds (d ∷ []) ∙ ap (λ l. l ++ d.set.0 ∷ []) e ∙ ap (λ v. take i sets ++ v ∷ []) f ∙ sym (take-suc sets i 0 lt)
@@ -107,11 +107,11 @@ enumerated : (n : ℕ) (ids : List Identifier) → length (enumerate_from n ids)
 enumerated n [] = refl
 enumerated n (id ∷ ids) = ap suc (enumerated (n + 1) ids)
 
--- each state has what its parts give
+-- Each state has the items of its parts.
 pub paired : {X : Type 0} (in_part : PlainState → List X) (p : PlainProcess) → length (by_state in_part p) ≡ length (states_of p)
 paired in_part p = length-map (enumerate_from 0 (states_of p)) (λ (s : ℕ × Identifier). of_state in_part p s.0) ∙ enumerated 0 (states_of p)
 
--- one more item of a list that is made of another one
+-- One more item of a list that is made from another one.
 pub made_more : {A B : Type 0} (f : A → B) (xs : List A) (i : ℕ) (x : A) → slice_get xs i ≡ Some x → map f (take i xs) ++ f x ∷ [] ≡ map f (take (suc i) xs)
 made_more f [] i x e = absurd (let k : ⊥ = cc in k)
 made_more f (y ∷ xs) zero x e = let g : y ≡ x = cc in ap (λ y. f y ∷ []) (sym g)

@@ -1,4 +1,4 @@
--- What the transitions of a process share.
+-- The context that the transitions of a process share.
 use Rattle.std.specs.Prelude.{◌≡◌}
 use Rattle.sdl_ast.specs.Views.{block_of, process_of}
 use Rattle.sdl_sound.specs.Orders.{IsOrder}
@@ -7,8 +7,8 @@ use Rattle.sdl_trimmed.specs.Trimmed.{AreTrimmed}
 use Rattle.sdl_compile.specs.declared.state.Context.{Context}
 use Rattle.sdl_meaning.specs.Declarations.{drafted_signals, drafted_variables}
 
--- the variables are those of the process, the signals those of the block; the order, the measures
--- and the copies are those of its connections
+-- The variables are those of the process, the signals those of the block. The order, the measures
+-- and the copies are those of the connections of the process.
 pub record IsContext (x : Context) : Type 0 where
   pub variables : x.variables.now ≡ drafted_variables (process_of x.names.now.process.now)
   pub signals : x.signals.now ≡ drafted_signals (block_of x.names.now.block.now)

@@ -1,5 +1,5 @@
--- What a draft says of a process: names and numbers in the order of the text, and pieces that do
--- what the transitions mean.
+-- The draft of a process: names and numbers in the order of the text, and pieces that do what the
+-- transitions mean.
 use Rattle.std.specs.Prelude.{◌≡◌, ℕ, ◌≤◌, List, [], ◌∷◌, length, map, Option, Some, None, IsSome}
 use Rattle.std.specs.List.{AllZip}
 use Rattle.plain_laws.specs.Limits.{MOST_PARAMETERS, MOST_SIGNALS, MOST_STATES, MOST_TIMERS_EACH}
@@ -24,20 +24,20 @@ use Rattle.sdl_meaning.specs.Named.{AreSorted, NamedPiece, IsSentTo, AnswersAll}
 use Rattle.sdl_compile.specs.Made.{IsCodeOf, IsLongestOf, IsPieceOf, IsSmall}
 use Rattle.sdl_meaning.specs.Declarations.{drafted_variables, trigger_of, trigger_sorts}
 
--- ---- what a draft says
+-- ---- the contents of a draft
 
--- On every input that comes from who may have sent it (where no route brings it there is none), the
--- run of the piece is the meaning of the transition: its effects, its variables, its end and its
--- count (one that doesn't fit is stuck in the same way). The code stands in its order: of an
--- Integer DECISION the body of ELSE before the answers', and the connections behind all, each once.
--- The certificate names the longest path, and the code has as many instructions as the text says.
+-- On every input from a possible sender, the run of the piece is the meaning of the transition: its
+-- effects, its variables, its end and its count. An input that doesn't fit gets stuck in the same
+-- way. In the code of an Integer DECISION the body of ELSE comes before those of the answers.
+-- Connections come after all else, each only once. The certificate names the longest path, and the
+-- code has as many instructions as the text counts.
 pub record Means (c : Scope) (from : Option Identifier) (q : Piece) (d : DraftPiece) : Type 0 where
   pub run_is_act : (x : code_input.Input) → IsSentTo c from x.sender → run d.code x ≡ Act c q x
   pub code : IsCodeOf c q d.code
   pub certificate : IsLongestOf c q d.certificate
   pub size : length d.code ≡ piece_size c.process q
 
--- an input waits for its signal or timer, and its piece means its transition
+-- An input waits for its signal or timer, and its piece means its transition.
 pub record MatchesInput (c : Scope) (i : Input) (d : DraftInput) : Type 0 where
   pub trigger : d.trigger ≡ trigger_of c i.stimulus.name
   pub means : Means c (Some i.stimulus.name) (input_piece i) d.piece
@@ -48,12 +48,12 @@ MatchesInputs c is d = AllZip (MatchesInput c) is d.inputs
 abbrev pub IsNamedAs : Identifier → DraftState → Type 0
 IsNamedAs id d = d.name ≡ id.name
 
--- a state saves what these names stand for
+-- A state saves the signals and timers with these names.
 abbrev pub SavesAll : Scope → List Identifier → DraftState → Type 0
 SavesAll c ids d = d.saves ≡ map (trigger_of c) ids
 
--- the draft of a process of a block: as many instances; variables, timers, states, inputs and saves
--- have their names and numbers in the order of the text
+-- The draft of a process of a block has as many instances. Its variables, timers, states, inputs
+-- and saves have their names and numbers in the order of the text.
 pub record MatchesProcess (b : PlainBlock) (p : PlainProcess) (d : DraftProcess) : Type 0 where
   pub name : d.name ≡ p.name.name
   pub instances : d.instances ≡ p.instances
@@ -64,15 +64,15 @@ pub record MatchesProcess (b : PlainBlock) (p : PlainProcess) (d : DraftProcess)
   pub saves : AllZip (SavesAll (scope_of b p)) (saves_by_state p) d.states
   pub inputs : AllZip (MatchesInputs (scope_of b p)) (inputs_by_state p) d.states
 
--- ---- what the compiler asks of a process
+-- ---- what the compiler requires of a process
 
--- a name of a signal, or of a timer of the process
+-- A name of a signal, or of a timer of the process.
 abbrev pub IsTrigger : Scope → Identifier → Type 0
 IsTrigger c id =
     number_of (signal_names c.block) id.name ≡ None
     → IsSome (number_of (timers_of c.process) id.name)
 
--- an input whose names are all there, with places for its parameters, within the limits
+-- An input with known names and with places for its parameters, within the limits.
 pub record IsReadyInput (c : Scope) (i : Input) : Type 0 where
   pub named : NamedPiece c (input_piece i)
   pub answers : AnswersAll c (Some i.stimulus.name) i.text
@@ -98,7 +98,7 @@ abbrev pub AllTriggers : Scope → List (List Identifier) → Type 0
 AllTriggers c [] = Unit {0}
 AllTriggers c (ids ∷ rest) = AreTriggers c ids × AllTriggers c rest
 
--- a process whose names are all there, within the limits
+-- A process with known names, within the limits.
 pub record IsReadyProcess (c : Scope) : Type 0 where
   pub variables : length (variables_of c.process) ≤ MOST_VARIABLES
   pub timers : length (timers_of c.process) ≤ MOST_TIMERS_EACH
@@ -111,23 +111,23 @@ pub record IsReadyProcess (c : Scope) : Type 0 where
   pub inputs : AllReady c (inputs_by_state c.process)
   pub saves : AllTriggers c (saves_by_state c.process)
 
--- ---- what the compiler makes of an input
+-- ---- the result of the compiler for an input
 
 pub record IsInputOf (c : Scope) (entry : VariableSet) (i : Input) (d : DraftInput) : Type 0 where
   pub trigger : d.trigger ≡ trigger_of c i.stimulus.name
   pub piece : IsPieceOf c (trigger_sorts c i.stimulus.name) entry (input_piece i) d.piece
 
--- the inputs of a state that is entered with its set of variables
+-- The inputs of a state, which is entered with its set of variables.
 abbrev pub AreInputsOf : Scope → List Input → DraftState → Type 0
 AreInputsOf c is d = AllZip (IsInputOf c d.set) is d.inputs
 
--- the set of each state
+-- The set of each state.
 abbrev pub sets_of : List DraftState → List ℕ
 sets_of ds = map (λ (d : DraftState). d.set.0) ds
 
--- ---- what the compiler makes of a process
+-- ---- the result of the compiler for a process
 
--- what its pieces are, which have the sets of their states
+-- The pieces of a process, which begin with the sets of their states.
 pub record IsProcessOf (b : PlainBlock) (p : PlainProcess) (d : DraftProcess) : Type 0 where
   pub instances : d.instances ≡ p.instances
   pub variables : d.variables ≡ drafted_variables p

@@ -1,4 +1,4 @@
--- The meaning of a block as a function, and what a draft that has it keeps.
+-- The meaning of a block as a function, and the drafts that have it.
 use Rattle.std.specs.Prelude.{◌≡◌, ℕ, Option, None, Some, Result, Err, slice_get}
 use Rattle.sdl_ast.specs.Plain.{PlainProcess, PlainBlock}
 use Rattle.turn_code.specs.declared.input.Input.{Input}
@@ -18,8 +18,8 @@ use Rattle.sdl_compile.specs.Made.{IsLongestOf}
 use Rattle.sdl_compile.specs.Blocks.{MatchesBlock}
 use Rattle.sdl_compile.specs.Meaning.{piece_at, RunsAsMeant}
 
--- what a transition gives on an input, or how it gets stuck; where there is no such transition,
--- that is outside of the text
+-- The result of a transition on an input, or the trouble in which it gets stuck. If there is no
+-- such transition, this is `Outside`.
 abbrev pub meant_by : Scope → Option Piece → Input → Result Outcome Trouble
 meant_by c None x = Err Outside
 meant_by c (Some q) x = result_in (Act c q x)
@@ -28,11 +28,11 @@ abbrev pub meant_in : PlainBlock → Place → ℕ → Input → Option PlainPro
 meant_in b s i x None = Err Outside
 meant_in b s i x (Some p) = meant_by (scope_of b p) (piece_at p s i) x
 
--- what the block's input i at place s of process n gives on an input
+-- The result of the block's input i at place s of process n on an input.
 unfoldable pub meaning_of : PlainBlock → Meaning
 meaning_of b = λ n s i x. meant_in b s i x (slice_get (processes_of b) n)
 
--- the certificate names the longest path of the block's input i at place s of process n
+-- The certificate names the longest path of the block's input i at place s of process n.
 pub record IsCertifiedBy (b : PlainBlock) (n : ℕ) (s : Place) (i : ℕ) (k : Cert) : Type 0 where
   pub process : PlainProcess
   pub there : slice_get (processes_of b) n ≡ Some process
@@ -40,20 +40,20 @@ pub record IsCertifiedBy (b : PlainBlock) (n : ℕ) (s : Place) (i : ℕ) (k : C
   pub piece_there : piece_at process s i ≡ Some piece
   pub longest : IsLongestOf (scope_of b process) piece k
 
--- so for each transition of the draft
+-- The certificate of each transition of the draft does so.
 pub record IsCertifiedAs (b : PlainBlock) (d : Draft) : Type 0 where
   pub each : (n : ℕ) (s : Place) (i : ℕ) (t : Transition) → transition_at d n s i ≡ Some t
       → IsCertifiedBy b n s i t.piece.certificate
 
--- The draft is the block's: its names and numbers; on each input that fits, the run of each
--- transition gives what the block's transition at the same place means; and each certificate names
--- the longest path.
+-- The draft is that of the block. It has its names and numbers. On each input that fits, the run of
+-- each transition has the result that the transition at the same place of the block means. Each
+-- certificate names the longest path.
 pub record IsSetOf (b : PlainBlock) (d : Draft) : Type 0 where
   pub matches : MatchesBlock b d
   pub runs : RunsAsMeant b d
   pub means : Means (meaning_of b) d
   pub certified : IsCertifiedAs b d
 
--- what matches a sound block is its draft in each way
+-- A draft that matches a sound block is its draft in each way.
 abbrev pub SetLaw : Type 0
 SetLaw = (b : PlainBlock) (d : Draft) → Sound b → MatchesBlock b d → IsSetOf b d

@@ -9,7 +9,7 @@ use Rattle.turn_code.specs.declared.numbers.SignalNumber.{SignalNumber}
 use Rattle.sdl_tables.specs.Names.{number_of, signal_names, process_names}
 use Rattle.sdl_meaning.specs.Code.{number_or_zero}
 
--- the environment, or a process with one of these names
+-- The environment, or a process with one of these names.
 abbrev pub KnownParty : List Identifier → Party → Type 0
 KnownParty processes Environment = Unit {0}
 KnownParty processes (Process id) = IsSome (number_of processes id.name)
@@ -17,13 +17,13 @@ KnownParty processes (Process id) = IsSome (number_of processes id.name)
 abbrev pub IsKnown : List Identifier → Identifier → Type 0
 IsKnown among id = IsSome (number_of among id.name)
 
--- the processes and signals of a path are declared
+-- The processes and signals of a path are declared.
 pub record IsKnownPath (b : PlainBlock) (path : PlainPath) : Type 0 where
   pub from : KnownParty (process_names b) path.from
   pub to : KnownParty (process_names b) path.to
   pub signals : All (IsKnown (signal_names b)) path.signals
 
--- the block is within the limits of numbers
+-- The block is within the limits on numbers.
 pub record HasFewNames (b : PlainBlock) : Type 0 where
   pub processes : length (process_names b) ≤ MOST_PROCESSES
   pub signals : length (signal_names b) ≤ MOST_SIGNALS

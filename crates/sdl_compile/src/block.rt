@@ -1,4 +1,4 @@
-//! A block.
+//! Compiles a block.
 ghost use Rattle.std.specs.Prelude.{◌≡◌, ◌≤◌, ◌++◌, ℕ, length, map, All, IfOk, OnOk};
 ghost use Rattle.std.specs.List.{flat_map, AllZip};
 ghost use Rattle.std.specs.Global.{Vec};
@@ -30,7 +30,7 @@ use turn_code::{
     Sort,
 };
 
-/// What the rules have found of each process, by number.
+/// The findings of the rules for each process, by number.
 #[derive(Drop)]
 pub struct Surveys<'a> {
     pub sets: &'a [Vec<u32>],
@@ -74,7 +74,7 @@ fn compile_signals(
     Ok(signals)
 }
 
-/// The number of a process that is declared.
+/// The number of a declared process.
 fn process_number(processes: &NameTable, id: &Identifier) -> ProcessNumber
     requires there { IsKnown processes.now id.now }
     requires few { length processes.now ≤ MOST_PROCESSES }
@@ -86,7 +86,7 @@ fn process_number(processes: &NameTable, id: &Identifier) -> ProcessNumber
     }
 }
 
-/// The number of a signal that is declared.
+/// The number of a declared signal.
 fn signal_number(signals: &NameTable, id: &Identifier) -> SignalNumber
     requires there { IsKnown signals.now id.now }
     requires few { length signals.now ≤ MOST_SIGNALS }
@@ -98,7 +98,7 @@ fn signal_number(signals: &NameTable, id: &Identifier) -> SignalNumber
     }
 }
 
-/// Who sends or receives.
+/// The party of a draft for a sender or receiver.
 fn compile_party(processes: &NameTable, party: &sdl_ast::Party) -> Party
     requires there { KnownParty processes.now party.now }
     requires few { length processes.now ≤ MOST_PROCESSES }
@@ -110,7 +110,7 @@ fn compile_party(processes: &NameTable, party: &sdl_ast::Party) -> Party
     }
 }
 
-/// The numbers of signals that are declared.
+/// The numbers of declared signals.
 fn signal_numbers(
     alloc: Global,
     signals: &NameTable,
@@ -141,7 +141,7 @@ fn compile_path(alloc: Global, block: &BlockTable, path: &Path) -> Result<DraftR
     })
 }
 
-/// The paths of a route, at the end.
+/// Adds the paths of a route.
 fn push_paths(
     compiled: &mut Vec<DraftRoute>,
     alloc: Global,
@@ -175,7 +175,7 @@ fn compile_routes(
     Ok(compiled)
 }
 
-/// The processes, each with what the rules have found of it.
+/// Compiles the processes, each with the findings of the rules for it.
 fn compile_processes(
     alloc: Global,
     block: &BlockTable,
@@ -204,7 +204,7 @@ fn compile_processes(
     Ok(processes)
 }
 
-/// Compiles a block of whose processes this is found.
+/// Compiles a block, given the findings of the rules for its processes. Fails only if memory runs out.
 pub fn compile_block(
     alloc: Global,
     block: &BlockTable,

@@ -1,4 +1,4 @@
-//! A sound block.
+//! Compiles a sound block.
 ghost use Rattle.std.specs.Prelude.{IfOk};
 ghost use Rattle.sdl_ast.specs.Views.{block_of};
 ghost use Rattle.turn_code.specs.Valid.{IsValid};
@@ -12,10 +12,10 @@ use turn_code::Draft;
 
 /// Compiles a sound block.
 ///
-/// The draft has the names and numbers of the block's signals, paths, processes, variables, states
-/// and inputs in the order of the text. On every input that fits a transition of the draft, the run
-/// of its piece is what the block's transition at the same place means; its certificate names the
-/// longest path. The draft is valid. Want of memory is the only error.
+/// The draft has the names and numbers of the block's signals, paths, processes, variables, states and inputs, in the
+/// order of the text. On every input that fits a transition of the draft, the run of its piece is what the transition
+/// at the same place of the block means. Its certificate names the longest path. The draft is valid. Fails only if
+/// memory runs out.
 pub fn compile(alloc: Global, resolved: &Resolved) -> Result<Draft, AllocError>
     ensures means { IfOk result (λ d. MatchesBlock (block_of resolved.now) d) }
     ensures runs { IfOk result (λ d. RunsAsMeant (block_of resolved.now) d) }

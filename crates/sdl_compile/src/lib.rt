@@ -1,4 +1,4 @@
-//! From a sound block to a draft: a piece for each transition, and that each place of it keeps the rules of a valid draft.
+//! From a sound block to a draft: a piece for each transition, each place of which keeps the rules of a valid draft.
 #![tactic(auto)]
 
 mod block;

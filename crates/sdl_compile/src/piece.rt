@@ -1,4 +1,4 @@
-//! The piece of a transition.
+//! Compiles a transition to a piece.
 ghost use Rattle.std.specs.Prelude.{◌≡◌, ◌≤◌, length, Option, IfOk};
 ghost use Rattle.sdl_ast.specs.declared.expression.Identifier as tree_identifier;
 ghost use Rattle.sdl_ast.specs.Views.{text_of};
@@ -19,7 +19,7 @@ use sdl_facts::{
 use std::alloc::{AllocError, Global};
 use turn_code::{Cert, DraftPiece, PlaceFacts, Sequence};
 
-/// How many instructions INPUT's places have.
+/// How many instructions the places of INPUT have.
 fn places_length(places: &[Option<Identifier>]) -> usize
     requires { length places.now ≤ MOST_PARAMETERS }
     ensures { result ≡ places_cost places.now }
@@ -33,7 +33,7 @@ fn places_length(places: &[Option<Identifier>]) -> usize
     length
 }
 
-/// The count of the first place, and so of the whole.
+/// The count of the first place, which is that of the whole piece.
 fn first_count(facts: &[PlaceFacts]) -> u32
     ensures { result ≡ count_from facts.now }
 {
@@ -43,7 +43,7 @@ fn first_count(facts: &[PlaceFacts]) -> u32
     }
 }
 
-/// The effects of the first place, and so of the whole.
+/// The effects of the first place, which are those of the whole piece.
 fn first_effects(facts: &[PlaceFacts]) -> u32
     ensures { result ≡ effects_from facts.now }
 {
@@ -53,7 +53,7 @@ fn first_effects(facts: &[PlaceFacts]) -> u32
     }
 }
 
-/// The piece of a transition: INPUT's places (START has none), and then its text.
+/// The piece of a transition: the places of INPUT (START has none), and then its text.
 fn make_piece(
     alloc: Global,
     setting: &Setting,
@@ -102,11 +102,10 @@ fn make_piece(
     })
 }
 
-/// Compiles a transition: INPUT's places (START has none), and then its text.
+/// Compiles a transition: the places of INPUT (START has none), and then its text.
 ///
-/// On every input that comes from who may have sent it, the run of the piece is what the transition
-/// means: its effects, its variables, its end and its count. The certificate names the longest path.
-/// Want of memory is the only error.
+/// On every input from a possible sender, the run of the piece is the meaning of the transition: its effects, its
+/// variables, its end and its count. The certificate names the longest path. Fails only if memory runs out.
 pub fn compile_transition(
     alloc: Global,
     setting: &Setting,

@@ -1,4 +1,4 @@
-//! A process.
+//! Compiles a process.
 ghost use Rattle.std.specs.Prelude.{◌≡◌, ◌≤◌, [], length, map, None, IfOk};
 ghost use Rattle.sdl_ast.specs.Views.{block_of, process_of};
 ghost use Rattle.std.specs.List.{AllZip};
@@ -38,7 +38,7 @@ fn compile_timers(alloc: Global, table: &NameTable) -> Result<Vec<Name>, AllocEr
     Ok(timers)
 }
 
-/// Compiles START: nothing comes with it, and what has an initial value is set as it begins.
+/// Compiles START, which has no parameters. Variables with an initial value are set as it begins.
 fn compile_start(alloc: Global, context: &Context) -> Result<DraftPiece, AllocError>
     requires ready { IsReadyProcess (scope_in context.now.names.now) }
     requires context { IsContext context.now }
@@ -66,7 +66,7 @@ fn compile_start(alloc: Global, context: &Context) -> Result<DraftPiece, AllocEr
     Ok(first)
 }
 
-/// The states of a process, with all that they take and save.
+/// The states of a process, with all their inputs and saves.
 fn compile_all(
     alloc: Global,
     context: &Context,
@@ -87,7 +87,7 @@ fn compile_all(
     compile_states(alloc, context, &saves, &inputs, sets)
 }
 
-/// What the names in the transitions of a process stand for, each looked up once.
+/// The meanings of the names in the transitions of a process, each looked up once.
 fn use_table<'a>(
     alloc: Global,
     block: &'a BlockTable<'a>,
@@ -107,8 +107,8 @@ fn use_table<'a>(
     Ok(uses)
 }
 
-/// What the rules have found of a process: for each state the variables that are set whenever the process is there, an
-/// order of its connections in which each stands behind all that it joins, and what they measure.
+/// The findings of the rules for a process. `sets` has for each state the variables that are set whenever the process
+/// is in it. `order` has each connection after all those that it joins; `measures` are those of the connections.
 #[derive(Drop)]
 pub struct Survey<'a> {
     pub sets: &'a [u32],
@@ -118,9 +118,9 @@ pub struct Survey<'a> {
 
 /// Compiles a process of a block with these signals.
 ///
-/// It has as many instances. Its variables, timers, states, inputs and saves have their names and numbers in the order of the
-/// text, each piece does what its transition means, and each certificate names the longest path. Want
-/// of memory is the only error.
+/// It has as many instances. Its variables, timers, states, inputs and saves have their names and numbers in the order
+/// of the text. Each piece does what its transition means, and each certificate names the longest path. Fails only if
+/// memory runs out.
 pub fn compile_process<'a>(
     alloc: Global,
     block: &'a BlockTable<'a>,

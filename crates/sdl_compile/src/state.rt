@@ -1,4 +1,4 @@
-//! The states of a process, with their inputs and what they save.
+//! Compiles the states of a process, with their inputs and saves.
 ghost use Rattle.std.specs.Prelude.{◌≡◌, ◌≤◌, ◌<◌, ◌++◌, List, length, map, IfOk, OnOk, IfSome, slice_get};
 ghost use Rattle.std.specs.List.{AllZip, flat_map};
 ghost use Rattle.sdl_ast.specs.Views.{text_of, input_of, block_of, process_of};
@@ -23,8 +23,8 @@ use turn_code::{
     Trigger, VariableSet,
 };
 
-/// What the transitions of a process share: its names and variables, the signals of the block, and what is known of its
-/// connections: an order in which each stands behind all that it joins, what they measure, and their copies.
+/// The context that the transitions of a process share: its names and variables, and the signals of the block. `order`
+/// has each connection after all those that it joins; `measures` and `copies` are those of the connections.
 #[derive(Drop)]
 pub struct Context<'a> {
     pub names: &'a Names<'a>,
@@ -35,7 +35,7 @@ pub struct Context<'a> {
     pub copies: &'a [Transition],
 }
 
-/// A name as a draft has it.
+/// A name, as a draft has it.
 pub fn draft_name(name: &Name) -> turn_code::Name
     ensures { result ≡ name.now }
 {
@@ -45,7 +45,7 @@ pub fn draft_name(name: &Name) -> turn_code::Name
     }
 }
 
-/// What a name stands for: a signal, else a timer.
+/// The signal, or else the timer, that a name stands for.
 fn trigger(names: &Names, id: &Identifier) -> Trigger
     requires { IsTrigger (scope_in names.now) id.now }
     ensures { result ≡ trigger_of (scope_in names.now) id.now }
@@ -59,7 +59,7 @@ fn trigger(names: &Names, id: &Identifier) -> Trigger
     }
 }
 
-/// The sorts of the parameters of the signal with this number, if it has one.
+/// The sorts of the parameters of the signal with this number; empty if there is none.
 fn parameters_at(signals: &[DraftSignal], number: Option<usize>) -> &[Sort]
     ensures { result.now ≡ parameters_by signals.now number }
 {
@@ -72,7 +72,7 @@ fn parameters_at(signals: &[DraftSignal], number: Option<usize>) -> &[Sort]
     }
 }
 
-/// The sorts of the parameters that come with what a name stands for.
+/// The sorts of the parameters that come with the signal or timer of this name.
 fn parameters<'a>(names: &Names, signals: &'a [DraftSignal], id: &Identifier) -> &'a [Sort]
     requires { signals.now ≡ drafted_signals (block_of names.now.block.now) }
     ensures { result.now ≡ trigger_sorts (scope_in names.now) id.now }
@@ -80,8 +80,8 @@ fn parameters<'a>(names: &Names, signals: &'a [DraftSignal], id: &Identifier) ->
     parameters_at(signals, names.block.signals().number(id.name))
 }
 
-/// Compiles an input of a state that is entered with these variables set: what it waits for, and
-/// the piece of its transition.
+/// Compiles an input of a state that is entered with these variables set: its signal or timer, and the piece of its
+/// transition. Fails only if memory runs out.
 pub fn compile_input(
     alloc: Global,
     context: &Context,
@@ -117,7 +117,7 @@ pub fn compile_input(
     })
 }
 
-/// Compiles what an INPUT takes, signal by signal.
+/// Adds the inputs of an INPUT, compiled signal by signal.
 fn push_stimuli(
     alloc: Global,
     drafts: &mut Vec<DraftInput>,
@@ -138,7 +138,7 @@ fn push_stimuli(
     Ok(())
 }
 
-/// Compiles what an INPUT takes. Its transition is copied once for all of its signals.
+/// Adds the inputs of an INPUT. Its transition is copied once for all of its signals.
 fn push_input(
     alloc: Global,
     drafts: &mut Vec<DraftInput>,
@@ -155,7 +155,7 @@ fn push_input(
     push_stimuli(alloc, drafts, context, entry, input, &copy)
 }
 
-/// Compiles the inputs of a state that is entered with these variables set, in their order.
+/// Compiles the inputs, in their order, of a state that is entered with these variables set.
 pub fn compile_inputs(
     alloc: Global,
     context: &Context,
@@ -173,7 +173,7 @@ pub fn compile_inputs(
     Ok(drafts)
 }
 
-/// What a state saves.
+/// The signals and timers that a state saves.
 fn compile_saves(
     alloc: Global,
     names: &Names,
@@ -189,7 +189,7 @@ fn compile_saves(
     Ok(saves)
 }
 
-/// A state, by its number.
+/// The state with this number.
 fn make_state(
     alloc: Global,
     context: &Context,
@@ -221,8 +221,8 @@ fn make_state(
     })
 }
 
-/// Compiles the states of a process. `sets` has for each of them the variables that are set as it
-/// is entered, bit v for variable v.
+/// Compiles the states of a process. `sets` has for each state the variables that are set as it is entered, bit v for
+/// variable v. Fails only if memory runs out.
 pub fn compile_states(
     alloc: Global,
     context: &Context,

@@ -1,4 +1,4 @@
-//! The variables of a process.
+//! Compiles the variables of a process.
 ghost use Rattle.std.specs.Prelude.{◌≡◌, map, IfOk};
 ghost use Rattle.sdl_tables.specs.Rows.{variable_of};
 ghost use Rattle.sdl_meaning.specs.Declarations.{drafted, constant_value, sort_of_tree};
@@ -19,7 +19,7 @@ fn value(constant: Constant) -> Value
     }
 }
 
-/// The sort of values, as a draft has it.
+/// The sort of the draft for a declared sort.
 pub(crate) fn sort(declared: sdl_ast::Sort) -> Sort
     ensures { result ≡ sort_of_tree declared }
 {
@@ -43,8 +43,8 @@ fn make_variable(row: &Variable) -> DraftVariable
     }
 }
 
-/// Compiles the variables of a process, in the order of the text: their names, sorts and initial
-/// values.
+/// Compiles the variables of a process, in the order of the text: their names, sorts and initial values. Fails only if
+/// memory runs out.
 pub fn compile_variables(alloc: Global, rows: &[Variable]) -> Result<Vec<DraftVariable>, AllocError>
     ensures { IfOk result (λ v. v.items ≡ map drafted (map variable_of rows.now)) }
 {

@@ -12,7 +12,7 @@ use Rattle.sdl_compile.specs.Drafts.{IsNamedAs, SavesAll, AreInputsOf}
 use Rattle.sdl_compile.proofs.Zips.{states_match}
 use Rattle.sdl_compile.proofs.process.compile_process.Goals as goal
 
--- the states, as the draft has them
+-- The states, as the draft has them.
 saved_in : (sc : Scope) (xs : List (List Identifier)) (ds es : List DraftState) → ds ≡ es → AllZip (SavesAll sc) xs ds → AllZip (SavesAll sc) xs es
 saved_in sc xs ds es f z = subst (λ (es : List DraftState). AllZip (SavesAll sc) xs es) f z
 

@@ -7,7 +7,7 @@ use Rattle.sdl_meaning.specs.Named.{AnswersAll}
 use Rattle.sdl_compile.specs.Drafts.{Means}
 use Rattle.sdl_compile.proofs.process.compile_start.Goals as goal
 
--- the same piece, from the tree of START
+-- The piece of START, from the tree.
 same_piece : (q r : Process) → q ≡ r → (let piece : Piece = record { places = []; text = text_of q.start.transition } in piece) ≡ start_piece (process_of r)
 same_piece q r e = ap (λ (q : Process). (let piece : Piece = record { places = []; text = text_of q.start.transition } in piece)) e
 
