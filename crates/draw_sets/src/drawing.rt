@@ -65,10 +65,10 @@ fn draw_read<W: Write>(alloc: Global, read: &TextRead, picture: &Picture<'_>, wr
     }
 }
 
-/// Draws a picture of a process set, or of one of its processes, in one write. It reads the whole text before it
-/// writes.  Returns the exit status. 0: the picture was written. 2: only a line was written: `refused CODE Name ..` as
-/// `check` prints it, or `refused B10 NoActor` if no process has that name. 4: out of memory, or a read or write
-/// failed.
+/// Draws a picture of a process set, or of one of its processes, in one write, after reading the whole text.
+///
+/// Returns the exit status. 0: the picture was written. 2: only a line was written: `refused CODE Name ..` as `check`
+/// prints it, or `refused B10 NoActor` if no process has that name. 4: out of memory, or a read or write failed.
 pub fn draw<R: Read + Drop, W: Write>(
     alloc: Global,
     set: SetWord<R>,

@@ -377,9 +377,13 @@ fn lines_noted(
     Ok(text)
 }
 
-/// Returns the lines of transitions in which two texts differ, each unchanged. Below the line of a transition that both
-/// texts have are the statements that differ, with their line numbers, and the changed connections that it reaches.
-/// These connections follow after all lines.  # Errors  Out of memory.
+/// Returns the lines of transitions in which two texts differ, each unchanged. Below that of a transition of both texts
+/// are the statements that differ, with line numbers, and the changed connections that it reaches. After all lines
+/// follow these connections.
+///
+/// # Errors
+///
+/// Out of memory.
 pub fn with_statements(
     alloc: Global,
     old_text: &str,

@@ -122,9 +122,12 @@ impl<O, P> SetDesk<O, P> {
 }
 
 impl<O: Orders, P: Reports> SetDesk<O, P> {
-    /// Makes a round. Each line's octets are received, and an octet is sent for each of them; a tick passes; the link
-    /// set does its tending; all reports are made; and orders that are due are obeyed. Returns whether the run goes on:
-    /// not after `quit`.  # Errors  Memory runs out, orders or reports fail, or no tick passes.
+    /// Makes a round: receives each line's octets and sends as many; lets a tick pass; tends the links; makes all
+    /// reports; and obeys the orders that are due. Returns whether the run goes on: not after `quit`.
+    ///
+    /// # Errors
+    ///
+    /// Memory runs out, orders or reports fail, or no tick passes.
     pub fn round<L: Lines>(
         &mut self,
         alloc: Global,

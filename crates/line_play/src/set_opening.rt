@@ -106,9 +106,12 @@ fn open_over<E: Write>(
     }
 }
 
-/// Opens a new link set whose terminals run these processes.  # Errors  The exit status. 2: the text is refused, or it
-/// lacks a name that a terminal needs; `errors` then has a line about it. 4: out of memory, or a read or that write
-/// failed.
+/// Opens a new link set whose terminals run these processes.
+///
+/// # Errors
+///
+/// The exit status. 2: the text is refused, or it lacks a name that a terminal needs; `errors` then has a line about
+/// it. 4: out of memory, or a read or that write failed.
 pub fn open_tender<S: Read + Drop, E: Write>(
     alloc: Global,
     plan: SetPlan,

@@ -46,6 +46,7 @@ struct Reading {
 
 /// Prints the fields of the signal unit whose octets, check octets included, the word spells in hexadecimal digits.
 /// Then it prints the number of the unit's bits on the line, between the flags. Spare bits are counted as they are.
+///
 /// Returns the exit status: 0; or 2 after a line `refused CODE Name` (H1 NotHex, then U1 TooShort, U2 TooLong, U3
 /// BadCheck, U4 BadLength); or 4 if memory runs out or a write fails.
 pub fn frame<W: Write>(alloc: Global, word: &str, writer: &mut W) -> u8

@@ -186,11 +186,14 @@ fn script_in<'a>(alloc: Global, text: &'a str) -> Result<Soak<'a>, ScriptFault>
     }
 }
 
-/// Reads a script of `soak`. Its first line is `links N` with the number of links, 1 to 16; if repeated before any
-/// other line, the last one counts. Then come lines `on L`, `offer P SIG v..` and `tick N`. Blank lines and comments
-/// may appear anywhere.  # Errors  [`ScriptFault::BadLine`] (X1) has the number of the first bad line, or 1 if no line
-/// is significant. For a text of more than 262,144 bytes it has the line of the first byte too many. Any call may
-/// return [`ScriptFault::NoMemory`] instead.
+/// Reads a script of `soak`: a first line `links N` with the number of links, 1 to 16 (if repeated at once, the last
+/// one counts), then lines `on L`, `offer P SIG v..` and `tick N`. Blank lines and comments may appear anywhere.
+///
+/// # Errors
+///
+/// [`ScriptFault::BadLine`] (X1) has the number of the first bad line, or 1 if no line is significant. For a text of
+/// more than 262,144 bytes it has the line of the first byte too many. Any call may return [`ScriptFault::NoMemory`]
+/// instead.
 pub fn soak_script<'a>(alloc: Global, text: &'a str) -> Result<Soak<'a>, ScriptFault>
     ensures script { IfOk result (λ s. soak_of text.now ≡ Ok (plain_soak s)) }
     ensures fault { IfErr result (IsFaultOf text.now) }

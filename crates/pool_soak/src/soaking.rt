@@ -31,8 +31,11 @@ use turn_pool::{Closed, Receipt, serve};
 /// Lets threads serve links that run the process set `standard`, carries out a script on them, and prints two lines.
 /// The first is `seats agree`: the counts match the journals (`seats differ` is checked for, but never occurs). The
 /// second is `audit yes` if there is a receipt for each event that the script made, and each receipt's event is at its
-/// place; else it is `audit no`. The commands of the script print nothing; a refused command has no receipt.  The whole
-/// script is read before anything is written; a bad line is refused before anything runs. Each line is one write.
+/// place; else it is `audit no`. The commands of the script print nothing; a refused command has no receipt.
+///
+/// The whole script is read before anything is written; a bad line is refused before anything runs. Each line is one
+/// write.
+///
 /// Returns the exit status. 0: all agrees and was written. 1: the second line is `audit no`. 2: the script was refused;
 /// only `refused F1 NotText` was written if it is no text, else `refused X1 BadLine line N` with its first bad line. 4:
 /// out of memory, a read or a write failed, the number of workers isn't 1 to 16, or no thread can be made. Nothing is

@@ -106,9 +106,10 @@ fn show_all<W: Write, E: Write>(
     }
 }
 
-/// Runs a book script on a process set, as `play_book` does, and writes each command's line of the script's text before
-/// its output.  Returns the exit status. 0: each command ran and all was written. 1: an expectation failed, and `failed
-/// line N` was written. 4: out of memory, or a write failed.
+/// Runs a book script as `play_book` does, and writes each command's line of the script's text before its output.
+///
+/// Returns the exit status. 0: each command ran and all was written. 1: an expectation failed, and `failed line N` was
+/// written. 4: out of memory, or a write failed.
 pub fn show_book<W: Write, E: Write>(
     alloc: Global,
     set: &Verified,

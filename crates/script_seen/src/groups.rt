@@ -104,10 +104,11 @@ fn show_all<W: Write>(
     }
 }
 
-/// Runs a link set's script on links whose terminals run a process set, as `play_group` does, and writes each command's
-/// line of the script's text before its output.  Returns the exit status. 0: each command ran and all was written. 1:
-/// an expectation failed, and `failed line N` was written. 2: the process set lacks a name that a terminal needs; only
-/// `refused X2 NoName NAME` was written. 4: out of memory, or a write failed.
+/// Runs a link set's script as `play_group` does, and writes each command's line of the script before its output.
+///
+/// Returns the exit status. 0: each command ran and all was written. 1: an expectation failed, and `failed line N` was
+/// written. 2: the process set lacks a name that a terminal needs; only `refused X2 NoName NAME` was written. 4: out of
+/// memory, or a write failed.
 pub fn show_group<W: Write>(
     alloc: Global,
     set: &Verified,

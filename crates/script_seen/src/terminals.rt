@@ -133,10 +133,11 @@ fn show_on<W: Write>(
     show_all(alloc, &mut player, &script.commands, text, writer)
 }
 
-/// Runs a terminal's script on a terminal that runs a process set, as `play_terminal` does, and writes each command's
-/// line of the script's text before its output.  Returns the exit status. 0: each command ran and all was written. 1:
-/// an expectation failed, and `failed line N` was written. 2: the process set lacks a name that a terminal needs; only
-/// `refused X2 NoName NAME` was written. 4: out of memory, or a write failed.
+/// Runs a terminal's script as `play_terminal` does, and writes each command's line of the script before its output.
+///
+/// Returns the exit status. 0: each command ran and all was written. 1: an expectation failed, and `failed line N` was
+/// written. 2: the process set lacks a name that a terminal needs; only `refused X2 NoName NAME` was written. 4: out of
+/// memory, or a write failed.
 pub fn show_terminal<W: Write>(
     alloc: Global,
     set: &Verified,

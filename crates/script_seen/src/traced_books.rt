@@ -192,9 +192,10 @@ fn trace_link<W: Write, T: Write, E: Write>(
 }
 
 /// Runs a book script on a process set, as `play_book` does, and traces it: each command's line of the script's text,
-/// except for `state`, `value` and `expect`, followed by a line for each event that it caused.  Returns the exit
-/// status. 0: each command ran and all was written. 1: an expectation failed, and `failed line N` was written. 4: out
-/// of memory, or a write failed.
+/// except for `state`, `value` and `expect`, followed by a line for each event that it caused.
+///
+/// Returns the exit status. 0: each command ran and all was written. 1: an expectation failed, and `failed line N` was
+/// written. 4: out of memory, or a write failed.
 pub fn trace_book<W: Write, T: Write, E: Write>(
     alloc: Global,
     set: &Verified,

@@ -341,10 +341,11 @@ fn trace_all<W: Write, T: Write>(
 
 /// Runs a link set's script on links whose terminals run a process set, as `play_group` does, and traces it as
 /// `trace_terminal` does. Each command's line is followed by its changeover messages, in words. Then comes, for each
-/// link in the order of numbers, a line `on L` and the events on that link, if there were any.  Returns the exit
-/// status. 0: each command ran and all was written. 1: an expectation failed, and `failed line N` was written. 2: the
-/// process set lacks a name that a terminal needs; only `refused X2 NoName NAME` was written. 4: out of memory, a write
-/// failed, or one command caused more events on a link than its journal holds.
+/// link in the order of numbers, a line `on L` and the events on that link, if there were any.
+///
+/// Returns the exit status. 0: each command ran and all was written. 1: an expectation failed, and `failed line N` was
+/// written. 2: the process set lacks a name that a terminal needs; only `refused X2 NoName NAME` was written. 4: out of
+/// memory, a write failed, or one command caused more events on a link than its journal holds.
 pub fn trace_group<W: Write, T: Write>(
     alloc: Global,
     set: &Verified,

@@ -222,10 +222,10 @@ fn trace_new<W: Write, T: Write>(
 }
 
 /// Runs a terminal's script as `play_terminal` does, and traces the events of its processes as `trace_book` does.
+///
 /// Returns the exit status. 0: each command ran and all was written. 1: an expectation failed, and `failed line N` was
 /// written. 2: the process set lacks a name that a terminal needs; only `refused X2 NoName NAME` was written. 4: out of
-/// memory, a write failed, or the terminal's journal restarts within a command: it does once more than half of it is
-/// full.
+/// memory, a write failed, or the terminal's journal, once more than half full, restarts within a command.
 pub fn trace_terminal<W: Write, T: Write>(
     alloc: Global,
     set: &Verified,

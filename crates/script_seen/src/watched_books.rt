@@ -107,9 +107,10 @@ fn watch_link<N: Watcher, W: Write, E: Write>(
     Ok(status)
 }
 
-/// Runs a book script on a process set, as `play_book` does, and notifies a watcher of its events.  Returns the exit
-/// status. 0: each command ran and all was written. 1: an expectation failed, and `failed line N` was written. 4: out
-/// of memory, or a write failed.
+/// Runs a book script on a process set, as `play_book` does, and notifies a watcher of its events.
+///
+/// Returns the exit status. 0: each command ran and all was written. 1: an expectation failed, and `failed line N` was
+/// written. 4: out of memory, or a write failed.
 pub fn watch_book<N: Watcher, W: Write, E: Write>(
     alloc: Global,
     set: &Verified,

@@ -137,10 +137,11 @@ fn watch_new<N: Watcher, W: Write>(
     }
 }
 
-/// Runs a terminal's script as `play_terminal` does, and notifies a watcher of the events of its processes.  Returns
-/// the exit status. 0: each command ran and all was written. 1: an expectation failed, and `failed line N` was written.
-/// 2: the process set lacks a name that a terminal needs; only `refused X2 NoName NAME` was written. 4: out of memory,
-/// a write failed, or one command caused more events than the terminal's journal holds.
+/// Runs a terminal's script as `play_terminal` does, and notifies a watcher of the events of its processes.
+///
+/// Returns the exit status. 0: each command ran and all was written. 1: an expectation failed, and `failed line N` was
+/// written. 2: the process set lacks a name that a terminal needs; only `refused X2 NoName NAME` was written. 4: out of
+/// memory, a write failed, or one command caused more events than the terminal's journal holds.
 pub fn watch_terminal<N: Watcher, W: Write>(
     alloc: Global,
     set: &Verified,
