@@ -1,4 +1,4 @@
--- How many of a list have a selection, element by element.
+-- How many messages of a list have a selection, element by element.
 use Rattle.std.proofs.Common.{◌≡◌, ◌≢◌, ℕ, ◌+◌, ◌<◌, ◌≤◌, ◌==◌, zero, suc, Bool, true, false, cond, List, [], ◌∷◌, Some, length, take, get_or, refl, sym, ap, ◌∙◌, arith, inl, inr}
 use Rattle.std.specs.Prelude.{slice_get, filter, ◌⊎◌}
 use Rattle.std.proofs.lemmas.Bool.{eq-eqb}

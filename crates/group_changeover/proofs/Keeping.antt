@@ -26,7 +26,7 @@ empty-places p e = record {
 
 -- ---- at one link
 
--- of what stands with the link, what comes and what leaves, taken by one selection
+-- the messages of one selection among those held, added and removed
 order-of : (s : ℕ) (held retrieval came left held2 hand2 : List Msu) → held ++ retrieval ++ came ≡ left ++ held2 ++ hand2
     → of s held ++ of s retrieval ++ of s came ≡ of s left ++ of s held2 ++ of s hand2
 order-of s held retrieval came left held2 hand2 e = sym (of-three s held retrieval came) ∙ ap (of s) e ∙ of-three s left held2 hand2
@@ -63,7 +63,7 @@ module _ (l : ℕ) (p q : Places) (o : OnePlace p) (t : AtOneLink l p q) where
   gone-of : (s : ℕ) → of s q.gone ≡ of s p.gone ++ of s t.left
   gone-of s = ap (of s) t.gone ∙ of-append s p.gone t.left
 
-  -- what stands of a selection that isn't the link's
+  -- the messages of a selection whose link isn't this one
   stands_else : (s : ℕ) (k : Option ℕ) → (k ≡ Some l → ⊥) → standing q s k ≡ standing p s k
   stands_else s None not_so = refl
   stands_else s (Some j) not_so = rw (t.held_else j (λ e. not_so (ap Some e)), t.retrieval_else j (λ e. not_so (ap Some e))) refl

@@ -1,4 +1,4 @@
--- Lists cut by a selection.
+-- Lists filtered by a selection.
 use Rattle.std.proofs.Common.{◌≡◌, ◌≢◌, ℕ, ◌==◌, Bool, true, false, not, cond, List, [], ◌∷◌, ◌++◌, refl, sym, ap, ◌∙◌, inl, inr}
 use Rattle.std.specs.Prelude.{filter, ◌⊎◌}
 use Rattle.std.proofs.lemmas.Bool.Decides.{eqb_tells}
@@ -17,7 +17,7 @@ of-nil s = refl
 pub of-three : (s : ℕ) (xs ys zs : List Msu) → of s (xs ++ ys ++ zs) ≡ of s xs ++ of s ys ++ of s zs
 of-three s xs ys zs = of-append s (xs ++ ys) zs ∙ ap (λ (l : List Msu). l ++ of s zs) (of-append s xs ys)
 
--- ---- a test behind a test
+-- ---- a filter after a filter
 
 true-false : {b : Bool} → b ≡ true → b ≡ false → ⊥
 true-false {b = true} p q = let e : true ≡ false = q in cc
@@ -43,7 +43,7 @@ filter-none : (p q : Msu → Bool) (ms : List Msu) → ((m : Msu) → p m ≡ tr
 filter-none p q [] h = refl
 filter-none p q (m ∷ ms) h = none_case p q m ms (p m) refl (h m) (filter-none p q ms h)
 
--- ---- of a selection, and off it
+-- ---- the messages of a selection, and all others
 
 other_test : (n r s : ℕ) → r ≢ s → (n == r) ≡ true → (n == s) ≡ false
 other_test n r s apart on = other_by (eqb_tells n r) (eqb_tells n s) on

@@ -1,4 +1,4 @@
--- A selection that goes from a retrieval to a link, or gets another link, keeps every message in its one place.
+-- A selection that moves from a retrieval to a link, or gets another link, keeps every message in its one place.
 use Rattle.std.proofs.Common.{◌≡◌, ℕ, ◌<◌, List, [], ◌++◌, Option, Some, None, refl, sym, ap, ◌∙◌, inl, inr}
 use Rattle.std.specs.Prelude.{◌⊎◌}
 use Rattle.std.proofs.lemmas.List.{append-nil}
@@ -11,7 +11,7 @@ use Rattle.group_changeover.proofs.Lists.{of-append, of-nil, of-of, of-of_other,
 use Rattle.group_changeover.proofs.Equal.{Same, same, Is, is, some_same}
 
 module _ (s l t : ℕ) (p q : Places) (small : s < SELECTIONS) (o : OnePlace p) (d : Diverts s l t p q) where
-  -- the selection was the failed link's
+  -- the failed link had the selection
   was_by : Is (p.link s) l → p.link s ≡ Some l
   was_by (inl e) = e
   was_by (inr not_so) = absurd (d.some (o.retrievals_else s l small not_so))
@@ -25,7 +25,7 @@ module _ (s l t : ℕ) (p q : Places) (small : s < SELECTIONS) (o : OnePlace p) 
   held_to : of s (p.held t) ≡ []
   held_to = o.links_else s t small (λ e. not_to t e refl)
 
-  -- the failed link holds nothing of it
+  -- the failed link holds no message of it
   held_from : of s (p.held l) ≡ []
   held_from = by (o.alone l)
     where
@@ -72,7 +72,7 @@ module _ (s l t : ℕ) (p q : Places) (small : s < SELECTIONS) (o : OnePlace p) 
   whole-at r h (inl e) = rw e whole_moved
   whole-at r h (inr apart) = whole_other r h apart
 
-  -- ---- elsewhere
+  -- ---- other links
 
   held_moved : (j : ℕ) → (q.link s ≡ Some j → ⊥) → Same j t → of s (q.held j) ≡ []
   held_moved j not_so (inl e) = absurd (not_so (d.link ∙ ap Some (sym e)))
@@ -117,7 +117,7 @@ module _ (s l t : ℕ) (p q : Places) (small : s < SELECTIONS) (o : OnePlace p) 
     alone = λ j. alone-at j (same j l);
   }
 
--- ---- other links for selections of which nothing stands
+-- ---- other links for selections without messages
 
 module _ (p q : Places) (o : OnePlace p) (d : PlacesAnew p q) where
   stands : (s : ℕ) (k : Option ℕ) → standing q s k ≡ standing p s k

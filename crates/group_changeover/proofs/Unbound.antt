@@ -1,4 +1,4 @@
--- Messages, those that are bound to a link left out.
+-- Messages without those that are bound to a link.
 use Rattle.std.proofs.Common.{◌≡◌, ℕ, ◌+◌, Bool, true, false, not, cond, List, [], ◌∷◌, ◌++◌, length, take, drop, refl, sym, ap, ◌∙◌}
 use Rattle.std.specs.Prelude.{All, filter, ◌&&◌}
 use Rattle.std.specs.List.{list_any}
@@ -50,13 +50,13 @@ all-unbound p (m ∷ ms) = one_by p m (unbound p ms) (is_bound p m) refl (all-un
 pub unbound-twice : (p : Points) (ms : List Msu) → unbound p (unbound p ms) ≡ unbound p ms
 unbound-twice p ms = unbound-all p (unbound p ms) (all-unbound p ms)
 
--- where those behind a place are left out, what isn't bound stays
+-- if bound messages are removed only from index n on, the unbound messages stay the same
 pub unbound-behind : (p : Points) (n : ℕ) (ms : List Msu) → unbound p (take n ms ++ unbound p (drop n ms)) ≡ unbound p ms
 unbound-behind p n ms =
     unbound-append p (take n ms) (unbound p (drop n ms)) ∙ ap (λ (xs : List Msu). unbound p (take n ms) ++ xs) (unbound-twice p (drop n ms))
     ∙ sym (unbound-append p (take n ms) (drop n ms)) ∙ ap (unbound p) (take-append-drop n ms)
 
--- those that are, and those that aren't, are all
+-- the bound and the unbound messages are all messages
 pub both : (p : Points) (ms : List Msu) → length (filter (is_bound p) ms) + length (unbound p ms) ≡ length ms
 unfolding unbound
 both p ms = length-filter_both (is_bound p) (λ m. not (is_bound p m)) (λ m. refl) ms

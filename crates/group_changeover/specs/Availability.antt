@@ -1,4 +1,4 @@
--- What a link set marks at each of its links.
+-- The state that a link set keeps for each of its links.
 use Rattle.std.specs.Prelude.{ℕ, ◌+◌, ◌-◌, ◌^◌, ◌||◌, Bool, true, false, min, List, Option, Some}
 use Rattle.std.specs.Prelude.{None}
 use Rattle.group_changeover.specs.declared.availability.Availability.{Availability}
@@ -12,7 +12,7 @@ use Rattle.group_changeover.specs.declared.availability.Behind.TheVariants as be
 abbrev pub just_begun : Changing
 just_begun = record { answer = None; waited = 0; retrieval = None }
 
--- The changeover of a link begins: from then on it is one that failed.
+-- A changeover of the link begins: from then on it is a failed link.
 abbrev pub begun : Availability → Availability
 begun m = record m { failed = true; behind = behind.Out; changing = Some just_begun }
 
@@ -20,18 +20,18 @@ abbrev pub begun_by : Option Changing → Availability → Availability
 begun_by None m = begun m
 begun_by (Some c) m = m
 
--- where none goes on
+-- a changeover begins, unless one is under way
 abbrev pub changeover_begins : Availability → Availability
 changeover_begins m = begun_by m.changing m
 
--- The first answer that tells how much was accepted counts; one that doesn't counts only while
--- there is none that does.
+-- The first answer with a number of accepted messages counts. An answer without a number counts
+-- only until there is one with a number.
 abbrev pub first_known : Option Answer → Answer → Answer
 first_known None a = a
 first_known (Some answer.Unknown) a = a
 first_known (Some (answer.Accepted n)) a = answer.Accepted n
 
--- No answer counts while a retrieval is out.
+-- An answer doesn't count while a retrieval is out.
 abbrev pub told_by : Option (List ℕ) → Answer → Changing → Changing
 told_by None a c = record c { answer = Some (first_known c.answer a) }
 told_by (Some counts) a c = c
@@ -40,12 +40,12 @@ abbrev pub told_in : Option Changing → Answer → Option Changing
 told_in None a = None
 told_in (Some c) a = Some (told_by c.retrieval a c)
 
--- An answer changes nothing where no changeover goes on.
+-- An answer changes nothing if no changeover is under way.
 abbrev pub told : Answer → Availability → Availability
 told a m = record m { changing = told_in m.changing a }
 
--- Of the messages that the link holds so many have left, from the front: what was told speaks of so
--- many fewer.
+-- So many of the messages that the link holds have left, from the front: the answer is reduced by
+-- as many.
 abbrev pub fewer_by : ℕ → Option Answer → Option Answer
 fewer_by n None = None
 fewer_by n (Some answer.Unknown) = Some answer.Unknown
@@ -63,7 +63,7 @@ abbrev pub waited_in : ℕ → Option Changing → Option Changing
 waited_in n None = None
 waited_in n (Some c) = Some (record c { waited = min (2 ^ 64 - 1) (c.waited + n) })
 
--- So are those since a link last came into service behind the beginning of one.
+-- So are the ticks since a link last came into service after the beginning of a changeover.
 abbrev pub waited_behind : ℕ → Behind → Behind
 waited_behind n behind.Nothing = behind.Nothing
 waited_behind n behind.Out = behind.Out
@@ -72,8 +72,7 @@ waited_behind n (behind.Back m) = behind.Back (min (2 ^ 64 - 1) (m + n))
 abbrev pub waits : ℕ → Availability → Availability
 waits n m = record m { behind = waited_behind n m.behind; changing = waited_in n m.changing }
 
--- A retrieval goes out, or what is left of it comes back to the caller, with so many messages of
--- each selection.
+-- A retrieval, or what is left of it, goes to the caller, with so many messages of each selection.
 abbrev pub retrieval_in : List ℕ → Option Changing → Option Changing
 retrieval_in counts None = None
 retrieval_in counts (Some c) = Some (record c { retrieval = Some counts })
@@ -81,11 +80,11 @@ retrieval_in counts (Some c) = Some (record c { retrieval = Some counts })
 abbrev pub with_retrieval : List ℕ → Availability → Availability
 with_retrieval counts m = record m { changing = retrieval_in counts m.changing }
 
--- The changeover ends. The link stays one that failed.
+-- The changeover ends. The link is still a failed link.
 abbrev pub ended : Availability → Availability
 ended m = record m { changing = None }
 
--- Behind the beginning of a changeover each coming into service counts from then on.
+-- After the beginning of a changeover each return to service restarts the count of ticks.
 abbrev pub back_again : Behind → Behind
 back_again behind.Nothing = behind.Nothing
 back_again behind.Out = behind.Back 0
@@ -95,10 +94,10 @@ back_again (behind.Back n) = behind.Back 0
 abbrev pub serves : Availability → Availability
 serves m = record m { anew = false; behind = back_again m.behind }
 
--- It may have selections, or may not: as it may for the first time, that is marked.
+-- The link may carry selections, or may not. `served` is set from the first time that it may.
 abbrev pub takes_part : Bool → Availability → Availability
 takes_part may m = record m { served = m.served || may }
 
--- Level 3 admits it, or does no longer.
+-- Level 3 admits the link, or no longer does.
 abbrev pub admits : Bool → Availability → Availability
 admits way m = record m { admitted = way }

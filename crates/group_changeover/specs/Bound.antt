@@ -1,5 +1,5 @@
--- Messages that have to go by the link they are given to: those of changeover and changeback,
--- traffic restart (Q.704, 15.4 to 15.6), and tests of a link (Q.707).
+-- Messages that must be sent on the link to which they are given: those of changeover, changeback
+-- and traffic restart (Q.704, 15.4 to 15.6), and tests of a link (Q.707).
 use Rattle.std.specs.Prelude.{ℕ, ◌/◌, ◌%◌, ◌==◌, ◌&&◌, ◌||◌, nat_lt, Bool, false, not}
 use Rattle.std.specs.Prelude.{
   if◌then◌else◌,
@@ -30,7 +30,7 @@ is_long heading = heading == 17 || (heading == 33 || (heading == 81 || heading =
 abbrev pub is_testing : ℕ → Bool
 is_testing heading = heading == 17 || heading == 33
 
--- behind the label: a heading, and of some an octet
+-- after the label: a heading, and in some messages an octet
 abbrev pub is_management : List ℕ → Bool
 is_management [] = false
 is_management (heading ∷ []) = is_short heading
@@ -44,24 +44,24 @@ is_test (heading ∷ []) = false
 is_test (heading ∷ octet ∷ pattern) =
     is_testing heading && (nat_lt 0 (length pattern) && octet / 16 == length pattern)
 
--- what stands behind the label, by the service indicator
+-- the octets after the label, by the service indicator
 abbrev pub is_content : ℕ → List ℕ → Bool
 is_content indicator octets =
     if indicator == 0 then is_management octets
     else (if indicator == 1 then is_test octets else false)
 
--- from this point to the other
+-- the label leads from this point to the other
 abbrev pub goes_between : Points → Option Label → Bool
 goes_between p None = false
 goes_between p (Some label) = label.dpc == p.peer && label.opc == p.own
 
--- a service information octet, and a field
+-- a message, as service information octet and field
 unfoldable pub is_bound_by : Points → ℕ → List ℕ → Bool
 is_bound_by p sio sif = goes_between p (label_in sif) && is_content (sio % 16) (drop 4 sif)
 
 abbrev pub is_bound : Points → Msu → Bool
 is_bound p m = is_bound_by p m.sio m.sif.items
 
--- those that aren't, in order
+-- the messages that aren't bound, in order
 unfoldable pub unbound : Points → List Msu → List Msu
 unbound p ms = filter (λ m. not (is_bound p m)) ms

@@ -7,7 +7,7 @@ use Rattle.group_changeover.specs.declared.changeover.Kind.TheVariants.{Emergenc
 use Rattle.group_changeover.specs.declared.changeover.Kind.TheVariants.{EmergencyAcknowledgement}
 use Rattle.group_changeover.specs.Labels.{label_in}
 
--- behind the label: the heading octet (COO 0x11, COA 0x21, ECO 0x12, ECA 0x22), and of COO and COA
+-- after the label: the heading octet (COO 0x11, COA 0x21, ECO 0x12, ECA 0x22), and in COO and COA
 -- the number of the last message accepted
 abbrev pub behind_label : Kind → List ℕ
 behind_label (Order accepted) = 17 ∷ accepted ∷ []
@@ -22,20 +22,20 @@ IsKind (Acknowledgement accepted) = accepted < 128
 IsKind EmergencyOrder = Unit {0}
 IsKind EmergencyAcknowledgement = Unit {0}
 
--- In a message that comes the spare bit of the number's octet is ignored.
+-- In a received message the spare bit of the number's octet is ignored.
 abbrev pub without_spare : List ℕ → List ℕ
 without_spare [] = []
 without_spare (heading ∷ []) = heading ∷ []
 without_spare (heading ∷ number ∷ []) = heading ∷ number % 128 ∷ []
 without_spare (heading ∷ number ∷ more ∷ others) = heading ∷ number ∷ more ∷ others
 
--- Octets are just those of a message, but for the spare bit.
+-- Octets are exactly those of a message, except for the spare bit.
 pub record Reads (octets : List ℕ) (m : Changeover) : Type 0 where
   pub kind : IsKind m.kind
   pub label : label_in octets ≡ Some m.label
   pub rest : without_spare (drop 4 octets) ≡ behind_label m.kind
 
--- octets are just those of a message
+-- octets are exactly those of a message
 pub record Says (octets : List ℕ) (m : Changeover) : Type 0 where
   pub kind : IsKind m.kind
   pub label : label_in octets ≡ Some m.label

@@ -1,4 +1,4 @@
--- What each step keeps.
+-- The invariant that each step keeps.
 use Rattle.std.specs.Prelude.{ℕ, ◌<◌}
 use Rattle.group_changeover.specs.Limits.{SELECTIONS}
 use Rattle.group_changeover.specs.Places.{Places, OnePlace, IsEmpty, AtOneLink, Diverts, PlacesAnew}

@@ -1,28 +1,28 @@
--- Where messages stand (Q.704, changeover).
+-- Where messages are (Q.704, changeover).
 use Rattle.std.specs.Prelude.{◌≡◌, ◌⊎◌, ℕ, ◌<◌, List, [], ◌++◌, Option, Some, None}
 use Rattle.resend_store.specs.declared.messages.Msu.{Msu}
 use Rattle.group_changeover.specs.Limits.{SELECTIONS}
 use Rattle.group_changeover.specs.Sharing.{of, off}
 
 pub record Places : Type 0 where
-  -- those that were accepted, in order
+  -- the messages that were accepted, in order
   pub accepted : List Msu
-  -- those that have left, acknowledged or unsure, in order
+  -- the messages that have left, acknowledged or unsure, in order
   pub gone : List Msu
-  -- those that each link holds, in the order in which they go
+  -- the messages that each link holds, in sending order
   pub held : ℕ → List Msu
-  -- those in the retrieval of each link, in the order in which they are diverted
+  -- the messages in the retrieval of each link, in the order in which they are diverted
   pub retrieval : ℕ → List Msu
   -- the link of each selection
   pub link : ℕ → Option ℕ
 
--- what stands of a selection in the place that it has: with its link, or in that link's retrieval
+-- the messages of a selection in its one place: held by its link, or in that link's retrieval
 abbrev pub standing : Places → ℕ → Option ℕ → List Msu
 standing p s None = []
 standing p s (Some l) = of s (p.held l) ++ of s (p.retrieval l)
 
--- Of each selection what was accepted is what has left, and then, in order, what stands in the one
--- place that it has. Nothing of it stands elsewhere, and of a link and its retrieval one is empty.
+-- For each selection, the accepted messages are those that have left and then, in order, those in
+-- its one place. None is elsewhere, and a link holds no message while it has a retrieval.
 pub record OnePlace (p : Places) : Type 0 where
   pub whole : (s : ℕ) → s < SELECTIONS → of s p.accepted ≡ of s p.gone ++ standing p s (p.link s)
   pub links_else : (s l : ℕ) → s < SELECTIONS → (p.link s ≡ Some l → ⊥) → of s (p.held l) ≡ []
@@ -30,14 +30,14 @@ pub record OnePlace (p : Places) : Type 0 where
       (s l : ℕ) → s < SELECTIONS → (p.link s ≡ Some l → ⊥) → of s (p.retrieval l) ≡ []
   pub alone : (l : ℕ) → (p.retrieval l ≡ []) ⊎ (p.held l ≡ [])
 
--- nothing was accepted yet
+-- no message accepted yet
 pub record IsEmpty (p : Places) : Type 0 where
   pub accepted : p.accepted ≡ []
   pub gone : p.gone ≡ []
   pub held : (l : ℕ) → p.held l ≡ []
   pub retrieval : (l : ℕ) → p.retrieval l ≡ []
 
--- Messages come to one link, leave it, or go from it into its retrieval or back, in their order.
+-- Messages are added to one link, leave it, or go from it into its retrieval or back, in order.
 pub record AtOneLink (l : ℕ) (p q : Places) : Type 0 where
   pub came : List Msu
   pub left : List Msu
@@ -65,7 +65,7 @@ pub record Diverts (s l t : ℕ) (p q : Places) : Type 0 where
   pub link : q.link s ≡ Some t
   pub link_else : (r : ℕ) → (r ≡ s → ⊥) → q.link r ≡ p.link r
 
--- Selections of which nothing stands get other links.
+-- Selections without messages in their place get other links.
 pub record PlacesAnew (p q : Places) : Type 0 where
   pub accepted : q.accepted ≡ p.accepted
   pub gone : q.gone ≡ p.gone

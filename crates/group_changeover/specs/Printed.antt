@@ -1,4 +1,4 @@
--- How refusals of a link set are printed.
+-- The printed text of a link set's refusals.
 use Rattle.std.specs.Prelude.{ℕ, List, ◌++◌, codes}
 use Rattle.std.specs.Fmt.{decimal}
 use Rattle.group_changeover.specs.declared.errors.SendError.{SendError}

@@ -1,4 +1,4 @@
--- What the marks of a link say of it in a changeover (Q.704).
+-- Queries of the state of a link in a changeover (Q.704).
 use Rattle.std.specs.Prelude.{ℕ, ◌&&◌, ◌||◌, nat_lt, nat_le, Bool, true, false, not, if◌then◌else◌}
 use Rattle.std.specs.Prelude.{Option, Some, None, is_some}
 use Rattle.group_changeover.specs.declared.changeover.Kind.{Kind}
@@ -14,7 +14,7 @@ use Rattle.group_changeover.specs.declared.availability.Behind.TheVariants as be
 use Rattle.group_changeover.specs.declared.availability.Changing.{Changing}
 use Rattle.group_changeover.specs.declared.availability.Availability.{Availability}
 
--- its changeover goes on
+-- a changeover of the link is under way
 abbrev pub is_changing : Availability → Bool
 is_changing m = is_some m.changing
 
@@ -22,17 +22,17 @@ is_changing m = is_some m.changing
 abbrev pub is_out : Changing → Bool
 is_out c = is_some c.retrieval
 
--- nothing was answered yet, and it is waited for that still
+-- there is no answer yet, and the changeover still waits for one
 abbrev pub is_waiting : Changing → Bool
 is_waiting c = not (is_some c.answer) && nat_lt c.waited T2
 
--- so many of the messages that the link holds the far side told of, where it told that
+-- how many of the messages that the link holds the far side accepted, if it reported that
 abbrev pub count_in : Option Answer → Option ℕ
 count_in None = None
 count_in (Some answer.Unknown) = None
 count_in (Some (answer.Accepted n)) = Some n
 
--- ---- orders behind a changeover
+-- ---- orders after a changeover
 
 abbrev pub is_out_behind : Behind → Bool
 is_out_behind behind.Nothing = false
@@ -44,12 +44,12 @@ is_late_behind behind.Nothing = false
 is_late_behind behind.Out = true
 is_late_behind (behind.Back n) = nat_le n LATE
 
--- Its changeover is over, and it hasn't come into service again.
+-- The changeover is over, and the link hasn't come into service again.
 abbrev pub is_over : Availability → Bool
 is_over m = not (is_changing m) && is_out_behind m.behind
 
--- Its changeover is over, and it hasn't come into service again, or did so last no more than LATE
--- ticks ago. An order that is heard then may be a late one of that changeover.
+-- The changeover is over, and the link hasn't come into service again, or did so last no more than
+-- LATE ticks ago. An order that is received then may be a late one of that changeover.
 abbrev pub is_late : Availability → Bool
 is_late m = not (is_changing m) && is_late_behind m.behind
 
@@ -59,29 +59,29 @@ is_order (kind.Acknowledgement fsn) = false
 is_order kind.EmergencyOrder = true
 is_order kind.EmergencyAcknowledgement = false
 
--- the number that a message tells
+-- the number in a message
 abbrev pub number_in : Kind → Option ℕ
 number_in (kind.Order fsn) = Some fsn
 number_in (kind.Acknowledgement fsn) = Some fsn
 number_in kind.EmergencyOrder = None
 number_in kind.EmergencyAcknowledgement = None
 
--- An order begins a changeover where none goes on, unless it may be a late one.
+-- An order begins a changeover if none is under way, unless it may be a late one.
 abbrev pub begun_by_message : Kind → Availability → Availability
 begun_by_message what m = if is_order what && not (is_late m) then changeover_begins m else m
 
 -- Whether an order holds the link: it begins a changeover, or may be a late one for a link that
--- came into service again, or what is answered tells the link's number. So no message is accepted
--- behind that number.
+-- came into service again, or its answer has the link's number. So no message is accepted after
+-- that number.
 abbrev pub is_held_by : Kind → Availability → Bool
 is_held_by what m =
     is_order what && not (is_over m)
     && (not (is_changing m) || is_some (number_in what) && not m.anew)
 
--- ---- what a message was
+-- ---- the effect of a message
 
--- An acknowledgement counts while nothing is handed out, and it wasn't told yet how many are
--- accepted.
+-- An acknowledgement counts while nothing is handed out, and while it isn't known how many messages
+-- are accepted.
 abbrev pub counts_in : Changing → Bool
 counts_in c = not (is_out c) && not (is_some (count_in c.answer))
 
@@ -94,14 +94,14 @@ hearing_of what m =
     if is_order what then (if is_late m || is_changing m then hearing.Order else hearing.Began)
     else answer_heard m.changing
 
--- ---- what is said and told
+-- ---- orders, acknowledgements and answers
 
--- An order for a link that was started anew is an emergency one: the numbers of which it would
--- speak are gone.
+-- An order for a link that was started anew is an emergency one: the numbers that it would report
+-- are gone.
 abbrev pub order_after : Availability → ℕ → Kind
 order_after m accepted = if m.anew then kind.EmergencyOrder else kind.Order accepted
 
--- so is an acknowledgement, and one for a link whose changeover is over and that is out of service
+-- so is an acknowledgement, also one for a link out of service whose changeover is over
 abbrev pub acknowledgement_after : Availability → ℕ → Kind
 acknowledgement_after m accepted =
     if m.anew || is_over m then kind.EmergencyAcknowledgement else kind.Acknowledgement accepted
@@ -110,8 +110,8 @@ abbrev pub answer_by : Option ℕ → Answer
 answer_by None = answer.Unknown
 answer_by (Some n) = answer.Accepted n
 
--- What is told of so many messages, where that is known. It is nothing for a link that was started
--- anew.
+-- The answer for this number of acknowledged messages, if it is known. It is unknown for a link
+-- that was started anew.
 abbrev pub answer_after : Availability → Option ℕ → Answer
 answer_after m count = if m.anew then answer.Unknown else answer_by count
 

@@ -1,33 +1,33 @@
-//! What is marked at each link.
+//! The state that a link set keeps for each link.
 ghost use Rattle.std.specs.Prelude.{◌≡◌};
 ghost use Rattle.group_changeover.specs.Availability.{changeover_begins, first_known, told, fewer_by, fewer, waited_behind, back_again, waits, with_retrieval, ended, serves, takes_part, admits};
 
-/// How many selections of a link there are.
+/// The number of signalling link selections.
 pub const SELECTIONS: usize = 16;
 
-/// So many ticks after a changeover began it goes on without an answer.
+/// After so many ticks a changeover proceeds without an answer (Q.704's T2).
 pub const T2: u64 = 1_400;
 
-/// Within so many ticks after a link came into service again an order may be a late one of its last changeover.
+/// Until so many ticks after a link came into service again, an order may be a late one of its last changeover.
 pub const LATE: u64 = 1_400;
 
-/// What the far side told of a link that failed.
+/// What the far side reported of a link that failed.
 #[derive(Clone, Copy, Debug, PartialEq, Eq)]
 pub enum Answer {
     /// It accepted so many of the messages that the link holds.
     Accepted(usize),
-    /// It isn't known how many.
+    /// It isn't known how many it accepted.
     Unknown,
 }
 
-/// Where a link stands behind the beginning of its last changeover.
+/// The state of a link since its last changeover began.
 #[derive(Clone, Copy, Debug, PartialEq, Eq)]
 pub enum Behind {
-    /// None has begun.
+    /// No changeover has begun.
     Nothing,
-    /// It hasn't come into service again.
+    /// The link hasn't come into service again.
     Out,
-    /// It came into service again, the last time so many ticks ago; that stays at its greatest value.
+    /// The link came into service again, the last time so many ticks ago; the count stays at its greatest value.
     Back(u64),
 }
 
@@ -57,32 +57,32 @@ impl Behind {
 /// The changeover of a link.
 #[derive(Clone, Copy, Debug, PartialEq, Eq)]
 pub struct Changing {
-    /// What the far side told: the first that told how much it accepted, else the last.
+    /// The answer of the far side: the first with a number of accepted messages, or else the last.
     pub answer: Option<Answer>,
-    /// For how many ticks it has gone on; it stays at its greatest value.
+    /// The ticks since it began; the count stays at its greatest value.
     pub waited: u64,
-    /// Where its messages were handed out, how many of each selection are not yet diverted.
+    /// If its messages were handed out, how many of each selection are not yet diverted.
     pub retrieval: Option<[usize; SELECTIONS]>,
 }
 
-/// What is marked at a link.
+/// The state that a link set keeps for a link.
 #[derive(Clone, Copy, Debug, PartialEq, Eq)]
 pub struct Availability {
-    /// It has been in service, not held, while it was admitted.
+    /// The link has been in service, not held, while it was admitted.
     pub served: bool,
-    /// Level 3 admits it to selections and to what other links hand out.
+    /// Level 3 admits the link to selections and to messages retrieved from other links.
     pub admitted: bool,
-    /// It was started while it was out of service, and hasn't come into service since.
+    /// The link was started while it was out of service, and hasn't come into service since.
     pub anew: bool,
-    /// Its changeover began, and nothing was rebalanced since.
+    /// A changeover of the link began, and nothing was rebalanced since.
     pub failed: bool,
-    /// Whether it came into service again since its last changeover began.
+    /// The state of the link since its last changeover began.
     pub behind: Behind,
-    /// Its changeover, while that goes on.
+    /// The changeover under way, if there is one.
     pub changing: Option<Changing>,
 }
 
-/// The first answer that told how much was accepted, else this one.
+/// The first answer with a number of accepted messages, or else this one.
 fn first_known(was: Option<Answer>, answer: Answer) -> Answer
     ensures { result ≡ first_known was answer }
 {
@@ -92,7 +92,7 @@ fn first_known(was: Option<Answer>, answer: Answer) -> Answer
     }
 }
 
-/// An answer that speaks of so many messages fewer.
+/// The answer after `left` of the messages that it counts have left.
 fn fewer_by(answer: Option<Answer>, left: usize) -> Option<Answer>
     ensures { result ≡ fewer_by left answer }
 {
@@ -103,7 +103,7 @@ fn fewer_by(answer: Option<Answer>, left: usize) -> Option<Answer>
 }
 
 impl Availability {
-    /// A changeover begins, unless one goes on.
+    /// Begins a changeover, unless one is under way.
     pub fn changeover_begins(self) -> Availability
         ensures { result ≡ changeover_begins self }
     {
@@ -122,7 +122,7 @@ impl Availability {
         }
     }
 
-    /// The far side answers.
+    /// Takes an answer of the far side.
     pub fn told(self, answer: Answer) -> Availability
         ensures { result ≡ told answer self }
     {
@@ -138,7 +138,7 @@ impl Availability {
         }
     }
 
-    /// So many of the link's messages have left, from the front.
+    /// Reduces the answer by `left` messages that have left the link, from the front.
     pub fn fewer(self, left: usize) -> Availability
         ensures { result ≡ fewer left self }
     {
@@ -172,7 +172,7 @@ impl Availability {
         }
     }
 
-    /// So many messages of each selection are retrieved.
+    /// Records how many messages of each selection are retrieved.
     pub fn with_retrieval(self, counts: [usize; SELECTIONS]) -> Availability
         ensures { result ≡ with_retrieval counts self }
     {
@@ -188,7 +188,7 @@ impl Availability {
         }
     }
 
-    /// The changeover ends.
+    /// Ends the changeover.
     pub fn ended(self) -> Availability
         ensures { result ≡ ended self }
     {
@@ -209,7 +209,7 @@ impl Availability {
         }
     }
 
-    /// The link may have selections, or may not: as it may for the first time, that is marked.
+    /// The link may carry selections, or may not. `served` is set from the first time that it may.
     pub fn takes_part(self, may: bool) -> Availability
         ensures { result ≡ takes_part may self }
     {
@@ -219,7 +219,7 @@ impl Availability {
         }
     }
 
-    /// Level 3 admits the link, or does no longer.
+    /// Level 3 admits the link, or no longer does.
     pub fn admits(self, way: bool) -> Availability
         ensures { result ≡ admits way self }
     {

@@ -1,4 +1,4 @@
-//! Messages that have to go by the link that they are given to.
+//! Messages that must be sent on the link to which they are given.
 ghost use Rattle.std.specs.Prelude.{◌≡◌, ◌%◌, Some, All};
 ghost use Rattle.resend_store.specs.Messages.{IsMessage};
 ghost use Rattle.group_changeover.specs.Bound.{is_short, is_long, is_testing, is_management, is_test, is_content, goes_between, is_bound_by, is_bound, unbound};
@@ -7,12 +7,12 @@ use crate::labels::{Label, label_of_octets};
 use resend_store::Msu;
 use std::collections::VecDeque;
 
-/// The points between which the links of a set lie.
+/// The two points that the links of a set connect.
 #[derive(Clone, Copy, Debug, PartialEq, Eq)]
 pub struct Points {
     /// The code of this point, below 16,384.
     pub own: u16,
-    /// That of the other.
+    /// The code of the other point.
     pub peer: u16,
 }
 
@@ -34,7 +34,7 @@ fn is_testing(heading: u8) -> bool
     heading == 0x11 || heading == 0x21
 }
 
-/// Whether octets are a message of changeover, of changeback or of a traffic restart, without its label.
+/// Whether octets without the label are a message of changeover, of changeback or of a traffic restart.
 fn is_management(octets: &[u8]) -> bool
     ensures { result ≡ is_management octets.now }
 {
@@ -45,7 +45,7 @@ fn is_management(octets: &[u8]) -> bool
     }
 }
 
-/// Whether octets are a test of a link or the answer to one, without its label.
+/// Whether octets without the label are a test of a link or its acknowledgement.
 fn is_test(octets: &[u8]) -> bool
     ensures { result ≡ is_test octets.now }
 {
@@ -77,9 +77,9 @@ impl Points {
         label.dpc == self.peer && label.opc == self.own
     }
 
-    /// Whether a service information octet and a field are a message that is bound to a link: one of changeover, a changeback declaration or
-    /// its acknowledgement, traffic restart allowed (Q.704, 15.4 to 15.6), or a test of the link or its acknowledgement (Q.707), from this point to
-    /// the other.
+    /// Whether a message, as service information octet and field, is bound to a link: it goes from this point to the
+    /// other, and is a changeover message, a changeback declaration or its acknowledgement, traffic restart allowed
+    /// (Q.704, 15.4 to 15.6), or a test of the link or its acknowledgement (Q.707).
     #[tactic(auto, unfolding(crate::specs::Bound::is_bound_by))]
     pub fn binds(self, sio: u8, sif: &[u8]) -> bool
         ensures { result ≡ is_bound_by self sio sif.now }
@@ -90,7 +90,7 @@ impl Points {
         }
     }
 
-    /// Whether a message is one.
+    /// Whether a message is bound to a link.
     pub fn is_bound(self, msu: &Msu) -> bool
         ensures { result ≡ is_bound self msu.now }
     {
@@ -98,7 +98,7 @@ impl Points {
     }
 }
 
-/// Leaves out the messages that are bound to a link.
+/// Removes the messages that are bound to a link.
 #[tactic(auto, unfolding(crate::specs::Bound::unbound))]
 pub fn leave_out(points: Points, messages: &mut VecDeque<Msu>)
     requires { All IsMessage messages.old.items }

@@ -1,4 +1,4 @@
-//! Messages of changeover.
+//! Changeover messages.
 ghost use Rattle.std.specs.Prelude.{◌≡◌, ◌↔◌, ◌≤◌, Some, IfSome, length};
 ghost use Rattle.group_changeover.specs.Labels.{IsLabel};
 ghost use Rattle.group_changeover.specs.Changeovers.{IsKind, behind_label, without_spare, Reads, Says};
@@ -6,12 +6,12 @@ ghost use Rattle.group_changeover.specs.Changeovers.{IsKind, behind_label, witho
 use crate::labels::{Label, label_of_octets};
 use arrayvec::ArrayVec;
 
-/// What is said of a link that failed (Q.704, changeover).
+/// The content of a changeover message about a link that failed (Q.704, changeover).
 #[derive(Clone, Copy, Debug, PartialEq, Eq)]
 pub enum Kind {
-    /// Changeover order, COO: the number, below 128, of the message that was accepted last there.
+    /// Changeover order, COO: the number, below 128, of the message accepted last on that link.
     Order(u8),
-    /// Changeover acknowledgement, COA: the same number.
+    /// Changeover acknowledgement, COA: the number, below 128, of the message accepted last on that link.
     Acknowledgement(u8),
     /// Emergency changeover order, ECO: that number isn't known.
     EmergencyOrder,
@@ -19,16 +19,16 @@ pub enum Kind {
     EmergencyAcknowledgement,
 }
 
-/// A message of changeover.
+/// A changeover message.
 #[derive(Clone, Copy, Debug, PartialEq, Eq)]
 pub struct Changeover {
-    /// Whose selection of a link is the code of the link that failed.
+    /// The label, whose signalling link selection is the code of the link that failed.
     pub label: Label,
-    /// What is said.
+    /// The content.
     pub kind: Kind,
 }
 
-/// What stands behind the label.
+/// The content in the octets after the label.
 fn kind_of(octets: &[u8]) -> Option<Kind>
     ensures { (k : Kind) → (result ≡ Some k) ↔ (IsKind k × (without_spare octets.now ≡ behind_label k)) }
 {
@@ -41,7 +41,7 @@ fn kind_of(octets: &[u8]) -> Option<Kind>
     }
 }
 
-/// The message that octets are, and none where they are not just those of one. The spare bit of the number's octet is ignored.
+/// The changeover message that octets are; `None` if they aren't exactly one. The spare bit of the number is ignored.
 pub fn read_changeover(octets: &[u8]) -> Option<Changeover>
     ensures exact { (m : Changeover) → (result ≡ Some m) ↔ Reads octets.now m }
     ensures whole { IfSome result (λ m. IsLabel m.label) }
@@ -51,7 +51,7 @@ pub fn read_changeover(octets: &[u8]) -> Option<Changeover>
     Some(Changeover { label, kind })
 }
 
-/// Octets as a vector of their own.
+/// Up to six octets as a vector.
 fn vector_of(octets: &[u8]) -> ArrayVec<u8, 6>
     requires { length octets.now ≤ 6 }
     ensures { result.items ≡ octets.now }
@@ -62,7 +62,7 @@ fn vector_of(octets: &[u8]) -> ArrayVec<u8, 6>
 }
 
 impl Changeover {
-    /// The octets of a message: label, heading octet and, but for the emergency, the number.
+    /// The octets of the message: label, heading octet and, except in emergency messages, the number.
     pub fn octets(self) -> ArrayVec<u8, 6>
         requires label { IsLabel self.label }
         requires kind { IsKind self.kind }

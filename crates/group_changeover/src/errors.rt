@@ -9,7 +9,7 @@ use thiserror::Error;
 /// Why a message isn't taken.
 #[derive(Clone, Copy, Debug, PartialEq, Eq, Error)]
 pub enum SendError {
-    /// It is bound to a link, which has to be named.
+    /// It is bound to a link: the link must be named.
     Bound,
     /// Its selection has no link, or that link isn't in changeover and is out of service, held or not admitted.
     NoLink,
@@ -33,65 +33,65 @@ pub enum BindError {
 pub enum FailError {
     /// There is no such link.
     NoLink,
-    /// Its changeover goes on.
+    /// Its changeover is under way.
     Waiting,
 }
 
 /// Why messages aren't handed out.
 #[derive(Clone, Copy, Debug, PartialEq, Eq, Error)]
 pub enum RetrieveError {
-    /// There is no such link, or no changeover goes on there.
+    /// There is no such link, or no changeover of it is under way.
     NoLink,
-    /// They are handed out already, or nothing was told and fewer than 1,400 ticks have passed since the changeover began.
+    /// They are already handed out, or there is no answer and the changeover began fewer than 1,400 ticks ago.
     Waiting,
-    /// It isn't known whether so many of them have arrived.
+    /// It isn't known whether so many messages have arrived.
     Unsure(usize),
-    /// There is no memory.
+    /// Memory ran out.
     NoMemory,
 }
 
 /// Why messages aren't given up.
 #[derive(Clone, Copy, Debug, PartialEq, Eq, Error)]
 pub enum AbandonError {
-    /// There is no such link, or no changeover goes on there.
+    /// There is no such link, or no changeover of it is under way.
     NoLink,
     /// `retrieve` isn't refused as unsure.
     Waiting,
-    /// There is no memory.
+    /// Memory ran out.
     NoMemory,
 }
 
 /// Why retrieved messages aren't diverted.
 #[derive(Clone, Copy, Debug, PartialEq, Eq, Error)]
 pub enum DivertFault {
-    /// No link may take them, their own neither: none that isn't in changeover, or is their own, is in service, not held and admitted.
+    /// No link may take them: neither their own link nor one not in changeover is in service, not held and admitted.
     NoLink,
-    /// The link that has to take those of a selection, or all of them where they go back, would hold more than 1,151.
+    /// The link that must take those of a selection, or all of them if they go back, would hold more than 1,151.
     Full,
 }
 
 /// Why a set isn't rebalanced.
 #[derive(Clone, Copy, Debug, PartialEq, Eq, Error)]
 pub enum RebalanceError {
-    /// A changeover goes on.
+    /// A changeover is under way.
     Waiting,
     /// A selection that would move has messages held by its link.
     NotEmpty,
 }
 
-/// Why nothing is done by a link.
+/// Why a call to a link does nothing.
 #[derive(Clone, Copy, Debug, PartialEq, Eq, Error)]
 pub enum LinkError {
     /// There is no such link.
     NoLink,
 }
 
-/// Why nothing goes out on a link.
+/// Why nothing is sent on a link.
 #[derive(Clone, Copy, Debug, PartialEq, Eq, Error)]
 pub enum LineError {
     /// There is no such link.
     NoLink,
-    /// There is no memory.
+    /// Memory ran out.
     NoMemory,
 }
 

@@ -1,21 +1,21 @@
-//! Labels.
+//! Labels of messages.
 ghost use Rattle.std.specs.Prelude.{◌≡◌, Some, IfSome};
 ghost use Rattle.group_changeover.specs.Labels.{IsLabel, label_in};
 
 use resend_store::Msu;
 
-/// Where a message comes from and goes to, and by which of several links.
+/// The destination and the origin of a message, and its selection of one of several links.
 #[derive(Clone, Copy, Debug, PartialEq, Eq)]
 pub struct Label {
     /// Destination point code, below 16,384.
     pub dpc: u16,
     /// Originating point code, below 16,384.
     pub opc: u16,
-    /// Signalling link selection, below 16; the code of the link that failed in messages of changeover.
+    /// Signalling link selection, below 16; in changeover messages the code of the link that failed.
     pub sls: u8,
 }
 
-/// The label that octets begin with, none where they are fewer than four.
+/// The label at the start of octets; `None` if these are fewer than four.
 pub fn label_of_octets(octets: &[u8]) -> Option<Label>
     ensures value { result ≡ label_in octets.now }
     ensures whole { IfSome result IsLabel }
@@ -30,7 +30,7 @@ pub fn label_of_octets(octets: &[u8]) -> Option<Label>
     }
 }
 
-/// The label that a message begins with, none where its field has fewer than four octets.
+/// The label at the start of a message; `None` if its field has fewer than four octets.
 pub fn label_of(msu: &Msu) -> Option<Label>
     ensures value { result ≡ label_in msu.now.sif.items }
     ensures whole { IfSome result IsLabel }
@@ -39,7 +39,7 @@ pub fn label_of(msu: &Msu) -> Option<Label>
 }
 
 impl Label {
-    /// The four octets of a label.
+    /// The four octets of the label.
     pub(crate) fn octets(self) -> [u8; 4]
         requires { IsLabel self }
         ensures { label_in result ≡ Some self }

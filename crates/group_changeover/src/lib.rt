@@ -1,5 +1,5 @@
-//! Changeover of one link of a set (Q.704, section 5): labels, the four messages as octets, what a link's state in a changeover says and
-//! answers, where each message stands, load sharing, and how a link set's refusals are printed.
+//! Changeover of one link of a set (Q.704, section 5): labels, the four messages as octets, the state of a link in a
+//! changeover and its answers, where each message is, load sharing, and the printed refusals of a link set.
 #![tactic(auto)]
 
 mod availability;

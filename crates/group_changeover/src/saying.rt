@@ -1,4 +1,4 @@
-//! What the marks of a link say of it in a changeover.
+//! Queries of the state of a link in a changeover.
 ghost use Rattle.std.specs.Prelude.{◌≡◌, ◌<◌, IfSome};
 ghost use Rattle.group_changeover.specs.Changeovers.{IsKind};
 ghost use Rattle.group_changeover.specs.Saying.{is_changing, is_out, is_waiting, count_in, counts_in, hearing_of, is_over, is_late, is_order, begun_by_message, is_held_by, number_in, order_after, acknowledgement_after, answer_after, reply_after};
@@ -6,44 +6,44 @@ ghost use Rattle.group_changeover.specs.Saying.{is_changing, is_out, is_waiting,
 use crate::availability::{Answer, Availability, Behind, Changing, LATE, T2};
 use crate::changeover::Kind;
 
-/// What a message of changeover that came was.
+/// The effect of a received changeover message.
 #[derive(Clone, Copy, Debug, PartialEq, Eq)]
 pub enum Hearing {
     /// An order that began a changeover.
     Began,
-    /// An order that began none. In a changeover its number, if it tells one, counts as that of an acknowledgement does.
+    /// An order that began none. In a changeover its number, if it has one, counts as that of an acknowledgement does.
     Order,
     /// An acknowledgement that counts as the answer of the far side.
     Counted,
-    /// An acknowledgement that doesn't.
+    /// An acknowledgement that doesn't count.
     Answer,
-    /// None, or none of a link that is there.
+    /// No changeover message, or one about a link that doesn't exist.
     Nothing,
 }
 
 impl Changing {
-    /// Whether an acknowledgement counts: its messages aren't handed out, and the far side hasn't told yet how many it accepted.
+    /// Whether an acknowledgement counts: no messages are handed out, and the far side hasn't said what it accepted.
     fn counts(self) -> bool
         ensures { result ≡ counts_in self }
     {
         !self.is_out() && self.count().is_none()
     }
 
-    /// Whether its messages are handed out.
+    /// Whether the messages are handed out.
     pub fn is_out(self) -> bool
         ensures { result ≡ is_out self }
     {
         self.retrieval.is_some()
     }
 
-    /// Whether nothing was answered yet, and fewer than Q.704's T2 ticks have passed since it began.
+    /// Whether there is no answer yet, and fewer than Q.704's T2 ticks have passed since the changeover began.
     pub fn is_waiting(self) -> bool
         ensures { result ≡ is_waiting self }
     {
         self.answer.is_none() && self.waited < T2
     }
 
-    /// How many of the messages that the link holds the far side accepted, where that is known.
+    /// How many of the messages that the link holds the far side accepted, if that is known.
     pub fn count(self) -> Option<usize>
         ensures { result ≡ count_in self.answer }
     {
@@ -55,7 +55,7 @@ impl Changing {
 }
 
 impl Kind {
-    /// The number that it tells.
+    /// The number in the message.
     pub fn number(self) -> Option<u8>
         ensures { result ≡ number_in self }
     {
@@ -76,14 +76,14 @@ impl Kind {
 }
 
 impl Availability {
-    /// Whether its changeover goes on.
+    /// Whether a changeover of the link is under way.
     pub fn is_changing(self) -> bool
         ensures { result ≡ is_changing self }
     {
         self.changing.is_some()
     }
 
-    /// Whether its changeover is over, and it hasn't come into service again.
+    /// Whether the changeover is over and the link hasn't come into service again.
     fn is_over(self) -> bool
         ensures { result ≡ is_over self }
     {
@@ -96,8 +96,8 @@ impl Availability {
         }
     }
 
-    /// Whether its changeover is over, and it hasn't come into service again, or did so last no more than `LATE` ticks ago: an order may be a late
-    /// one then.
+    /// Whether an order may be a late one: the changeover is over, and the link hasn't come into service again, or did
+    /// so last no more than `LATE` ticks ago.
     pub fn is_late(self) -> bool
         ensures { result ≡ is_late self }
     {
@@ -111,7 +111,7 @@ impl Availability {
         }
     }
 
-    /// A message comes from the other point: an order begins the changeover where none goes on, unless it may be a late one.
+    /// Takes a message of the other point: an order that can't be a late one begins a changeover if none is under way.
     pub fn begun_by(self, kind: Kind) -> Availability
         ensures { result ≡ begun_by_message kind self }
     {
@@ -122,8 +122,8 @@ impl Availability {
         }
     }
 
-    /// Whether the other point's message holds the link: an order that begins a changeover, or may be a late one for a link that came into
-    /// service again, or whose answer tells the link's number.
+    /// Whether a message from the other point holds the link: an order that begins a changeover, or may be a late one
+    /// for a link that came into service again, or whose answer has the link's number.
     pub fn is_held_by(self, kind: Kind) -> bool
         ensures { result ≡ is_held_by kind self }
     {
@@ -133,7 +133,7 @@ impl Availability {
         !self.is_changing() || (kind.number().is_some() && !self.anew)
     }
 
-    /// What a message from the other point is.
+    /// The effect of a message from the other point.
     pub fn hearing(self, kind: Kind) -> Hearing
         ensures { result ≡ hearing_of kind self }
     {
@@ -150,7 +150,7 @@ impl Availability {
         }
     }
 
-    /// The order to send for this link, which accepted the message of this number last; an emergency one where it was started anew.
+    /// The order to send for this link, which accepted this number last: an emergency order if it was started anew.
     pub fn order(self, accepted: u8) -> Kind
         requires { accepted < 128 }
         ensures value { result ≡ order_after self accepted }
@@ -163,7 +163,7 @@ impl Availability {
         }
     }
 
-    /// The acknowledgement to send for it, an emergency one where it was started anew, or its changeover is over and it hasn't come into service again.
+    /// The acknowledgement to send: an emergency one if the link was started anew, or if `is_over`.
     fn acknowledgement(self, accepted: u8) -> Kind
         requires { accepted < 128 }
         ensures value { result ≡ acknowledgement_after self accepted }
@@ -176,7 +176,7 @@ impl Availability {
         }
     }
 
-    /// What is told by a number that acknowledges so many of its messages, and by none: nothing where the link was started anew.
+    /// The answer for this number of acknowledged messages, if it is known. It is unknown if the link was started anew.
     pub fn answer(self, count: Option<usize>) -> Answer
         ensures { result ≡ answer_after self count }
     {
@@ -186,7 +186,7 @@ impl Availability {
         }
     }
 
-    /// What is answered to the other point's message, where it is an order; acknowledgements get no answer.
+    /// The reply to a message of the other point: an acknowledgement of an order. An acknowledgement gets no reply.
     pub fn reply(self, kind: Kind, accepted: u8) -> Option<Kind>
         requires { accepted < 128 }
         ensures value { result ≡ reply_after kind self accepted }

@@ -1,4 +1,4 @@
-//! Messages by their selection of a link.
+//! Messages by signalling link selection.
 ghost use Rattle.std.specs.Prelude.{◌≡◌, ◌+◌, ◌<◌, ◌≤◌, length, take};
 ghost use Rattle.group_changeover.specs.Limits.{SELECTIONS};
 ghost use Rattle.group_changeover.specs.Sharing as spec;
@@ -11,7 +11,7 @@ use std::collections::VecDeque;
 /// A number for each selection.
 pub type Counts = [usize; WIDTH];
 
-/// The selection of a message's label, 0 for one too short for a label.
+/// The selection in a message's label; 0 if the message is too short for a label.
 #[tactic(auto, unfolding(crate::specs::Sharing::selection_of))]
 pub fn selection_of(msu: &Msu) -> u8
     ensures value { result ≡ spec.selection_of msu.now }
@@ -23,7 +23,7 @@ pub fn selection_of(msu: &Msu) -> u8
     }
 }
 
-/// 1 where the message at a place has a selection, else 0.
+/// 1 if the message at an index has a selection, otherwise 0.
 #[tactic(auto, using(crate::proofs::Counting::one_more, crate::proofs::Counting::none_more))]
 fn one_on(messages: &VecDeque<Msu>, place: usize, selection: u8) -> usize
     requires { place < length messages.now.items }
@@ -37,7 +37,7 @@ fn one_on(messages: &VecDeque<Msu>, place: usize, selection: u8) -> usize
     }
 }
 
-/// How many messages have a selection.
+/// The number of messages with a selection.
 #[tactic(auto, using(crate::proofs::Counting::few))]
 pub fn count_on(messages: &VecDeque<Msu>, selection: u8) -> usize
     ensures value { result ≡ length (spec.of selection messages.now.items) }
@@ -50,7 +50,7 @@ pub fn count_on(messages: &VecDeque<Msu>, selection: u8) -> usize
     count
 }
 
-/// How many messages have each selection.
+/// The number of messages with each selection.
 #[tactic(auto, unfolding(crate::specs::Sharing::counts_of))]
 pub fn counts_of(messages: &VecDeque<Msu>) -> Counts
     ensures { result ≡ spec.counts_of messages.now.items }
@@ -75,7 +75,7 @@ pub fn counts_of(messages: &VecDeque<Msu>) -> Counts
     ]
 }
 
-/// The link that a selection has among these: of n links the (selection mod n)th.
+/// The link of a selection among these: the (selection mod n)th of n links.
 #[tactic(auto, unfolding(crate::specs::Sharing::pick))]
 pub fn pick(links: &[usize], selection: u8) -> Option<usize>
     ensures { result ≡ spec.pick links.now selection }

@@ -8,7 +8,7 @@ use crate::availability::SELECTIONS as WIDTH;
 /// The link of each selection, if it has one.
 #[derive(Clone, Copy, Debug, PartialEq, Eq)]
 pub struct Table {
-    /// By selection.
+    /// The links, indexed by selection.
     pub links: [Option<usize>; WIDTH],
 }
 
@@ -24,7 +24,7 @@ impl Table {
         }
     }
 
-    /// A selection gets a link.
+    /// Sets the link of a selection.
     pub fn set(&mut self, selection: u8, link: usize)
         requires { selection < SELECTIONS }
         ensures { self.new.links ≡ slice_set self.old.links selection (Some link) }
