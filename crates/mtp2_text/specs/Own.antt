@@ -1,4 +1,4 @@
--- The sets of the program's own: the word that names each, its text, and its limits of forced
+-- The sets in the program: the word that names each, its text, and its limits of forced
 -- retransmission (Q.703, 6.4).
 use Rattle.std.specs.Prelude.{◌≡◌, ℕ, List, codes}
 use Rattle.resend_store.specs.Limits.{N1}
@@ -20,16 +20,16 @@ text_of Standard = STANDARD.now
 text_of Q703 = Q703_TEXT.now
 text_of Monitors = MONITORS.now
 
--- N2 of `q703`, where nothing else is chosen
+-- N2 of `q703`, unless another value is chosen.
 abbrev pub Q703_OCTETS : ℕ
 Q703_OCTETS = 3000
 
--- the limits where none are chosen
+-- The limits, unless others are chosen.
 abbrev pub limits_of : OwnSet → RoundLimits
 limits_of Standard = usual_limits
 limits_of Q703 = record { messages = N1; octets = Q703_OCTETS }
 limits_of Monitors = usual_limits
 
--- a word names none of them
+-- A word names none of the sets.
 abbrev pub NamesNone : List ℕ → Type 0
 NamesNone word = (set : OwnSet) → word ≡ word_of set → ⊥

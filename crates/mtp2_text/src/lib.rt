@@ -1,4 +1,4 @@
-//! The process texts that the program has of its own, and the sets that they are.
+//! The process texts that are part of the program, and their sets.
 #![tactic(auto)]
 
 ghost use Rattle.std.specs.Prelude.{List, IfOk, IfErr, IsUtf8};
@@ -25,7 +25,7 @@ pub use turn_verify::{LexFault, LoadFault, Verified, load};
 ///
 /// # Errors
 ///
-/// What `load` answers for the text. It is accepted, as the table of texts shows, so [`LoadFault::NoMemory`] alone comes.
+/// Only [`LoadFault::NoMemory`] occurs: `load` accepts the text, as the table of texts shows.
 pub fn standard(alloc: Global) -> Result<Verified, LoadFault>
     ensures utf8 { IsUtf8 STANDARD.now }
     ensures accepted { IfOk result (λ v. IsLoaded STANDARD.now v) }
@@ -40,7 +40,7 @@ pub fn standard(alloc: Global) -> Result<Verified, LoadFault>
 ///
 /// # Errors
 ///
-/// What `load` answers for the text. It is accepted, as the table of texts shows, so [`LoadFault::NoMemory`] alone comes.
+/// Only [`LoadFault::NoMemory`] occurs: `load` accepts the text, as the table of texts shows.
 pub fn q703(alloc: Global) -> Result<Verified, LoadFault>
     ensures utf8 { IsUtf8 Q703.now }
     ensures accepted { IfOk result (λ v. IsLoaded Q703.now v) }
@@ -55,7 +55,7 @@ pub fn q703(alloc: Global) -> Result<Verified, LoadFault>
 ///
 /// # Errors
 ///
-/// What `load` answers for the text. It is accepted, as the table of texts shows, so [`LoadFault::NoMemory`] alone comes.
+/// Only [`LoadFault::NoMemory`] occurs: `load` accepts the text, as the table of texts shows.
 pub fn monitors(alloc: Global) -> Result<Verified, LoadFault>
     ensures utf8 { IsUtf8 MONITORS.now }
     ensures accepted { IfOk result (λ v. IsLoaded MONITORS.now v) }

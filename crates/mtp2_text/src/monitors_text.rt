@@ -1,6 +1,6 @@
 //! The text `monitors`.
 
-/// The two error rate monitors (Q.703, 10) alone, with all their inputs from the environment and all outputs to it.
+/// Only the two error rate monitors (Q.703, 10), with all their inputs from the environment and all outputs to it.
 pub const MONITORS: &str =
     "/* The two error rate monitors of Q.703 alone, as standard.sdl has them, with the environment in the place of all other processes. */
 BLOCK Monitors;

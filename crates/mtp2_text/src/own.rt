@@ -1,4 +1,4 @@
-//! The sets of the program's own: their words, their texts, what they load to, and their limits of forced retransmission.
+//! The sets in the program: their words, their texts, the loaded sets, and their limits of forced retransmission.
 
 ghost use Rattle.std.specs.Prelude.{◌≡◌, List, IfOk, IfErr, IfSome, IsNone, IsUtf8};
 ghost use Rattle.sdl_lex.specs.declared.lexemes.Token as lexeme;
@@ -15,8 +15,8 @@ use resend_store::{RoundLimits, USUAL_LIMITS};
 use std::alloc::Global;
 use turn_verify::{LoadFault, Verified, load};
 
-/// With how many unacknowledged octets cyclic retransmission is forced over the set `q703` where nothing else is chosen. On a full line these last
-/// less long than the far side may take to acknowledge a message.
+/// The number of unacknowledged octets that forces cyclic retransmission over the set `q703`, unless another is chosen.
+/// On a full line they take less time than the far side may take to acknowledge a message.
 const Q703_OCTETS: u16 = 3_000;
 
 /// The set of a text.
@@ -30,7 +30,7 @@ fn set_of(alloc: Global, text: &str) -> Result<Verified, LoadFault>
     load(alloc, text)
 }
 
-/// A set of processes of the program's own.
+/// A set of processes that is part of the program.
 #[derive(Clone, Copy, PartialEq, Eq, Debug)]
 pub enum OwnSet {
     /// `standard`: the signalling link terminal (Q.703), as a profile.
@@ -42,7 +42,7 @@ pub enum OwnSet {
 }
 
 impl OwnSet {
-    /// The set that a word names; none where it names none of them.
+    /// The set that a word names; `None` if it names none of them.
     #[tactic(auto, using(crate::proofs::Naming::names_none))]
     pub fn named(word: &str) -> Option<OwnSet>
         ensures some { IfSome result (λ set. word.now ≡ word_of set) }
@@ -56,7 +56,7 @@ impl OwnSet {
         }
     }
 
-    /// The word that names it.
+    /// The word that names the set.
     pub fn word(self) -> &'static str
         ensures { result.now ≡ word_of self }
     {
@@ -67,7 +67,7 @@ impl OwnSet {
         }
     }
 
-    /// Its text.
+    /// The text of the set.
     pub fn text(self) -> &'static str
         ensures { result.now ≡ text_of self }
     {
@@ -78,11 +78,11 @@ impl OwnSet {
         }
     }
 
-    /// The set of its text.
+    /// The set of the text.
     ///
     /// # Errors
     ///
-    /// What `load` answers for the text. It is accepted, as the table of texts shows, so [`LoadFault::NoMemory`] alone comes.
+    /// Only [`LoadFault::NoMemory`] occurs: `load` accepts the text, as the table of texts shows.
     pub fn load(self, alloc: Global) -> Result<Verified, LoadFault>
         ensures utf8 { IsUtf8 (text_of self) }
         ensures accepted { IfOk result (IsLoaded (text_of self)) }
@@ -93,7 +93,7 @@ impl OwnSet {
         set_of(alloc, self.text())
     }
 
-    /// The limits of forced retransmission over it, where none are chosen.
+    /// The limits of forced retransmission over the set, unless others are chosen.
     pub fn round_limits(self) -> RoundLimits
         ensures { result ≡ limits_of self }
     {

@@ -1,5 +1,5 @@
-//! The text `q703`, a part a file. Each part is a macro, since `concat!` takes literals alone: it puts its literal behind those
-//! that it is given, and hands them on to the part that is named next.
+//! The text `q703`, one part in each file. `concat!` takes only literals, so each part is a macro. It appends its
+//! literal to those that it receives, and passes them on to the part named next.
 mod declarations;
 mod error_rate_monitors;
 mod initial_alignment_control;
@@ -16,15 +16,15 @@ use outage_and_congestion::outage_and_congestion;
 use reception_control::reception_control;
 use transmission_control::transmission_control;
 
-/// The parts, one behind the other.
+/// Joins the parts in order.
 macro_rules! joined {
     ([$($part:literal)*]) => {
         concat!($($part),*)
     };
 }
 
-/// The signalling link terminal of Q.703 by the letter, as eight processes with the names of those of `standard`. Each difference to `standard` stands
-/// in a comment that begins with an asterisk, with its clause or figure.
+/// The signalling link terminal by the letter of Q.703, as eight processes named as in `standard`. A comment that
+/// begins with an asterisk marks each difference from `standard`, with its clause or figure.
 pub const Q703: &str = declarations!([]
     link_state_control
     initial_alignment_control

@@ -1,5 +1,5 @@
-//! The text `standard`, a part a file. Each part is a macro, since `concat!` takes literals alone: it puts its literal behind those
-//! that it is given, and hands them on to the part that is named next.
+//! The text `standard`, one part in each file. `concat!` takes only literals, so each part is a macro. It appends its
+//! literal to those that it receives, and passes them on to the part named next.
 mod declarations;
 mod error_rate_monitors;
 mod initial_alignment_control;
@@ -16,7 +16,7 @@ use outage_and_congestion::outage_and_congestion;
 use reception_control::reception_control;
 use transmission_control::transmission_control;
 
-/// The parts, one behind the other.
+/// Joins the parts in order.
 macro_rules! joined {
     ([$($part:literal)*]) => {
         concat!($($part),*)

@@ -1,4 +1,4 @@
--- A sound block is refused for want of memory alone, and its set too.
+-- A sound block, and its set, are refused only if memory runs out.
 use Rattle.std.proofs.Common.{◌≡◌, ℕ, List, [], Option, None, Some, refl, sym, subst, ◌∙◌, arith}
 use Rattle.std.specs.Prelude.{Contains, Result, Ok, Err, IfOk, IfErr, IsOkUnless}
 use Rattle.std.proofs.lemmas.List.Elements.{All-contains}
@@ -15,7 +15,7 @@ use Rattle.turn_verify.specs.Loaded.{Gives, IsRead, IsRefused}
 use Rattle.turn_verify.specs.declared.loading.LoadFault.{LoadFault}
 use Rattle.turn_verify.specs.declared.loading.LoadFault.TheVariants as loading
 
--- nothing is in no list
+-- An empty list contains no place.
 nowhere : (places : List ℕ) (place : ℕ) → places ≡ [] → Contains places place → ⊥
 nowhere places place none (k, within, is) =
     let P : List ℕ → Type 0 = λ l. Contains l place in
@@ -38,7 +38,7 @@ no_refusal b (Unset x path) sound refuses =
     absurd (All-contains NeverReadsUnset (processes_of b) refuses.1 sound.set refuses.2 path.steps.items x refuses.3)
 no_refusal b NoMemory sound refuses = refl
 
--- what is given unless memory is wanting
+-- A result that has P, unless memory ran out.
 pub gives_unless : {A : Type 0} (r : Result A LoadFault) (P : A → Type 0) → IfOk r P → IsOkUnless r loading.NoMemory → Gives r P
 gives_unless (Ok x) P given memory = given
 gives_unless (Err e) P given memory = subst (λ f. Gives (Err f) P) (sym memory) tt

@@ -1,4 +1,4 @@
--- What loading a text gives: the set of its block, or the refusal of the first layer that refuses.
+-- The result of loading a text: the set of its block, or the first refusal of the layers.
 use Rattle.std.specs.Prelude.{◌≡◌, ℕ, ◌+◌, ◌-◌, ◌==◌, ◌≤◌, List, length, take, count_by, min}
 use Rattle.std.specs.Prelude.{Option, None, Some, option_map, slice_get, Result, Ok, Err}
 use Rattle.std.specs.Option.{option_map_or}
@@ -25,25 +25,25 @@ use Rattle.turn_verify.specs.declared.loading.LoadFault.TheVariants.{Lex, Parse,
 
 -- ---- texts and their blocks
 
--- the tokens of a text, and the block that they read as, which is low enough
+-- The tokens of a text, and the block that they read as, which is at most `GREATEST_HEIGHT` high.
 pub record IsRead (text : List ℕ) (tokens : List Token) (b : PlainBlock) : Type 0 where
   pub lexed : Answers text (Ok tokens)
   pub reads : Reads tokens b
   pub low : heights.Height b ≤ GREATEST_HEIGHT
 
--- the text reads as the block, and none of the rules is broken
+-- The text reads as the block, and the block breaks no rule.
 pub record IsSoundText (text : List ℕ) (tokens : List Token) (b : PlainBlock) : Type 0 where
   pub read : IsRead text tokens b
   pub sound : Sound b
 
--- the text reads as some block that is sound
+-- The text reads as some sound block.
 pub record IsSound (text : List ℕ) : Type 0 where
   pub tokens : List Token
   pub block : PlainBlock
   pub is_so : IsSoundText text tokens block
 
--- The text is sound, and the set is that of its block: names and numbers in the order of the text,
--- each run on an input that fits what its transition means, each certificate the longest path.
+-- The text is sound, and the set is that of its block: names and numbers in the order of the text.
+-- On inputs that fit, each run is what its transition means. Each certificate is the longest path.
 pub record IsLoaded (text : List ℕ) (d : Draft) : Type 0 where
   pub tokens : List Token
   pub block : PlainBlock
@@ -51,7 +51,7 @@ pub record IsLoaded (text : List ℕ) (d : Draft) : Type 0 where
   pub matches : MatchesBlock block d
   pub runs : RunsAsMeant block d
 
--- the result is such a value, or memory ran out
+-- The result is a value with P, or memory ran out.
 abbrev pub Gives : {A : Type 0} → Result A LoadFault → (A → Type 0) → Type 0
 Gives (Ok x) P = P x
 Gives (Err (Lex fault line)) P = ⊥
@@ -61,23 +61,23 @@ Gives (Err NoMemory) P = Unit {0}
 
 -- ---- refusals, and their lines
 
--- the line in which a place of a text stands, from 1: one more than the line feeds before it
+-- The line of a place in a text, from 1: one more than the number of line feeds before the place.
 abbrev pub line_at : List ℕ → ℕ → ℕ
 line_at text place = count_by (λ b. b == 10) (take place text) + 1
 
--- the place of the token with an index, of the last one where they end before it, 0 where there is
--- none
+-- The place of the token with this index; of the last token if there are fewer; 0 if there are
+-- none.
 abbrev pub token_place : List Token → ℕ → ℕ
 token_place tokens index =
     option_map_or (λ (t : Token). t.start) (slice_get tokens (min index (length tokens - 1))) 0
 
--- the text has no tokens, for this fault in this line
+-- The text has no tokens, because of this fault in this line.
 pub record IsUnlexed (text : List ℕ) (fault : LexFault) (line : ℕ) : Type 0 where
   pub answers : Answers text (Err fault)
   pub there : line ≡ line_at text (place_of fault)
 
--- The tokens read as no block, or as one that is too high. What is named is what the reading
--- settles: the first token at which it stops, or the first statement that is too high.
+-- The tokens read as no block, or as one that is too high. The fault names the first token at which
+-- the reading stops, or the first statement that is too high.
 abbrev pub IsUnread : List ℕ → List Token → ParseFault → ℕ → Type 0
 IsUnread text tokens (parsing.Unexpected index) line =
     refusals.Refuses tokens (parsing.Unexpected index)
@@ -87,7 +87,7 @@ IsUnread text tokens (parsing.TooDeep place) line =
     refusals.Refuses tokens (parsing.TooDeep place) × (line ≡ line_at text place)
 IsUnread text tokens parsing.NoMemory line = ⊥
 
--- where a rule is broken; limits, and paths that read an unset variable, have no place
+-- The place of a broken rule. Limits, and paths that read an unset variable, have no place.
 abbrev pub rule_place : RuleFault → Option ℕ
 rule_place (rules.DoubleName place) = Some place
 rule_place (rules.UnknownName place) = Some place
@@ -102,14 +102,14 @@ rule_place (rules.Limit which) = None
 rule_place (rules.Unset variable path) = None
 rule_place rules.NoMemory = None
 
--- the block breaks this rule, and none with a lesser number
+-- The block breaks this rule, and no rule with a lesser number.
 pub record IsUnsound (text : List ℕ) (b : PlainBlock) (fault : RuleFault) (line : Option ℕ) :
     Type 0 where
   pub refuses : Refuses b fault
   pub named : fault ≡ rules.NoMemory → ⊥
   pub there : line ≡ option_map (line_at text) (rule_place fault)
 
--- what a refusal says of the text; want of memory says nothing
+-- What a refusal states about the text. Out of memory states nothing.
 abbrev pub IsRefused : List ℕ → LoadFault → Type 0
 IsRefused text (Lex fault line) = IsUnlexed text fault line
 IsRefused text (Parse fault line) =

@@ -7,16 +7,16 @@ use Rattle.sdl_sound.specs.Printed as rules
 use Rattle.turn_verify.specs.declared.loading.LoadFault.{LoadFault}
 use Rattle.turn_verify.specs.declared.loading.LoadFault.TheVariants.{Lex, Parse, Rule, NoMemory}
 
--- the line where a fault is
+-- The line of a fault.
 abbrev pub line_text : ℕ → List ℕ
 line_text line = codes " line " ++ decimal line
 
--- the same, where there is one
+-- The line of a fault, if it has one.
 abbrev pub place_text : Option ℕ → List ℕ
 place_text None = []
 place_text (Some line) = line_text line
 
--- what is wrong, and then its line
+-- The fault, and then its line.
 abbrev pub fault_text : LoadFault → List ℕ
 fault_text (Lex fault line) = lexis.fault_text fault ++ line_text line
 fault_text (Parse fault line) = parser.fault_text fault ++ line_text line

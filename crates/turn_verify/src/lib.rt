@@ -1,4 +1,4 @@
-//! `load`: from a text to the set of its block, or to the refusal of the first layer that refuses, with its line where it
+//! `load`: from a text to the set of its block, or to the refusal of the first layer that refuses, with its line if it
 //! has one.
 #![tactic(auto)]
 

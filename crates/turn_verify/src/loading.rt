@@ -1,4 +1,4 @@
-//! From a text to a valid set.
+//! Loads a text to a valid set.
 
 ghost use Rattle.std.specs.Prelude.{◌≡◌, ◌↔◌, List, Some, option_map, IsTrue, Ok, IfOk, IfErr, IsOkUnless};
 ghost use Rattle.sdl_lex.specs.Lexed as lexis;
@@ -21,8 +21,7 @@ use std::fmt;
 use thiserror::Error;
 use turn_check::{Verified, verify};
 
-/// Why a text is refused, by the first layer that refuses it, with the line of the place, from 1.
-/// A line ends with its line feed.
+/// Why the first layer that refuses a text does so, with the line of the place, from 1. A line ends with its line feed.
 #[derive(Debug, Drop, Error)]
 pub enum LoadFault {
     /// The text has no tokens (L1 to L3). The line is that of the byte where the fault begins.
@@ -30,25 +29,24 @@ pub enum LoadFault {
         fault: LexFault,
         line: usize,
     },
-    /// The tokens read as no tree (P1), or as one that is too high (P2). The line is that of the
-    /// token, of the last one where they end too early, and 1 where there is none; for P2 it is
-    /// that of the statement.
+    /// The tokens read as no tree (P1), or as one that is too high (P2). The line is that of the token, of the last
+    /// token if they end too early, or 1 if there are none. For P2 it is that of the statement.
     Parse {
         fault: ParseFault,
         line: usize,
     },
-    /// The tree breaks a rule (S1 to S11). Limits (S10), and variables that are read before they
-    /// are set (S11), have no line.
+    /// The tree breaks a rule (S1 to S11). Limits (S10), and variables that are read before they are set (S11), have no
+    /// line.
     Rule {
         fault: RuleFault,
         line: Option<usize>,
     },
-    /// There was not enough memory.
+    /// Memory ran out.
     NoMemory,
 }
 
 impl LoadFault {
-    /// Whether it was memory that was wanting, and the text isn't refused.
+    /// Whether memory ran out, so that the text isn't refused.
     pub fn wants_memory(&self) -> bool
         ensures { IsTrue result ↔ (self.now ≡ LoadFault.NoMemory) }
     {
@@ -59,7 +57,7 @@ impl LoadFault {
     }
 }
 
-/// A line as it is printed behind a refusal, if there is one.
+/// The line that is printed after a refusal, if there is one.
 #[derive(Clone, Copy)]
 struct AtLine(Option<usize>);
 
@@ -90,27 +88,26 @@ impl fmt::Display for LoadFault {
     }
 }
 
-/// Loads a text: its tokens, their tree, the rules, the code of its transitions, and the check of
-/// that code.
+/// Loads a text: its tokens, their tree, the rules, the code of its transitions, and the check of that code.
 ///
-/// Accepted is exactly a text that has tokens, reads as a tree that is low enough, and breaks no
-/// rule. On every input that fits a transition of the set, its run is what the text's transition at
-/// the same place means, and each certificate names the longest path of the text's transition.
+/// It accepts exactly a text that has tokens, reads as a tree at most 32 high, and breaks no rule. On every input that
+/// fits a transition of the set, its run is what the text's transition at the same place means. Each certificate names
+/// the longest path of the text's transition.
 ///
 /// # Errors
 ///
-/// The fault of the first layer that has one; of several broken rules the one with the least
-/// number. Any call may answer [`LoadFault::NoMemory`] instead.
+/// Returns the fault of the first layer that has one. Of several broken rules it names the one with the least number.
+/// Any call may return [`LoadFault::NoMemory`] instead.
 pub fn load(alloc: Global, text: &str) -> Result<Verified, LoadFault>
-    // what is given is the set of the text, which is sound
+    // An accepted text is sound, and the result is its set.
     ensures accepted { IfOk result (λ v. IsLoaded text.now v) }
-    // each sound text is accepted
+    // Each sound text is accepted, unless memory runs out.
     ensures exact { (ts : List lexeme.Token) (b : PlainBlock) → IsSoundText text.now ts b
         → Gives result (MatchesBlock b) }
-    // however the text is read, what is given is the set of what is read
+    // For each way to read the text, the result is the set of the block that is read.
     ensures every { (ts : List lexeme.Token) (b : PlainBlock) → IsRead text.now ts b
         → IfOk result (λ v. IsSetOf b v) }
-    // a refusal names a fault of the text, and where it is
+    // A refusal names a fault of the text, and its line.
     ensures refused { IfErr result (λ e. IsRefused text.now e) }
 {
     let tokens = tokens_of(alloc, text)?;
@@ -134,7 +131,7 @@ fn tokens_of(alloc: Global, text: &str) -> Result<Vec<Token>, LoadFault>
     }
 }
 
-/// The tree of the text with these tokens.
+/// The tree that these tokens of the text read as.
 fn block_in(alloc: Global, text: &str, tokens: &[Token]) -> Result<Block, LoadFault>
     requires { lexis.Answers text.now (Ok tokens.now) }
     ensures read { IfOk result (λ block. IsRead text.now tokens.now (block_of block)) }
@@ -177,7 +174,7 @@ fn set_of(alloc: Global, text: &str, block: &Block) -> Result<Verified, LoadFaul
     }
 }
 
-/// The set of a sound tree. Want of memory is the only error.
+/// The set of a sound tree. Fails only if memory runs out.
 fn verified(alloc: Global, resolved: &Resolved) -> Result<Verified, LoadFault>
     ensures matches { IfOk result (λ v. MatchesBlock (block_of resolved.now) v) }
     ensures runs { IfOk result (λ v. RunsAsMeant (block_of resolved.now) v) }
@@ -195,7 +192,7 @@ fn verified(alloc: Global, resolved: &Resolved) -> Result<Verified, LoadFault>
     }
 }
 
-/// The place of a fault of the lexis.
+/// The place of a lexical fault.
 fn lex_place(fault: LexFault) -> u32
     ensures { result ≡ lexis.place_of fault }
 {
@@ -207,7 +204,7 @@ fn lex_place(fault: LexFault) -> u32
     }
 }
 
-/// The place of the token with an index, of the last one where they end before it, 0 where there is none.
+/// The place of the token with this index; of the last token if there are fewer; 0 if there are none.
 fn token_place(tokens: &[Token], index: usize) -> u32
     ensures { result ≡ token_place tokens.now index }
 {
@@ -217,7 +214,7 @@ fn token_place(tokens: &[Token], index: usize) -> u32
     }
 }
 
-/// Whether it was memory that was wanting, and no rule is broken.
+/// Whether memory ran out, so that no rule is broken.
 fn wants_memory(fault: &RuleFault) -> bool
     ensures { IsTrue result ↔ (fault.now ≡ RuleFault.NoMemory) }
 {
@@ -227,7 +224,7 @@ fn wants_memory(fault: &RuleFault) -> bool
     }
 }
 
-/// The line of the place where a rule is broken, if it is broken at a place.
+/// The line of the place of a broken rule, if the fault has a place.
 fn rule_line(text: &str, fault: &RuleFault) -> Option<usize>
     ensures { result ≡ option_map (line_at text.now) (rule_place fault.now) }
 {

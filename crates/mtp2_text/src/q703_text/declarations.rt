@@ -1,6 +1,6 @@
-//! The declarations of the block `Q703`: its signals, and who sends which of them to whom.
+//! The declarations of the block `Q703`: its signals, and the processes that send them to one another.
 
-/// The declarations, behind the parts before it; the next part goes on.
+/// Appends the declarations to the parts before them, and passes these to the next part.
 macro_rules! declarations {
     ([$($before:literal)*] $next:ident $($rest:ident)*) => {
         $next!([$($before)*

@@ -1,6 +1,6 @@
 //! Initial alignment control (Q.703) in the text `q703`.
 
-/// The process IAC, behind the parts before it; the next part goes on.
+/// Appends the process IAC to the parts before it, and passes these to the next part.
 macro_rules! initial_alignment_control {
     ([$($before:literal)*] $next:ident $($rest:ident)*) => {
         $next!([$($before)*

@@ -1,6 +1,6 @@
 //! Link state control (Q.703) in the text `q703`.
 
-/// The process LSC, behind the parts before it; the next part goes on.
+/// Appends the process LSC to the parts before it, and passes these to the next part.
 macro_rules! link_state_control {
     ([$($before:literal)*] $next:ident $($rest:ident)*) => {
         $next!([$($before)*

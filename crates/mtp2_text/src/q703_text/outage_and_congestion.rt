@@ -1,6 +1,6 @@
 //! Processor outage control and congestion control (Q.703) in the text `q703`.
 
-/// The processes POC and CC, and the end of the block, behind the parts before it; the next part goes on.
+/// Appends the processes POC and CC and the end of the block to the parts before them, and passes these on.
 macro_rules! outage_and_congestion {
     ([$($before:literal)*] $next:ident $($rest:ident)*) => {
         $next!([$($before)*

@@ -1,6 +1,6 @@
 //! Reception control (Q.703) in the text `q703`.
 
-/// The process RC, behind the parts before it; the next part goes on.
+/// Appends the process RC to the parts before it, and passes these to the next part.
 macro_rules! reception_control {
     ([$($before:literal)*] $next:ident $($rest:ident)*) => {
         $next!([$($before)*

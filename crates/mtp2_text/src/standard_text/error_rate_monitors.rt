@@ -1,6 +1,6 @@
 //! The two error rate monitors (Q.703) in the text `standard`.
 
-/// The processes AERM and SUERM, behind the parts before it; the next part goes on.
+/// Appends the processes AERM and SUERM to the parts before them, and passes these to the next part.
 macro_rules! error_rate_monitors {
     ([$($before:literal)*] $next:ident $($rest:ident)*) => {
         $next!([$($before)*

@@ -1,6 +1,6 @@
 //! Transmission control (Q.703) in the text `standard`.
 
-/// The process TXC, behind the parts before it; the next part goes on.
+/// Appends the process TXC to the parts before it, and passes these to the next part.
 macro_rules! transmission_control {
     ([$($before:literal)*] $next:ident $($rest:ident)*) => {
         $next!([$($before)*
