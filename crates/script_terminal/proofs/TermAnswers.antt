@@ -1,4 +1,4 @@
--- What commands make of a terminal.
+-- The effects of commands on a terminal.
 use Rattle.std.proofs.Common.{◌≡◌, ℕ, zero, suc, ◌+◌, ◌-◌, ◌<◌, ◌≤◌, List, [], ◌∷◌, ◌++◌, length, take, drop, Option, None, Some, Result, Ok, Err, Bool, true, false, inl, inr, refl, sym, ap, subst, arith, ◌∙◌}
 use Rattle.std.specs.Prelude.{◌⊎◌, ◌↔◌, IsTrue, codes, if◌then◌else◌, slice_get, is_some}
 use Rattle.std.specs.Fmt.{decimal}
@@ -58,12 +58,12 @@ names_by : (b : Bool) (x y : Processes) → x.names ≡ y.names → (if b then x
 names_by true x y same = same
 names_by false x y same = refl
 
--- room in the journal changes no numbers of names
+-- Making room in the journal leaves the numbers of names unchanged.
 pub names_stay : (h : Processes) → (tidied h).names ≡ h.names
 unfolding tidied
 names_stay h = names_by (is_low h) (with_book h (rebased h.book)) h refl
 
--- the same event, by other names of its command
+-- An event is the same under equal names and equal commands.
 pub asked_same : (n m : Names) (c d : Command) (t u : Term) (text : List ℕ) → n ≡ m → c ≡ d → IsAsked (command_event n c) t text u
     → IsAsked (command_event m d) t text u
 asked_same n m c d t u text names commands asked =
@@ -98,7 +98,7 @@ pub put_full : (octets : List ℕ) (t u : Term) (m : Msu) (text : List ℕ) (e :
     → IsPut octets t text u
 put_full octets t u m text Full are says many makes = put_text octets t u m text (codes "refused E1 Full") t are says makes (full (many.0 refl))
 
--- ---- messages that are handed out
+-- ---- retrieved messages
 
 at_most : (n m : ℕ) → (n < m) ⊎ (m ≤ n) → (n < m → ⊥) → m ≤ n
 at_most n m (inl less) refuted = absurd (refuted less)
@@ -135,14 +135,14 @@ one_less : {A : Type 0} (xs : List A) (x : A) → slice_get xs 0 ≡ Some x → 
 one_less [] x some = absurd (cc)
 one_less (y ∷ xs) x some = omega arith
 
--- how many reports wait
+-- The number of pending reports.
 abbrev pub reports : TransceiverState → ℕ
 reports h = length h.messages + length h.statuses
 
 abbrev cleared : TransceiverState → TransceiverState
 cleared h = record h { messages = []; statuses = [] }
 
--- what a report leaves
+-- The state after a report is taken.
 record Handed (h : TransceiverState) (r : Reported) : Type 0 where
   pub same : cleared r.transceiver ≡ cleared h
   pub less : (x : Report) → r.report ≡ Some x → reports r.transceiver < reports h
@@ -169,13 +169,13 @@ handed : (h : TransceiverState) → Handed h (reported h)
 unfolding reported
 handed h = message_handed h (slice_get h.messages 0) refl
 
--- no report is left
+-- No report is left.
 pub none_left : (first t u : Term) (r : Option Report) → without_reports t ≡ without_reports first → is_some r ≡ false
     → r ≡ (reported t.processes.transceiver).report → u ≡ term_with_transceiver t (reported t.processes.transceiver).transceiver → u ≡ without_reports first
 none_left first t u None same none is transceiver = transceiver ∙ (ap (term_with_transceiver t) ((handed t.processes.transceiver).none (sym is)) ∙ same)
 none_left first t u (Some x) same none is transceiver = absurd (let e : true ≡ false = none in cc)
 
--- one was taken out
+-- One report was taken out.
 pub one_handed : (first t u : Term) → without_reports t ≡ without_reports first → u ≡ term_with_transceiver t (reported t.processes.transceiver).transceiver
     → without_reports u ≡ without_reports first
 one_handed first t u same transceiver = ap without_reports transceiver ∙ (ap (term_with_transceiver t) (handed t.processes.transceiver).same ∙ same)
@@ -199,7 +199,7 @@ where_less : (n : ℕ) (xs : List ℕ) → (drop n xs ≡ [] → ⊥) → (n < l
 where_less n xs more (inl less) = less
 where_less n xs more (inr long) = absurd (more (nothing_behind n xs long))
 
--- one part more
+-- One more part.
 pub part_taken : (t m u : Term) (octets : List ℕ) (n : ℕ) → (n ≡ 0 → ⊥) → n ≤ length octets → Heard t (take n octets) m
     → (n < length octets → TakesNoMore m) → Listens (without_reports m) (drop n octets) u → Listens t octets u
 part_taken t m u octets zero some within heard stops others = absurd (some refl)
@@ -211,7 +211,7 @@ part_taken t m u (x ∷ xs) (suc n) some within heard stops others =
     (λ more. let less : n < length xs = where_less n xs more (cases_lt n (length xs)) in stops (omega (arith, less)))
     others)
 
--- a part of what is left
+-- A part of the remaining octets.
 pub part_more : (t m w u : Term) (octets xs : List ℕ) (from n : ℕ) → xs ≡ drop from octets → (n ≡ 0 → ⊥) → n ≤ length xs → Heard t (take n xs) m
     → (n < length xs → TakesNoMore m) → w ≡ without_reports m → Listens w (drop (from + n) octets) u → Listens t (drop from octets) u
 part_more t m w u octets xs from n same some within heard stops without others =
@@ -221,13 +221,13 @@ part_more t m w u octets xs from n same some within heard stops without others =
     let rest : drop (from + n) octets ≡ drop n xs = sym (drop-drop n from octets) ∙ ap (drop n) (sym same) in
     subst R same (part_taken t m u xs n some within heard stops (subst Q rest (subst P without others)))
 
--- nothing is left
+-- No octets remain.
 pub listens_end : (t : Term) (octets : List ℕ) (from : ℕ) → length octets ≤ from → Listens t (drop from octets) t
 listens_end t octets from over = let P : List ℕ → Type 0 = λ xs. Listens t xs t in subst P (sym (nothing_behind from octets over)) (done t)
 
--- ---- what is told is kept
+-- ---- reports are kept
 
--- all octets were taken
+-- All octets were taken.
 pub hears_all : (t u : Term) (octets : List ℕ) (n : ℕ) → n ≡ length octets → Heard t (take n octets) u → Hears t octets u
 hears_all t u octets n all heard =
     let P : ℕ → Type 0 = λ k. Heard t (take k octets) u in
@@ -238,7 +238,7 @@ hears_all t u octets n all heard =
 not_over : (n : ℕ) (xs : List ℕ) → n < length xs → drop n xs ≡ [] → ⊥
 not_over n xs less none = omega (arith, less, ap length none, length-drop n xs)
 
--- as many messages wait as may, and what was told is dropped
+-- The most messages are waiting, and the reports are dropped.
 pub hears_part : (t m w u : Term) (octets xs : List ℕ) (n : ℕ) → n < length octets → Heard t (take n octets) m
     → IsFull m → w ≡ without_reports m → xs ≡ drop n octets → Hears w xs u → Hears t octets u
 hears_part t m w u octets xs n less heard packed without rest hears =
@@ -247,8 +247,8 @@ hears_part t m w u octets xs n less heard packed without rest hears =
     let R : List ℕ → Type 0 = λ ys. Hears (without_reports m) ys u in
     subst P (take-append-drop n octets) (in_parts t m u (take n octets) (drop n octets) heard (not_over n octets less) packed (subst R rest (subst Q without hears)))
 
--- So far these octets were heard, with what was told dropped where as many messages waited as may: all
--- of them, or those before a place where it may be dropped if so many wait.
+-- The octets before `from` were heard, and reports dropped when the most messages were waiting. These are all octets,
+-- or those before a place where reports may be dropped if the messages are full.
 pub record Hearing (t m : Term) (octets : List ℕ) (from : ℕ) : Type 0 where
   pub within : from ≤ length octets
   pub all : length octets ≤ from → Hears t octets m
@@ -279,13 +279,13 @@ hearing_on t m w v octets xs from k before less packed without same few heard =
           (subst T same (subst S without (hears_part w v (without_reports v) u xs (drop k xs) k (omega (arith, count, more, less)) heard next_full refl refl (subst R rest hears))));
     }
 
--- as many messages wait as may where there is no room
+-- Without room, the most messages are waiting.
 pub full_by : (b : Bool) (t : Term) → IsTrue b ↔ (length t.processes.transceiver.messages < KEPT_MESSAGES) → b ≡ false → IsFull t
 full_by b t room is =
     at_most (length t.processes.transceiver.messages) KEPT_MESSAGES (cases_lt (length t.processes.transceiver.messages) KEPT_MESSAGES)
     (λ less. let e : true ≡ false = sym (room.1 less) ∙ is in cc)
 
--- ---- so many times
+-- ---- repetitions
 
 pub times_none : (keeps : Bool) (octets : List ℕ) (t : Term) → TakesTimes keeps octets 0 t t
 times_none keeps octets t = never t

@@ -1,4 +1,4 @@
--- A run, one command more, and lines, one more.
+-- A run with one more command, and output with one more line.
 use Rattle.std.proofs.Common.{◌≡◌, ℕ, suc, ◌+◌, ◌-◌, ◌<◌, ◌≤◌, Bool, true, false, List, [], ◌∷◌, ◌++◌, length, map, take, drop, get_or, append_assoc, append-nil, Option, None, Some, refl, sym, ap, subst, arith, ◌∙◌}
 use Rattle.std.specs.Prelude.{◌||◌, codes, is_some}
 use Rattle.std.specs.List.{flat_map, list_any}
@@ -33,7 +33,7 @@ latest_of_two : (last : Option (List ℕ)) (xs ys : List (List ℕ)) → latest 
 latest_of_two last [] ys = refl
 latest_of_two last (x ∷ xs) ys = latest_of_two (Some x) xs ys
 
--- lines behind lines
+-- Lines printed after other lines.
 pub printed_both : (old now next last mid after : Option (List ℕ)) (xs ys : List (List ℕ)) → HasPrinted old now last mid xs → HasPrinted now next mid after ys
     → HasPrinted old next last after (xs ++ ys)
 printed_both old now next last mid after xs ys first second =
@@ -48,15 +48,15 @@ printed_both old now next last mid after xs ys first second =
 printed_same : (old new last next : Option (List ℕ)) (xs ys : List (List ℕ)) → xs ≡ ys → HasPrinted old new last next xs → HasPrinted old new last next ys
 printed_same old new last next xs ys same printed = let P : List (List ℕ) → Type 0 = λ ls. HasPrinted old new last next ls in subst P same printed
 
--- ---- units that go out
+-- ---- sent units
 
--- the line of the unit that went out, or of none
+-- The line of the unit sent, or of none.
 pub printed_unit : (now next last after : Option (List ℕ)) (o p : Option units.Unit) (l : List ℕ) → after ≡ Some l → Appends now next (line_of l)
     → l ≡ unit_line o → o ≡ p → HasPrinted now next last after (unit_line p ∷ [])
 printed_unit now next last after o p l is written text unit =
     printed_same now next last after (l ∷ []) (unit_line p ∷ []) (ap (λ t. t ∷ []) (text ∙ ap unit_line unit)) (printed_one now next last after l is written)
 
--- so many units went out and were printed, and whatever goes out next goes out behind them
+-- `k` units were sent and printed, and further units follow them.
 pub record GivesOut (k : ℕ) (old new last next : Option (List ℕ)) (t now : Term) : Type 0 where
   pub lines : List (List ℕ)
   pub printed : HasPrinted old new last next lines
@@ -84,7 +84,7 @@ no_unit : (o : Option units.Unit) → false ≡ is_some o → o ≡ None
 no_unit None is = refl
 no_unit (Some x) is = absurd (let e : false ≡ true = is in cc)
 
--- one unit more
+-- One more unit.
 pub gives_more : (k : ℕ) (old now next last mid after : Option (List ℕ)) (t u v : Term) (on : Bool) → on ≡ true → on ≡ is_some (next_of u).unit
     → v ≡ behind_next u → HasPrinted now next mid after (unit_line (next_of u).unit ∷ []) → GivesOut k old now last mid t u
     → GivesOut (k + 1) old next last after t v
@@ -102,7 +102,7 @@ gives_more k old now next last mid after t u v on is some behind printed gives =
           (gives.others (suc n) (unit_text x.0 ∷ more) w (one_goes n u w x.0 more x.1 (subst P behind out)));
     }
 
--- none goes out
+-- No unit is sent.
 pub gives_silent : (k asked : ℕ) (old now next last mid after : Option (List ℕ)) (t u v : Term) (on : Bool) → k < asked → on ≡ false
     → on ≡ is_some (next_of u).unit → v ≡ behind_next u → HasPrinted now next mid after (unit_line (next_of u).unit ∷ [])
     → GivesOut k old now last mid t u → HasGivenOut asked old next last after t v
@@ -120,7 +120,7 @@ gives_silent k asked old now next last mid after t u v on less is none behind pr
       printed = printed_both old now next last mid after gives.lines (codes "silent" ∷ []) gives.printed (printed_same now next mid after _ _ text printed);
     }
 
--- all that were asked for went out
+-- All requested units were sent.
 pub gives_all : (k asked : ℕ) (old now last mid : Option (List ℕ)) (t u : Term) → k ≤ asked → asked ≤ k → GivesOut k old now last mid t u
     → HasGivenOut asked old now last mid t u
 gives_all k asked old now last mid t u most least gives =
@@ -133,11 +133,11 @@ gives_all k asked old now last mid t u most least gives =
 
 -- ---- runs
 
--- nothing was obeyed yet
+-- Nothing was obeyed yet.
 pub run_begins : (keeps : Bool) (t : Term) (now : Option (List ℕ)) → IsTermRun keeps t [] now now t None
 run_begins keeps t now = record { lines = []; goes = begins; written = Appends-nil now }
 
--- an expectation that holds
+-- An expectation that holds.
 pub run_held : (keeps : Bool) (t : Term) (before : List PlainTermSaid) (said : PlainTermSaid) (text : List ℕ) (first written : Option (List ℕ)) (now : Term)
     (last : Option (List ℕ)) → said.command ≡ expected text → last ≡ Some text
     → IsTermRun keeps t before first written now last → IsTermRun keeps t (before ++ said ∷ []) first written now last
@@ -146,7 +146,7 @@ run_held keeps t before said text first written now last is same run =
     let Q : Option (List ℕ) → Type 0 = λ l. Goes keeps t (before ++ said ∷ []) run.lines now l in
     record { lines = run.lines; goes = subst Q (sym same) (holds said is (subst P same run.goes)); written = run.written }
 
--- a command that printed its lines
+-- A command that printed its lines.
 pub run_printed : (keeps : Bool) (t : Term) (before : List PlainTermSaid) (said : PlainTermSaid) (lines : List (List ℕ)) (first old new : Option (List ℕ)) (now next : Term)
     (last after : Option (List ℕ)) → Obeys keeps said.command now lines next → HasPrinted old new last after lines
     → IsTermRun keeps t before first old now last → IsTermRun keeps t (before ++ said ∷ []) first new next after
@@ -161,7 +161,7 @@ run_printed keeps t before said lines first old new now next last after obeys pr
           (Appends-trans first old new (flat_map line_of run.lines) (flat_map line_of lines) run.written printed.written);
     }
 
--- what is neither `out` nor an expectation prints one line
+-- A command other than `out` and `expect` prints one line.
 pub obeys_one : (keeps : Bool) (c : TermCommand) (t u : Term) (text : List ℕ) → ((x : _) → c ≡ code.Expect x → ⊥) → ((x : _) → c ≡ code.Out x → ⊥)
     → Answers keeps (plain_term_command c) t text u → Obeys keeps (plain_term_command c) t (text ∷ []) u
 obeys_one keeps (code.Order o) t u text no_expect no_out answers = record { text = text; one = refl; answers = answers }
@@ -186,7 +186,7 @@ obeys_one keeps (code.Expect x) t u text no_expect no_out answers = absurd (no_e
 pub obeys_out : (keeps : Bool) (c : TermCommand) (n : ℕ) (t u : Term) (lines : List (List ℕ)) → c ≡ code.Out n → GoOut n t lines u → Obeys keeps (plain_term_command c) t lines u
 obeys_out keeps c n t u lines is out = let P : TermCommand → Type 0 = λ d. Obeys keeps (plain_term_command d) t lines u in subst P (sym is) out
 
--- one command more of a list
+-- One more command of a list.
 pub run_more : (keeps : Bool) (t : Term) (before : List PlainTermSaid) (items : List TermSaid) (i : ℕ) (x : TermSaid) (first written : Option (List ℕ)) (now : Term)
     (last : Option (List ℕ)) → i < length items → x ≡ get_or items i x
     → IsTermRun keeps t ((before ++ map plain_term_said (take i items)) ++ plain_term_said x ∷ []) first written now last
@@ -199,7 +199,7 @@ run_more keeps t before items i x first written now last within is run =
     ∙ ap (λ commands. before ++ commands) (sym (map-append plain_term_said (take i items) (x ∷ [])) ∙ ap (map plain_term_said) (sym taken)))
     run
 
--- an expectation that fails behind the commands that were obeyed
+-- An expectation that fails after commands that were obeyed.
 pub run_missed : (keeps : Bool) (t : Term) (before : List PlainTermSaid) (items : List TermSaid) (i : ℕ) (x : TermSaid) (first old new : Option (List ℕ)) (now : Term)
     (last : Option (List ℕ)) → i < length items → x ≡ get_or items i x → IsTermRun keeps t (before ++ map plain_term_said (take i items)) first old now last
     → IsTermMissedBy (plain_term_said x) last old new → IsTermMissed keeps (before ++ map plain_term_said items) first new t
@@ -223,12 +223,12 @@ run_missed keeps t before items i x first old new now last within is run missed 
 
 -- ---- whole scripts
 
--- by a list that is told as commands, or as what they are
+-- The commands that read reports, in the code's list and in the plain one.
 pub any_told : (xs : List TermSaid) → list_any (λ x. is_told (plain_term_said x)) xs ≡ asks_told (map plain_term_said xs)
 any_told [] = refl
 any_told (x ∷ xs) = ap (λ b. is_told (plain_term_said x) || b) (any_told xs)
 
--- all commands of a script were obeyed
+-- All commands of a script were obeyed.
 pub written : (keeps : Bool) (commands items : List TermSaid) (old new : Option (List ℕ)) (t now : Term) (last : Option (List ℕ))
     → keeps ≡ asks_told (map plain_term_said commands) → commands ≡ items
     → IsTermRun keeps t (map plain_term_said commands) old new now last → IsTermWritten (map plain_term_said items) old new t
@@ -237,7 +237,7 @@ written keeps commands items old new t now last told same run =
     let Q : List TermSaid → Type 0 = λ xs. IsTermWritten (map plain_term_said xs) old new t in
     subst Q same (record { now = now; last = last; run = subst P told run })
 
--- an expectation of it fails
+-- An expectation of the script fails.
 pub failed : (keeps : Bool) (commands items : List TermSaid) (old new : Option (List ℕ)) (t : Term)
     → keeps ≡ asks_told (map plain_term_said commands) → commands ≡ items
     → IsTermMissed keeps (map plain_term_said commands) old new t → IsTermFailed (map plain_term_said items) old new t

@@ -1,4 +1,4 @@
--- Bits of a unit, one more.
+-- One more bit of a unit.
 use Rattle.std.proofs.Common.{◌≡◌, ℕ, ◌+◌, ◌*◌, ◌/◌, ◌%◌, ◌<◌, zero, suc, Bool, true, false, List, [], ◌∷◌, ◌++◌, length, take, drop, get_or, reverse, append_assoc, append-nil, length-append, refl, sym, ap, subst, arith, ◌∙◌}
 use Rattle.su_octets.specs.Bits.{low_bits, bits_of}
 use Rattle.bit_line.specs.Stuffing.{stuffed}
@@ -10,7 +10,7 @@ use Rattle.std.proofs.lemmas.List.{drop_more}
 use Rattle.script_terminal.specs.UnitLines.{IsSent, shared_flags}
 use Rattle.su_octets.proofs.BitLists.{bits_of-append}
 
--- one line bit more
+-- One more bit of the line.
 line_more : (before h : List Bool) (line : List Bool) (b : Bool) → line ≡ before ++ reverse h → line ++ b ∷ [] ≡ before ++ reverse (b ∷ h)
 line_more before h line b is =
     ap (λ l. l ++ b ∷ []) is ∙ (append_assoc before (reverse h) (b ∷ []) ∙ ap (λ l. before ++ l) (sym (reverse-cons b h)))
@@ -67,7 +67,7 @@ low_even k n =
     let q : 2 * n / 2 ≡ n = omega arith in
     rw (r, q) refl
 
--- one bit of a list before the others
+-- One bit of a list before the others.
 pub bit_before : (xs : List Bool) (i j k n m : ℕ) → i < length xs → j ≡ i + 1 → low_bits (suc k) n ≡ get_or xs i false ∷ low_bits k m
     → low_bits k m ≡ take k (drop j xs) → low_bits (suc k) n ≡ take (suc k) (drop i xs)
 bit_before xs i j k n m within next is others =

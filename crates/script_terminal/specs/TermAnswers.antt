@@ -1,4 +1,4 @@
--- What each command of a terminal's script makes of the terminal, and the lines that it prints.
+-- The effect of each command of a terminal's script on the terminal, and the lines that it prints.
 use Rattle.std.specs.Prelude.{◌≡◌, ◌⊎◌, ℕ, ◌<◌, ◌≤◌, zero, suc, Bool, true, false, List, [], ◌∷◌}
 use Rattle.std.specs.Prelude.{◌++◌, length, Option, None, Some, codes}
 use Rattle.std.specs.Fmt.{decimal}
@@ -41,7 +41,7 @@ use Rattle.script_terminal.specs.UnitLines.{IsLineOf}
 
 -- ---- calls that are one event of the book
 
--- what a word tells a terminal
+-- The command to a terminal that a word names.
 abbrev pub command_of : Order → Command
 command_of word.Power = command.PowerOn
 command_of word.Start = command.Start
@@ -56,31 +56,31 @@ command_of word.Flush = command.Flush
 command_of word.Continue = command.Continue
 command_of word.Overload = command.Overload
 
--- Behind an event that the book takes the actors come to rest; one that it refuses changes nothing.
--- Room is made in the journal before either, where fewer than half of its places are free.
+-- After an event that the book takes, the actors come to rest; a refused one changes nothing.
+-- Before either, room is made in the journal if fewer than half of its places are free.
 abbrev pub after_reply : Reply → Event → Processes → Processes
 after_reply (reply.Refused r) e h = tidied h
 after_reply _ e h = offered e (tidied h)
 
--- no turn of a book gets stuck
+-- No turn of a book gets stuck.
 abbrev pub after_answer : Answer → Event → Processes → Processes
 after_answer (Stuck x) e h = tidied h
 after_answer (Says r) e h = after_reply r e h
 
--- the event is asked of the book, and what the book answers is printed as for a book script
+-- The book is asked to take the event; its answer is printed as for a book script.
 pub record IsAsked (e : Event) (t : Term) (text : List ℕ) (u : Term) : Type 0 where
   pub says : text ≡ answer_text t.processes.book.set 0 (ask (tidied t.processes).book e).answer
   pub makes :
       u ≡ with_processes t (after_answer (ask (tidied t.processes).book e).answer e t.processes)
 
--- the line of a refused call; want of memory has none
+-- The line of a refused call; none if memory ran out.
 abbrev pub IsRefusedLine : CallError → List ℕ → Type 0
 IsRefusedLine (Refused r) text = text ≡ refused_text r
 IsRefusedLine NoMemory text = ⊥
 
 -- ---- messages to send
 
--- a message waits behind all others, unless there are so many that it is refused
+-- A message is queued after all others, unless there are so many that it is refused.
 pub data Puts (m : Msu) (t : Term) : List ℕ → Term → Type 0 where
   taken : length (waiting t.processes.transceiver.sender) < MOST_WAITING
       → Puts m t (codes "ok")
@@ -92,13 +92,12 @@ pub data Puts (m : Msu) (t : Term) : List ℕ → Term → Type 0 where
   full : MOST_WAITING ≤ length (waiting t.processes.transceiver.sender)
       → Puts m t (codes "refused E1 Full") t
 
--- octets are a message: its service information octet, and behind it its signalling information
--- field
+-- The octets form a message: its service information octet, then its signalling information field.
 abbrev pub IsMessageOf : List ℕ → Msu → Type 0
 IsMessageOf octets m = octets ≡ m.sio ∷ m.sif.items
 
--- octets are no message: there are no octets, or more than 273, which are one and the 272 of a
--- signalling information field
+-- The octets form no message: there are none, or more than 273, which is one octet and the 272 of a
+-- signalling information field.
 abbrev pub AreNoMessage : List ℕ → Type 0
 AreNoMessage octets = (octets ≡ []) ⊎ (273 < length octets)
 
@@ -109,81 +108,81 @@ pub record IsPut (octets : List ℕ) (t : Term) (text : List ℕ) (u : Term) : T
 
 -- ---- octets of the line
 
--- nothing waits to be handed out any more, neither a message nor what was told of the link
+-- No report is pending any more, neither a message nor a status of the link.
 abbrev pub without_reports : Term → Term
 without_reports t =
     term_with_transceiver t (record t.processes.transceiver { messages = []; statuses = [] })
 
--- as many messages wait as may
+-- The most messages are waiting.
 abbrev pub IsFull : Term → Type 0
 IsFull t = KEPT_MESSAGES ≤ length t.processes.transceiver.messages
 
--- why a terminal takes no further octet: as many messages wait as may, or there is no memory to
--- make room in the journal
+-- Why a terminal takes no further octet: the most messages are waiting, or memory ran out while
+-- making room in the journal.
 abbrev pub TakesNoMore : Term → Type 0
 TakesNoMore t = IsFull t ⊎ (is_low t.processes ≡ true)
 
--- Octets of the line come in, part after part, and behind each part all reports are taken out. A
--- part has all that is left, or ends where the terminal takes no more.
+-- Octets of the line are received in parts, and all reports are taken out after each part. A part
+-- has all remaining octets, or ends when the terminal takes no more.
 pub data Listens : Term → List ℕ → Term → Type 0 where
   done : (t : Term) → Listens t [] t
   part : (t m u : Term) (first : ℕ) (octets more : List ℕ) → Heard t (first ∷ octets) m
       → ((more ≡ [] → ⊥) → TakesNoMore m)
       → Listens (without_reports m) more u → Listens t (first ∷ (octets ++ more)) u
 
--- Octets of the line come in, and what is told is kept. Only where octets are left and as many
--- messages wait as may, what waits is dropped, and then the other octets come in so.
+-- Octets of the line are received, and reports are kept. Only if octets remain and the most
+-- messages are waiting, the reports are dropped, and the other octets are received in this way.
 pub data Hears : Term → List ℕ → Term → Type 0 where
   heard_all : (t u : Term) (octets : List ℕ) → Heard t octets u → Hears t octets u
   in_parts : (t m u : Term) (octets more : List ℕ) → Heard t octets m → (more ≡ [] → ⊥)
       → IsFull m → Hears (without_reports m) more u → Hears t (octets ++ more) u
 
--- whether what is told is kept
+-- Octets of the line are received, with reports kept or not.
 abbrev pub Takes : Bool → Term → List ℕ → Term → Type 0
 Takes true t octets u = Hears t octets u
 Takes false t octets u = Listens t octets u
 
--- these octets come in so many times
+-- These octets are received n times.
 pub data TakesTimes (keeps : Bool) (octets : List ℕ) : ℕ → Term → Term → Type 0 where
   never : (t : Term) → TakesTimes keeps octets zero t t
   again : (n : ℕ) (t m u : Term) → TakesTimes keeps octets n t m → Takes keeps m octets u
       → TakesTimes keeps octets (suc n) t u
 
--- so many times comes in a signal unit, whose octets without the check octets these are
+-- A signal unit is received n times, given its octets without check octets.
 pub record ReceivesTimes (keeps : Bool) (octets : List ℕ) (n : ℕ) (t u : Term) : Type 0 where
   pub come : List ℕ
   pub are : IsLineOf octets come
   pub takes : TakesTimes keeps come n t u
 
--- a signal unit with errors: an octet between two flags, which is too short (Q.703, 4.1.1)
+-- A signal unit with errors: an octet between two flags, which is too short (Q.703, 4.1.1).
 abbrev pub error_line : List ℕ
 error_line = 126 ∷ 0 ∷ 126 ∷ []
 
--- ---- what is told
+-- ---- reports
 
--- what is told next is handed out, and printed
+-- The next report is taken out and printed.
 pub record Tells (t : Term) (text : List ℕ) (u : Term) : Type 0 where
   pub says : text ≡ told_line (reported t.processes.transceiver).report
   pub after : u ≡ term_with_transceiver t (reported t.processes.transceiver).transceiver
 
--- the number of the message that was accepted last
+-- The line with the number of the message accepted last.
 abbrev pub accepted_line : Term → List ℕ
 accepted_line t = codes "ok " ++ decimal t.processes.transceiver.receiver.last
 
--- ---- messages that are handed out
+-- ---- retrieved messages
 
--- The terminal behind a retrieval: what it kept is gone, and where messages were out its processes
--- hear that none is any more.
+-- The terminal after a retrieval: it holds no messages. If messages were outstanding, its processes
+-- hear that none are any more.
 abbrev pub behind_retrieve : Option ℕ → Term → Term
 behind_retrieve behind t = with_processes t (handed_out behind t.processes)
 
--- the line of a refused retrieval; want of memory has none
+-- The line of a refused retrieval; none if memory ran out.
 abbrev pub IsRetrieveLine : RetrieveError → List ℕ → Type 0
 IsRetrieveLine unretrieved.BadAck text = text ≡ codes "refused E2 BadAck"
 IsRetrieveLine unretrieved.NoMemory text = ⊥
 
--- Messages are handed out: those behind this number, or without one those that never were sent. A
--- number that acknowledges more than was sent is refused.
+-- Messages are retrieved: those after this number, or without a number those never sent. A number
+-- that acknowledges more than was sent is refused.
 pub data Retrieves (behind : Option ℕ) (t : Term) : List ℕ → Term → Type 0 where
   given : count_known t.processes.transceiver.sender behind
       ≤ t.processes.transceiver.sender.sent
@@ -196,26 +195,26 @@ pub data Retrieves (behind : Option ℕ) (t : Term) : List ℕ → Term → Type
 
 -- ---- measurements
 
--- what was counted
+-- The line with a count.
 abbrev pub measure_line : Measure → Term → List ℕ
 measure_line measure t = codes "ok " ++ decimal (count_of measure t.processes.measures)
 
--- how many proving periods were aborted
+-- The line with the number of aborted proving periods.
 abbrev pub aborted_line : Term → List ℕ
 aborted_line t = codes "ok " ++ decimal t.processes.aborted
 
--- all counts begin anew
+-- The terminal after all counts are reset.
 abbrev pub behind_reset : Term → Term
 behind_reset t = with_processes t (all_reset t.processes)
 
--- ---- units that go out
+-- ---- sent units
 
--- the buffers are emptied, where the text asked for that
+-- The buffers are cleared, if the text requested it.
 abbrev pub behind_clear : Term → Term
 behind_clear t = with_processes t (clear_obeyed t.processes)
 
--- The unit that goes out next, if one does, and the terminal behind it: its buffers are emptied
--- where the text asked for that.
+-- The next unit sent, if there is one, and the terminal after it, with its buffers cleared if the
+-- text requested it.
 abbrev pub next_of : Term → Sent
 next_of t = sent (tidied t.processes)
 
@@ -226,8 +225,8 @@ abbrev pub unit_line : Option su.Unit → List ℕ
 unit_line None = codes "silent"
 unit_line (Some u) = unit_text u
 
--- So many units are asked for, and each that goes out has a line. Where none goes out, the line
--- `silent` says so, and no more are asked for.
+-- Up to n units are requested, and each one sent has a line. If there is none, the line `silent`
+-- says so, and no more are requested.
 pub data GoOut : ℕ → Term → List (List ℕ) → Term → Type 0 where
   nothing : (t : Term) → GoOut zero t [] t
   silent : (n : ℕ) (t : Term) → (next_of t).unit ≡ None
@@ -238,8 +237,8 @@ pub data GoOut : ℕ → Term → List (List ℕ) → Term → Type 0 where
 
 -- ---- all commands
 
--- What a command that prints one line makes of a terminal, and that line; whether what is told is
--- kept. `out` and `expect` are none of these: nothing is done for them here.
+-- The effect of a command that prints one line, and that line; `keeps` tells whether reports are
+-- kept. `out` and `expect` are excluded here.
 abbrev pub Does : Bool → PlainTermCommand → Term → List ℕ → Term → Type 0
 Does keeps (order o) t text u = IsAsked (command_event t.processes.names (command_of o)) t text u
 Does keeps (unit octets) t text u = (text ≡ codes "ok") × ReceivesTimes keeps octets 1 t u
@@ -261,7 +260,7 @@ Does keeps (shown process variable) t text u =
     (text ≡ value_line t.processes.book variable (actor_named t.processes.book process)) × (u ≡ t)
 Does keeps (expected text) t said u = (said ≡ []) × (u ≡ t)
 
--- a command was done, and the buffers emptied behind it where the text asked for that
+-- A command was done; then the buffers were cleared if the text requested it.
 pub record Answers (keeps : Bool) (c : PlainTermCommand) (t : Term) (text : List ℕ) (u : Term) :
     Type 0 where
   pub middle : Term
@@ -274,8 +273,8 @@ pub record AnswersOne (keeps : Bool) (c : PlainTermCommand) (t : Term) (lines : 
   pub one : lines ≡ text ∷ []
   pub answers : Answers keeps c t text u
 
--- a command was obeyed: what it makes of a terminal, and the lines that it prints; `expect` is no
--- command to a terminal
+-- A command was obeyed: its effect on a terminal, and its lines. `expect` is no command to a
+-- terminal.
 abbrev pub Obeys : Bool → PlainTermCommand → Term → List (List ℕ) → Term → Type 0
 Obeys keeps (out n) t lines u = GoOut n t lines u
 Obeys keeps (expected text) t lines u = ⊥

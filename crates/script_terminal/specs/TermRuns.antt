@@ -1,4 +1,4 @@
--- What a run of a terminal's script has printed, and what it made of its terminal.
+-- The output of a run of a terminal's script, and its effect on the terminal.
 use Rattle.std.specs.Prelude.{◌≡◌, ℕ, Bool, List, [], ◌∷◌, ◌++◌, Option, None, Some, codes}
 use Rattle.std.specs.List.{flat_map}
 use Rattle.std.specs.Io.KnownBytes.{Appends}
@@ -21,14 +21,14 @@ use Rattle.script_links.specs.declared.heads.TermHead.{TermHead}
 use Rattle.script_terminal.specs.TermAnswers.{GoOut, Obeys}
 use Rattle.script_terminal.specs.declared.terminals.TermPlayer.{TermPlayer}
 
--- the line printed last, when these are printed behind it
+-- The line printed last after these lines are printed.
 abbrev pub latest : Option (List ℕ) → List (List ℕ) → Option (List ℕ)
 latest last [] = last
 latest last (l ∷ ls) = latest (Some l) ls
 
--- A run from a terminal on: whether what is told is kept, the commands that were obeyed, the lines
--- that they printed, the terminal now, and the line printed last. `expect` prints nothing, and
--- holds where the line before is the one that it names.
+-- A run from a terminal on: whether reports are kept, the commands obeyed, their lines, the
+-- terminal now, and the line printed last. `expect` prints nothing and holds if the line before is
+-- its text.
 pub data Goes (keeps : Bool) (first : Term) :
     List PlainTermSaid → List (List ℕ) → Term → Option (List ℕ) → Type 0 where
   begins : Goes keeps first [] [] first None
@@ -42,21 +42,20 @@ pub data Goes (keeps : Bool) (first : Term) :
       → said.command ≡ expected text → Goes keeps first commands lines now (Some text)
       → Goes keeps first (commands ++ said ∷ []) lines now (Some text)
 
--- these commands were obeyed, one after another, and what is written grew by their lines, each with
--- its end
+-- These commands were obeyed in order, and the output grew by their lines, each with its end.
 pub record IsTermRun (keeps : Bool) (first : Term) (commands : List PlainTermSaid)
     (old new : Option (List ℕ)) (now : Term) (last : Option (List ℕ)) : Type 0 where
   pub lines : List (List ℕ)
   pub goes : Goes keeps first commands lines now last
   pub written : Appends old new (flat_map line_of lines)
 
--- these lines were printed behind what was there
+-- These lines were printed after the earlier output.
 pub record HasPrinted (old new last next : Option (List ℕ)) (lines : List (List ℕ)) : Type 0 where
   pub latest_is : next ≡ latest last lines
   pub written : Appends old new (flat_map line_of lines)
 
--- a command was obeyed: an expectation that holds, for which nothing happens, or another one, whose
--- lines were printed behind what was there
+-- A command was obeyed: an expectation that holds, which has no effect, or another command, whose
+-- lines were printed after the earlier output.
 pub data HasObeyed (keeps : Bool) (c : PlainTermCommand) (old new last next : Option (List ℕ))
     (t u : Term) : Type 0 where
   was_met : (text : List ℕ) → c ≡ expected text → last ≡ Some text → next ≡ last → new ≡ old
@@ -67,14 +66,14 @@ pub data HasObeyed (keeps : Bool) (c : PlainTermCommand) (old new last next : Op
 abbrev pub last_of : TermPlayer → Option (List ℕ)
 last_of p = last_in p.printer
 
--- so many units were asked of a terminal, and their lines printed
+-- A terminal was asked for `units` units, and their lines were printed.
 pub record HasGivenOut (units : ℕ) (old new last next : Option (List ℕ)) (t u : Term) : Type 0 where
   pub lines : List (List ℕ)
   pub out : GoOut units t lines u
   pub printed : HasPrinted old new last next lines
 
--- the commands were obeyed, whatever the terminal is now, and was printed last; what is told was
--- kept where one of them asks for it
+-- The commands were obeyed, with some final terminal and last line. Reports were kept if one of the
+-- commands reads them.
 pub record IsTermWritten (commands : List PlainTermSaid) (old new : Option (List ℕ))
     (first : Term) : Type 0 where
   pub now : Term
@@ -87,7 +86,7 @@ abbrev pub IsTermMissedBy :
 IsTermMissedBy said last old new =
     Misses said.line (λ text. said.command ≡ expected text) last old new
 
--- the commands up to an expectation were obeyed, and that fails; nothing else is written
+-- The commands up to an expectation were obeyed, and that fails; nothing else is written.
 pub record IsTermMissed (keeps : Bool) (commands : List PlainTermSaid) (old new : Option (List ℕ))
     (first : Term) : Type 0 where
   pub before : List PlainTermSaid
@@ -100,17 +99,17 @@ pub record IsTermMissed (keeps : Bool) (commands : List PlainTermSaid) (old new 
   pub run : IsTermRun keeps first before old middle now last
   pub missed : IsTermMissedBy said last middle new
 
--- the same of all commands of a script, by which is said whether what is told is kept
+-- As `IsTermMissed`, for all commands of a script, which decide whether reports are kept.
 abbrev pub IsTermFailed :
     List PlainTermSaid → Option (List ℕ) → Option (List ℕ) → Term → Type 0
 IsTermFailed commands old new first = IsTermMissed (asks_told commands) commands old new first
 
--- a terminal over the set is new, with this error correction and these limits
+-- A terminal over the set is new, with this error correction and these limits.
 abbrev pub IsNewWithin : Draft → Mode → Term → RoundLimits → Type 0
 IsNewWithin d mode t limits = IsOverWithin d limits mode t
 
--- P holds of a terminal over the set that is new, with the error correction of a script's first
--- line, and with the limits that it chooses or these
+-- P holds of a new terminal over the set, with the error correction of a script's first line and
+-- with the limits that it chooses, else the usual ones.
 pub record IsOfNew (d : Draft) (usual : RoundLimits) (head : TermHead) (P : Term → Type 0) :
     Type 0 where
   pub terminal : Term
@@ -119,14 +118,14 @@ pub record IsOfNew (d : Draft) (usual : RoundLimits) (head : TermHead) (P : Term
 
 -- ---- no terminal
 
--- the line that names what is lacking is all that is written; want of memory is no refusal
+-- Only the line with the missing name is written; running out of memory is no refusal.
 abbrev pub PrintsLacking : OpenError → Option (List ℕ) → Option (List ℕ) → Type 0
 PrintsLacking (NoName name) old new =
     Appends old new (line_of (codes "refused X2 NoName " ++ wanted_text name))
 PrintsLacking NoMemory old new = ⊥
 
--- the set lacks a name that a terminal wants, and the line that says the first of them is all that
--- was written
+-- The set lacks a name that a terminal requires, and only the line with the first such name was
+-- written.
 pub record LacksName (d : Draft) (old new : Option (List ℕ)) : Type 0 where
   pub name : Wanted
   pub lacks : IsFirstLacking d name wanted

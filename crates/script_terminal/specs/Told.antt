@@ -1,4 +1,4 @@
--- What a terminal tells: of its link, and of messages.
+-- The text of a terminal's reports: about its link, and of messages.
 use Rattle.std.specs.Prelude.{ℕ, List, ◌∷◌, ◌++◌, Option, None, Some, codes}
 use Rattle.std.specs.Fmt.{signed_decimal}
 use Rattle.hex.specs.Hex.{encode_upper}
@@ -25,7 +25,7 @@ unfoldable pub report_text : Report → List ℕ
 report_text (Message m) = message_text m
 report_text (Status status) = status_text status
 
--- the line that a script prints for what is told next
+-- The line that a script prints for the next report.
 abbrev pub told_line : Option Report → List ℕ
 told_line None = codes "nothing"
 told_line (Some report) = report_text report

@@ -1,4 +1,4 @@
-//! What is printed for each command of a terminal's script.
+//! The lines printed for commands of a terminal's script.
 ghost use Rattle.std.specs.Prelude.{◌≡◌, ◌<◌, IfOk, OnOk, IfSome, IsNone, IsTrue, codes, length};
 ghost use Rattle.actor_machine.specs.declared.event.Event.TheVariants.{Advance};
 ghost use Rattle.link_term.specs.Offering.{command_event};
@@ -15,10 +15,10 @@ use script_links::{Order, TermCommand};
 use std::alloc::{AllocError, Global};
 use std::collections::VecDeque;
 
-/// A signal unit with errors, between two flags: a single octet is too short.
+/// A signal unit with errors: a single octet between two flags is too short.
 const ERROR: [u8; 3] = [0x7E, 0x00, 0x7E];
 
-/// The line of a refusal; none where memory is wanting.
+/// The line of a refusal; an error if memory ran out.
 fn refused(alloc: Global, error: CallError) -> Result<Vec<u8>, AllocError>
     ensures { IfOk result (λ v. IsRefusedLine error v.items) }
 {
@@ -28,7 +28,7 @@ fn refused(alloc: Global, error: CallError) -> Result<Vec<u8>, AllocError>
     }
 }
 
-/// `command W`.
+/// Obeys `command W`.
 fn tell(alloc: Global, terminal: &mut Terminal, order: Order) -> Result<Vec<u8>, AllocError>
     ensures { IfOk result (λ v. IsAsked (command_event terminal.old.processes.names (command_of order)) terminal.old v.items terminal.new) }
 {
@@ -38,7 +38,7 @@ fn tell(alloc: Global, terminal: &mut Terminal, order: Order) -> Result<Vec<u8>,
     }
 }
 
-/// `tick N`.
+/// Obeys `tick N`.
 fn tick(alloc: Global, terminal: &mut Terminal, ticks: u32) -> Result<Vec<u8>, AllocError>
     ensures { IfOk result (λ v. IsAsked (Advance ticks) terminal.old v.items terminal.new) }
 {
@@ -48,8 +48,8 @@ fn tick(alloc: Global, terminal: &mut Terminal, ticks: u32) -> Result<Vec<u8>, A
     }
 }
 
-/// The message of these octets: its service information octet, and its signalling information field. None of no octets, nor where the field
-/// has more than 272.
+/// The message that these octets form: service information octet and signalling information field. None if there are no
+/// octets, or if the field has more than 272.
 pub fn message(octets: &[u8]) -> Option<Msu>
     ensures some { IfSome result (IsMessageOf octets.now) }
     ensures none { IsNone result → AreNoMessage octets.now }
@@ -69,8 +69,8 @@ pub fn message(octets: &[u8]) -> Option<Msu>
     }
 }
 
-/// `msu HEX`. Octets that are no message would be told as want of memory, but none comes here: a line with such octets is no command,
-/// in a script (which is refused as it is read) and among the orders of a line.
+/// Obeys `msu HEX`. Octets that form no message would count as out of memory, but never occur: neither a script nor the
+/// orders of a line accept a command with them.
 fn put(alloc: Global, terminal: &mut Terminal, octets: &[u8]) -> Result<Vec<u8>, AllocError>
     ensures { IfOk result (λ v. IsPut octets.now terminal.old v.items terminal.new) }
 {
@@ -86,7 +86,7 @@ fn put(alloc: Global, terminal: &mut Terminal, octets: &[u8]) -> Result<Vec<u8>,
     }
 }
 
-/// `told`: what the terminal tells next.
+/// Obeys `told`: the line is the terminal's next report.
 fn told(alloc: Global, terminal: &mut Terminal) -> Result<Vec<u8>, AllocError>
     ensures { IfOk result (λ v. Tells terminal.old v.items terminal.new) }
 {
@@ -99,7 +99,7 @@ fn told(alloc: Global, terminal: &mut Terminal) -> Result<Vec<u8>, AllocError>
     }
 }
 
-/// `accepted`: the number of the message that was accepted last.
+/// The line of `accepted`: the number of the message accepted last.
 fn accepted(alloc: Global, terminal: &Terminal) -> Result<Vec<u8>, AllocError>
     ensures { IfOk result (λ v. v.items ≡ accepted_line terminal.now) }
 {
@@ -107,7 +107,7 @@ fn accepted(alloc: Global, terminal: &Terminal) -> Result<Vec<u8>, AllocError>
     text_line(alloc, &format_args!("ok {number}"))
 }
 
-/// Whether a number, if there is one, may be that of a message.
+/// Whether a number, if there is one, may be a message's sequence number.
 fn is_number(behind: Option<u8>) -> bool
     ensures number { IsTrue result → IfSome behind (λ number. number < 128) }
     ensures any { IfSome behind (λ number. number < 128) → IsTrue result }
@@ -118,7 +118,7 @@ fn is_number(behind: Option<u8>) -> bool
     }
 }
 
-/// The line of a refused retrieval; none where memory is wanting.
+/// The line of a refused retrieval; an error if memory ran out.
 fn unretrieved(alloc: Global, error: RetrieveError) -> Result<Vec<u8>, AllocError>
     ensures { IfOk result (λ v. IsRetrieveLine error v.items) }
 {
@@ -128,15 +128,15 @@ fn unretrieved(alloc: Global, error: RetrieveError) -> Result<Vec<u8>, AllocErro
     }
 }
 
-/// How many messages there are.
+/// The number of messages.
 fn how_many(messages: &VecDeque<Msu>) -> usize
     ensures { result ≡ length messages.now.items }
 {
     messages.len()
 }
 
-/// `retrieve N`, `retrieve`: hands messages out. A number above 127 would be told as want of memory, but none comes here: a line with such a
-/// number is no command.
+/// Obeys `retrieve N` or `retrieve`: retrieves messages. A number above 127 would count as out of memory, but never
+/// occurs: a line with such a number is no command.
 fn retrieve(
     alloc: Global,
     terminal: &mut Terminal,
@@ -156,7 +156,7 @@ fn retrieve(
     }
 }
 
-/// `measure NAME`: what was counted.
+/// The line of `measure NAME`: the count.
 fn measured(alloc: Global, terminal: &Terminal, measure: Measure) -> Result<Vec<u8>, AllocError>
     ensures { IfOk result (λ v. v.items ≡ measure_line measure terminal.now) }
 {
@@ -165,7 +165,7 @@ fn measured(alloc: Global, terminal: &Terminal, measure: Measure) -> Result<Vec<
     text_line(alloc, &format_args!("ok {count}"))
 }
 
-/// `measure aborted_periods`: how many proving periods were aborted.
+/// The line of `measure aborted_periods`: the number of aborted proving periods.
 fn aborted(alloc: Global, terminal: &Terminal) -> Result<Vec<u8>, AllocError>
     ensures { IfOk result (λ v. v.items ≡ aborted_line terminal.now) }
 {
@@ -173,7 +173,7 @@ fn aborted(alloc: Global, terminal: &Terminal) -> Result<Vec<u8>, AllocError>
     text_line(alloc, &format_args!("ok {count}"))
 }
 
-/// `measure reset`: all counts begin anew.
+/// Obeys `measure reset`: resets all counts.
 fn reset(alloc: Global, terminal: &mut Terminal) -> Result<Vec<u8>, AllocError>
     ensures text { IfOk result (λ v. v.items ≡ codes "ok") }
     ensures terminal { OnOk result (terminal.new ≡ behind_reset terminal.old) }
@@ -182,8 +182,8 @@ fn reset(alloc: Global, terminal: &mut Terminal) -> Result<Vec<u8>, AllocError>
     Vec::from_slice(alloc, b"ok")
 }
 
-/// The line that a command prints, but for `out` and `expect`, for which there is none. Unless it `keeps` what the terminal tells, that is
-/// dropped behind a unit and behind octets of the line.
+/// Obeys a command other than `out` and `expect`, and returns its line. Unless it `keeps` the terminal's reports, they
+/// are dropped after a unit and after octets of the line.
 fn done(
     alloc: Global,
     terminal: &mut Terminal,
@@ -214,7 +214,7 @@ fn done(
     }
 }
 
-/// The same, and behind the command the terminal's buffers are emptied where its text asked for that.
+/// Obeys a command as `done` does, then clears the terminal's buffers if its process text requested it.
 pub fn answer(
     alloc: Global,
     terminal: &mut Terminal,

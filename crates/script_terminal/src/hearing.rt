@@ -1,4 +1,4 @@
-//! Octets of the line that come in.
+//! Octets received on the line.
 ghost use Rattle.std.specs.Prelude.{◌≡◌, ◌≤◌, IfOk, OnOk, codes, length};
 ghost use Rattle.script_terminal.specs.TermAnswers.{without_reports, Listens, Hears, Takes, TakesTimes, ReceivesTimes};
 
@@ -6,7 +6,7 @@ use crate::unit_line::line_of_unit;
 use link_term::Terminal;
 use std::alloc::{AllocError, Global};
 
-/// Takes all reports out.
+/// Takes all reports out of the terminal.
 fn drop_reports(terminal: &mut Terminal)
     ensures { terminal.new ≡ without_reports terminal.old }
 {
@@ -17,7 +17,7 @@ fn drop_reports(terminal: &mut Terminal)
     }
 }
 
-/// Takes octets of the line, all of them, and drops what the terminal tells.
+/// Has the terminal hear all octets of the line, and drops its reports.
 fn listen(terminal: &mut Terminal, octets: &[u8]) -> Result<(), AllocError>
     ensures { OnOk result (Listens terminal.old octets.now terminal.new) }
 {
@@ -33,7 +33,7 @@ fn listen(terminal: &mut Terminal, octets: &[u8]) -> Result<(), AllocError>
     Ok(())
 }
 
-/// Takes octets of the line, all of them, and keeps what the terminal tells, but drops it where octets are left and as many messages wait as may.
+/// Has the terminal hear all octets of the line. Its reports are kept, unless octets remain and its messages are full.
 fn hear(terminal: &mut Terminal, octets: &[u8]) -> Result<(), AllocError>
     ensures { OnOk result (Hears terminal.old octets.now terminal.new) }
 {
@@ -52,7 +52,7 @@ fn hear(terminal: &mut Terminal, octets: &[u8]) -> Result<(), AllocError>
     Ok(())
 }
 
-/// Takes octets of the line, all of them; whether what the terminal tells is kept.
+/// Has the terminal hear all octets of the line once; `keeps` tells whether its reports are kept.
 fn take_once(terminal: &mut Terminal, octets: &[u8], keeps: bool) -> Result<(), AllocError>
     ensures { OnOk result (Takes keeps terminal.old octets.now terminal.new) }
 {
@@ -63,7 +63,7 @@ fn take_once(terminal: &mut Terminal, octets: &[u8], keeps: bool) -> Result<(), 
     }
 }
 
-/// Takes octets of the line so many times.
+/// Has the terminal hear octets of the line `times` times.
 fn take_times(
     terminal: &mut Terminal,
     octets: &[u8],
@@ -78,7 +78,7 @@ fn take_times(
     Ok(())
 }
 
-/// `line HEX`: takes octets of the line so many times, all of them.
+/// Obeys `line HEX`: has the terminal hear all octets of the line `times` times.
 pub fn take(
     alloc: Global,
     terminal: &mut Terminal,
@@ -93,7 +93,7 @@ pub fn take(
     Vec::from_slice(alloc, b"ok")
 }
 
-/// `unit HEX`: takes what comes in of so many equal units.
+/// Obeys `unit HEX`: has the terminal receive the same unit `times` times.
 pub fn receive(
     alloc: Global,
     terminal: &mut Terminal,

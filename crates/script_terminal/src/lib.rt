@@ -1,4 +1,4 @@
-//! A terminal's script as it runs: what each command makes of the terminal, and the lines that are printed for it.
+//! Runs a terminal's script: how each command changes the terminal, and the lines that it prints.
 #![tactic(auto)]
 
 mod answers;

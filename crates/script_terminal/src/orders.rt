@@ -1,11 +1,11 @@
-//! What the words of a script tell a terminal.
+//! The commands to a terminal that words of a script name.
 ghost use Rattle.std.specs.Prelude.{◌≡◌};
 ghost use Rattle.script_terminal.specs.TermAnswers.{command_of};
 
 use link_term::Command;
 use script_links::Order;
 
-/// The command of a word.
+/// The command that a word names.
 pub fn command_of(order: Order) -> Command
     ensures { result ≡ command_of order }
 {

@@ -1,4 +1,4 @@
-//! A terminal's script as it runs.
+//! Running a terminal's script.
 ghost use Rattle.std.specs.Prelude.{◌≡◌, ◌⊎◌, ◌++◌, ◌∷◌, [], List, ℕ, Option, map, is_some, None, OnOk, IfOk, true, false};
 ghost use Rattle.std.specs.List.{list_any};
 ghost use Rattle.link_term.specs.Term.{Term};
@@ -15,7 +15,7 @@ use std::alloc::Global;
 use std::io::{self, Write};
 use turn_check::Verified;
 
-/// A terminal, and what is printed for it.
+/// A terminal, and the printer of its lines.
 #[derive(Drop)]
 pub struct TermPlayer {
     pub terminal: Terminal,
@@ -23,7 +23,7 @@ pub struct TermPlayer {
 }
 
 impl TermPlayer {
-    /// Prints the unit that goes out next, or `silent`; behind it the buffers are emptied where the text asked for that. Whether it was a unit.
+    /// Prints the next unit or `silent`, and clears the buffers if the text requested it. Whether a unit was sent.
     fn print_unit<W: Write>(&mut self, alloc: Global, writer: &mut W) -> io::Result<bool>
         ensures unit { IfOk result (λ on. on ≡ is_some (next_of self.old.terminal).unit) }
         ensures goes { OnOk result (self.new.terminal ≡ behind_next self.old.terminal) }
@@ -46,7 +46,7 @@ impl TermPlayer {
         }
     }
 
-    /// Prints the units that go out next, so many; one line `silent` where none goes out.
+    /// Prints the next `units` units sent; if there is none, one line `silent`, which is the last.
     fn print_units<W: Write>(&mut self, alloc: Global, units: u32, writer: &mut W) -> io::Result<()>
         ensures { OnOk result (HasGivenOut units (W.contents writer.old) (W.contents writer.new) (last_of self.old) (last_of self.new)
             self.old.terminal self.new.terminal) }
@@ -59,11 +59,11 @@ impl TermPlayer {
         Ok(())
     }
 
-    /// Does what a command says; whether what the terminal tells is kept. Whether the run goes on: it doesn't behind `failed line N`.
+    /// Obeys a command; `keeps`: reports are kept. Returns whether the run goes on: it ends after `failed line N`.
     ///
     /// # Errors
     ///
-    /// Where a write fails, or memory is wanting.
+    /// If a write fails or memory runs out.
     pub fn obey<W: Write>(
         &mut self,
         alloc: Global,
@@ -100,12 +100,12 @@ impl TermPlayer {
         }
     }
 
-    /// Does what the commands say, in order, up to an expectation that fails; whether what the terminal tells is kept. Gives the exit status,
-    /// 0 or 1 where one failed.
+    /// Obeys the commands in order, up to an expectation that fails; `keeps` tells whether reports are kept. Returns
+    /// the exit status: 0, or 1 if an expectation failed.
     ///
     /// # Errors
     ///
-    /// Where a write fails, or memory is wanting.
+    /// If a write fails or memory runs out.
     fn run<W: Write>(
         &mut self,
         alloc: Global,
@@ -130,7 +130,7 @@ impl TermPlayer {
     }
 }
 
-/// Whether a command asks what the terminal tells.
+/// Whether a command reads the terminal's reports.
 fn is_told(said: &TermSaid<'_>) -> bool
     ensures { result ≡ is_told (plain_term_said said.now) }
 {
@@ -155,21 +155,21 @@ fn is_told(said: &TermSaid<'_>) -> bool
     }
 }
 
-/// Whether a command among these asks what the terminal tells.
+/// Whether one of these commands reads the terminal's reports.
 fn has_told(commands: &[TermSaid<'_>]) -> bool
     ensures { result ≡ list_any (λ said. is_told (plain_term_said said)) commands.now }
 {
     commands.iter().any(|said| is_told(said))
 }
 
-/// Whether one of the commands asks what the terminal tells.
+/// Whether one of the commands reads the terminal's reports.
 pub fn asks_told(commands: &[TermSaid<'_>]) -> bool
     ensures { result ≡ asks_told (map plain_term_said commands.now) }
 {
     has_told(commands)
 }
 
-/// A terminal of which nothing is printed yet.
+/// A terminal for which nothing is printed yet.
 pub fn new_player(terminal: Terminal) -> TermPlayer
     ensures terminal { result.terminal ≡ terminal }
     ensures last { last_of result ≡ None }
@@ -178,7 +178,7 @@ pub fn new_player(terminal: Terminal) -> TermPlayer
     TermPlayer { terminal, printer }
 }
 
-/// Runs the commands of a script on a new terminal. Gives the exit status.
+/// Runs the commands of a script on a new terminal. Returns the exit status.
 fn play_on<W: Write>(
     alloc: Global,
     terminal: Terminal,
@@ -201,7 +201,7 @@ fn play_on<W: Write>(
     }
 }
 
-/// Writes why there is no terminal over a set: `refused X2 NoName NAME`. Gives the exit status, 2, or 4 where memory or a write fails.
+/// Writes why a set allows no terminal: `refused X2 NoName NAME`. Returns 2, or 4 if memory or a write fails.
 pub fn refuse_set<W: Write>(alloc: Global, writer: &mut W, error: OpenError) -> u8
     ensures printed { result ≡ 2 → PrintsLacking error (W.contents writer.old) (W.contents writer.new) }
     ensures status { (result ≡ 2) ⊎ (result ≡ 4) }
@@ -212,13 +212,13 @@ pub fn refuse_set<W: Write>(alloc: Global, writer: &mut W, error: OpenError) -> 
     }
 }
 
-/// Runs a terminal's script on a terminal over a set, and prints what each command but `expect` gives: one line, but for `out`, which prints
-/// one for each unit. What the terminal tells is kept where a command asks for it. Cyclic retransmission is forced within the usual limits where
-/// the script's first line chooses none.
+/// Runs a terminal's script on a terminal over a set. It prints one line for each command except `expect`; `out` prints
+/// one for each unit. Reports are kept if a command reads them. The usual limits apply to forced cyclic retransmission
+/// unless the script's first line chooses others.
 ///
-/// Gives the exit status: 0 where each command ran and its lines were written, 1 after `failed line N` where an expectation failed, 2 after
-/// `refused X2 NoName NAME` alone where the set lacks a name that a terminal speaks to or hears, 4 where memory or a write fails. Nothing is
-/// written after a write that failed.
+/// Returns the exit status: 0 if each command ran and its lines were written, 1 after `failed line N` if an expectation
+/// failed, 2 after only `refused X2 NoName NAME` if the set lacks a name that a terminal uses, 4 if memory or a write
+/// fails. Nothing is written after a failed write.
 pub fn play_terminal<W: Write>(
     alloc: Global,
     set: &Verified,

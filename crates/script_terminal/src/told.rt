@@ -1,11 +1,11 @@
-//! What a terminal tells.
+//! The text of a terminal's reports.
 ghost use Rattle.std.specs.Prelude.{◌≡◌, IfOk, string_bytes};
 ghost use Rattle.script_terminal.specs.Told.{status_text, message_text, report_text};
 
 use link_term::{LinkStatus, Msu, Report};
 use std::alloc::{AllocError, Global};
 
-/// What became of a link.
+/// The text of a status report of a link.
 fn status_text(alloc: Global, status: LinkStatus) -> Result<String, AllocError>
     ensures { IfOk result (λ text. string_bytes text ≡ status_text status) }
 {
@@ -18,7 +18,7 @@ fn status_text(alloc: Global, status: LinkStatus) -> Result<String, AllocError>
     }
 }
 
-/// A message that came in.
+/// The text of a received message.
 fn message_text(alloc: Global, message: &Msu) -> Result<String, AllocError>
     ensures { IfOk result (λ text. string_bytes text ≡ message_text message.now) }
 {
@@ -29,8 +29,8 @@ fn message_text(alloc: Global, message: &Msu) -> Result<String, AllocError>
     format!(in alloc; "message {digits}")
 }
 
-/// What is told of a report: `in service`, `down R` with the reason, `far out`, `far back`, `cleared`, or `message HEX` with the octets
-/// of the message, its service information octet first.
+/// The text of a report: `in service`, `down R` with the reason, `far out`, `far back`, `cleared`, or `message HEX`
+/// with the octets of the message, its service information octet first.
 #[tactic(auto, unfolding(crate::specs::Told::report_text))]
 pub fn report_text(alloc: Global, report: &Report) -> Result<String, AllocError>
     ensures { IfOk result (λ text. string_bytes text ≡ report_text report.now) }

@@ -1,4 +1,4 @@
-//! A unit as it stands on the line (Q.703, 3).
+//! The octets of a unit on the line (Q.703, 3).
 ghost use Rattle.std.specs.Prelude.{◌≡◌, ◌<◌, ◌≤◌, ◌+◌, ◌*◌, ◌%◌, ℕ, suc, Bool, List, ◌∷◌, ◌++◌, length, take, drop, reverse, IfOk, OnOk};
 ghost use Rattle.su_octets.specs.Bits.{low_bits, bits_of};
 ghost use Rattle.bit_line.specs.Sending.{flag};
@@ -8,7 +8,7 @@ ghost use Rattle.script_terminal.specs.UnitLines.{shared_flags, IsSent, IsLineOf
 use std::alloc::{AllocError, Global};
 use su_octets::check_bits;
 
-/// One bit more of a unit behind so many 1s in a row, and a 0 where it is the fifth. How many 1s in a row there are now.
+/// Appends a bit of a unit after `ones` consecutive 1s, and a 0 after the fifth 1. Returns the number of 1s at the end.
 fn push_stuffed(line: &mut Vec<bool>, bit: bool, ones: u8) -> Result<u8, AllocError>
     requires { ones < 5 }
     ensures sent { IfOk result (λ now. (before sent : List Bool) → IsSent before sent line.old.items ones → IsSent before (bit ∷ sent) line.new.items now) }
@@ -25,7 +25,7 @@ fn push_stuffed(line: &mut Vec<bool>, bit: bool, ones: u8) -> Result<u8, AllocEr
     Ok(ones + 1)
 }
 
-/// The bits of an octet of a unit, the low one first.
+/// Appends the bits of an octet of a unit, the low one first.
 fn push_octet(line: &mut Vec<bool>, octet: u8, ones: u8) -> Result<u8, AllocError>
     requires { ones < 5 }
     ensures sent { IfOk result (λ now. (before sent : List Bool) → IsSent before sent line.old.items ones
@@ -39,7 +39,7 @@ fn push_octet(line: &mut Vec<bool>, octet: u8, ones: u8) -> Result<u8, AllocErro
     Ok(count)
 }
 
-/// The octets of a unit.
+/// Appends the bits of a unit's octets.
 fn push_octets(line: &mut Vec<bool>, octets: &[u8]) -> Result<(), AllocError>
     ensures { OnOk result (line.new.items ≡ line.old.items ++ stuffing_of (bits_of octets.now)) }
 {
@@ -50,7 +50,7 @@ fn push_octets(line: &mut Vec<bool>, octets: &[u8]) -> Result<(), AllocError>
     Ok(())
 }
 
-/// A flag.
+/// Appends a flag.
 fn push_flag(line: &mut Vec<bool>) -> Result<(), AllocError>
     ensures { OnOk result (line.new.items ≡ line.old.items ++ flag) }
 {
@@ -58,7 +58,7 @@ fn push_flag(line: &mut Vec<bool>) -> Result<(), AllocError>
     Ok(line.extend_from_slice(&flag)?)
 }
 
-/// A flag that shares its first 0 with the one before.
+/// Appends a flag that shares its first 0 with the flag before it.
 fn push_shared_flag(line: &mut Vec<bool>) -> Result<(), AllocError>
     ensures { OnOk result (line.new.items ≡ line.old.items ++ drop 1 flag) }
 {
@@ -66,15 +66,15 @@ fn push_shared_flag(line: &mut Vec<bool>) -> Result<(), AllocError>
     Ok(line.extend_from_slice(&rest)?)
 }
 
-/// How many bits stand behind the last whole octet.
+/// The number of bits after the last whole octet.
 fn bits_over(bits: &[bool]) -> usize
     ensures { result ≡ length bits.now % 8 }
 {
     bits.len() % 8
 }
 
-/// Flags, each of which shares its first 0 with the one before, until one ends an octet: as many as bits stand behind the last whole one,
-/// since each has seven.
+/// Appends flags, each of which shares its first 0 with the flag before it, until one ends an octet. Each adds seven
+/// bits, so as many are needed as bits follow the last whole octet.
 fn push_shared_flags(line: &mut Vec<bool>) -> Result<(), AllocError>
     ensures flags { OnOk result ((flags : ℕ) × (flags < 8) × (line.new.items ≡ line.old.items ++ shared_flags flags)) }
     ensures whole { OnOk result (length line.new.items % 8 ≡ 0) }
@@ -86,7 +86,7 @@ fn push_shared_flags(line: &mut Vec<bool>) -> Result<(), AllocError>
     Ok(())
 }
 
-/// The number whose low bits are this one, and behind it those of another number.
+/// The number with this lowest bit, and the bits of another number above it.
 fn with_first(bit: bool, others: u8) -> u8
     requires { others < 128 }
     ensures bits { (k : ℕ) → low_bits (suc k) result ≡ bit ∷ low_bits k others }
@@ -95,7 +95,7 @@ fn with_first(bit: bool, others: u8) -> u8
     if bit { 2 * others + 1 } else { 2 * others }
 }
 
-/// The octet of the eight bits from this place on.
+/// The octet of the eight bits from index `from` on.
 fn octet_at(bits: &[bool], from: usize) -> u8
     requires { from + 8 ≤ length bits.now }
     ensures { low_bits 8 result ≡ take 8 (drop from bits.now) }
@@ -122,13 +122,13 @@ fn octets_of(alloc: Global, bits: &[bool]) -> Result<Vec<u8>, AllocError>
     Ok(octets)
 }
 
-/// The line octets of a signal unit, whose octets without the check octets these are: a flag, the octets with their check octets and a 0
-/// behind each five 1s in a row, and a flag; then flags, each of which shares its first 0 with the one before, until one ends an octet
-/// (Q.703, 2.3.1, 3.2 and 4.2).
+/// The line octets of a signal unit, given its octets without check octets: a flag, the octets and check octets with a
+/// 0 after each five consecutive 1s, and a flag. Flags follow that share their first 0 with the flag before, until one
+/// ends an octet (Q.703, 2.3.1, 3.2 and 4.2).
 ///
 /// # Errors
 ///
-/// Where there is no memory for them.
+/// If memory runs out.
 pub fn line_of_unit(alloc: Global, octets: &[u8]) -> Result<Vec<u8>, AllocError>
     ensures { IfOk result (λ line. IsLineOf octets.now line.items) }
 {

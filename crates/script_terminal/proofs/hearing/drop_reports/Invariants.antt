@@ -1,4 +1,4 @@
--- The reports so far.
+-- The reports taken out so far.
 use Rattle.std.proofs.Common.{◌≡◌}
 use Rattle.script_terminal.specs.TermAnswers.{without_reports}
 use Rattle.script_terminal.proofs.TermAnswers.{reports}

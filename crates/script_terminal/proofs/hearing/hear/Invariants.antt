@@ -1,4 +1,4 @@
--- The octets so far: what was heard before the loop goes on.
+-- The octets heard so far, before the loop goes on.
 use Rattle.std.proofs.Common.{◌-◌, length}
 use Rattle.link_term.specs.Term.{Term}
 use Rattle.script_terminal.proofs.TermAnswers.{Hearing}

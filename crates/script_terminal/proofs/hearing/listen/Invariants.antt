@@ -1,4 +1,4 @@
--- The octets so far.
+-- The octets heard so far.
 use Rattle.std.proofs.Common.{◌≤◌, ◌-◌, length, drop}
 use Rattle.link_term.specs.Term.{Term}
 use Rattle.script_terminal.specs.TermAnswers.{Listens}

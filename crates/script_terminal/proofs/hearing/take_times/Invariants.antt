@@ -1,4 +1,4 @@
--- The times so far.
+-- The repetitions so far.
 use Rattle.script_terminal.specs.TermAnswers.{TakesTimes}
 use Rattle.script_terminal.proofs.hearing.take_times.Given as goal
 

@@ -1,4 +1,4 @@
--- The octets so far.
+-- The octets formed so far.
 use Rattle.std.proofs.Common.{◌≡◌, ◌*◌, take}
 use Rattle.su_octets.specs.Bits.{bits_of}
 use Rattle.script_terminal.proofs.unit_line.octets_of.Given as goal

@@ -1,4 +1,4 @@
--- The bits so far.
+-- The bits appended so far.
 use Rattle.std.proofs.Common.{◌<◌, Bool, List, ◌++◌, reverse}
 use Rattle.su_octets.specs.Bits.{low_bits}
 use Rattle.script_terminal.specs.UnitLines.{IsSent}

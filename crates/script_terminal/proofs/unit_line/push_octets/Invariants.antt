@@ -1,4 +1,4 @@
--- The octets so far.
+-- The octets appended so far.
 use Rattle.std.proofs.Common.{◌<◌, reverse, take}
 use Rattle.su_octets.specs.Bits.{bits_of}
 use Rattle.script_terminal.specs.UnitLines.{IsSent}

@@ -1,4 +1,4 @@
--- The flags so far.
+-- The flags appended so far.
 use Rattle.std.proofs.Common.{◌≡◌, ◌++◌}
 use Rattle.script_terminal.specs.UnitLines.{shared_flags}
 use Rattle.script_terminal.proofs.unit_line.push_shared_flags.Given as goal

@@ -1,4 +1,4 @@
--- The units so far.
+-- The units printed so far.
 use Rattle.script_terminal.specs.TermRuns.{last_of}
 use Rattle.script_terminal.proofs.TermRuns.{GivesOut}
 use Rattle.script_terminal.proofs.terminals.TermPlayer.print_units.Given as goal
