@@ -1,4 +1,4 @@
--- Octets are those of one message at most, and what is sent is read.
+-- Octets are those of at most one message, and the octets sent for a message are read.
 use Rattle.std.proofs.Common.{◌≡◌, ℕ, ◌+◌, ◌<◌, Bool, true, false, cond, eqb, ◌⊎◌, List, [], ◌∷◌, ◌++◌, length, drop, get_or, Option, Some, None, Result, Ok, Err, inl, inr, refl, sym, ap, subst, ◌∙◌, append_assoc, arith}
 use Rattle.std.specs.Prelude.{replicate, slice_index, is_some, ◌&&◌}
 use Rattle.std.specs.Option.{option_map}
@@ -78,7 +78,7 @@ one_reason octets fault.Missing fault.UnknownType k h = absurd (let e = sym h.2 
 one_reason octets fault.Missing fault.Field k h = absurd (h.3 (k.2.0.parameters, k.2.2))
 one_reason octets fault.Missing fault.Missing h k = refl
 
--- ---- what is sent
+-- ---- the octets sent for a message
 
 kind_again : (k : Kind) → kind_by (class_of k) (type_of k) ≡ Ok k
 kind_again kind.Error = refl
@@ -199,7 +199,7 @@ pub seen : {A B : Type 0} (f : A → B) (o : Option A) (v : Option B) → option
 seen f None v e = ap is_some (sym e)
 seen f (Some x) v e = ap is_some (sym e)
 
--- the tags from a place on
+-- the tags from an index on
 pub all_from : (tags : List ℕ) (i t : ℕ) (ps : List Parameter) → i < length tags → t ≡ get_or tags i 0 → has_all (drop i tags) ps ≡ (is_some (value_of t ps) && has_all (drop (i + 1) tags) ps)
 all_from tags i t ps lt at =
     at_drop_more (λ (ts : List ℕ). has_all ts ps) tags i 0 lt ∙ ap (λ (x : ℕ). is_some (value_of x ps) && has_all (drop (i + 1) tags) ps) (sym at)

@@ -1,4 +1,4 @@
--- What octets begin with is one parameter, and the code's reading finds it.
+-- Octets begin with at most one parameter, and the code finds it.
 use Rattle.std.proofs.Common.{◌≡◌, ℕ, ◌-◌, ◌<◌, ◌≤◌, Bool, true, false, cond, eqb, ltb, List, [], ◌∷◌, ◌++◌, length, take, drop, Option, Some, None, ◌⊎◌, inl, inr, refl, sym, ap, subst, ◌∙◌, arith}
 use Rattle.std.specs.Option.{option_map}
 use Rattle.std.proofs.lemmas.Bool.{ltb-false, le-ltb, eqb-true}
@@ -104,7 +104,7 @@ pub first_shorter : (octets : List ℕ) (p : Parameter) (rest : List ℕ) → Is
 first_shorter octets p rest h =
     omega (arith, h.headed, length-drop 4 octets, ap length h.parts, length-append p.value (h.padding ++ rest), length-append h.padding rest)
 
--- ---- all of them
+-- ---- all parameters
 
 pub one_list : (octets : List ℕ) (ps qs : List Parameter) → AreParameters octets ps → AreParameters octets qs → ps ≡ qs
 one_list octets [] [] a b = refl
@@ -121,7 +121,7 @@ Good octets = (ps : List Parameter) × AreParameters octets ps
 pub good_up : (octets : List ℕ) (p : Parameter) (rest : List ℕ) → parameter_at octets ≡ Some (p, rest) → Good rest → Good octets
 good_up octets p rest e g = (p ∷ g.0, (rest, first_sound octets p rest e, g.1))
 
--- what follows the first
+-- the parameters after the first
 pub behind_first : (octets : List ℕ) (p : Parameter) (rest : List ℕ) (ps : List Parameter) → parameter_at octets ≡ Some (p, rest) → AreParameters octets ps
     → (qs : List Parameter) × (ps ≡ p ∷ qs) × AreParameters rest qs
 behind_first octets p rest [] e a = absurd (omega (arith, ap length a, (first_sound octets p rest e).headed))
@@ -132,7 +132,7 @@ behind_first octets p rest (q ∷ qs) e a =
 pub good_down : (octets : List ℕ) (p : Parameter) (rest : List ℕ) → parameter_at octets ≡ Some (p, rest) → Good octets → Good rest
 good_down octets p rest e g = let b = behind_first octets p rest g.0 e g.1 in (b.0, b.2)
 
--- where there is no first one, there is none
+-- if there is no first parameter, there is none
 pub none_first : (octets : List ℕ) (ps : List Parameter) → parameter_at octets ≡ None → AreParameters octets ps → ps ≡ []
 none_first octets [] e a = refl
 none_first octets (p ∷ ps) e a = let there = first_complete octets p a.0 a.1 in absurd cc
@@ -150,7 +150,7 @@ none_good rest octets long e down g =
     let empty : rest ≡ [] = subst (AreParameters rest) none there.1 in
     omega (arith, ap length empty)
 
--- the parameter that is found is the first one with its tag, or stands before it
+-- if the next parameter has another tag, the value is that of a parameter after it
 pub value_behind : (tag : ℕ) (octets rest after : List ℕ) (p : Parameter) → parameter_at rest ≡ Some (p, after) → eqb p.tag tag ≡ false
     → ((ps : List Parameter) → AreParameters octets ps → (qs : List Parameter) × AreParameters rest qs × (value_of tag ps ≡ value_of tag qs))
     → (ps : List Parameter) → AreParameters octets ps → (qs : List Parameter) × AreParameters after qs × (value_of tag ps ≡ value_of tag qs)

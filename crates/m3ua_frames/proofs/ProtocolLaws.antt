@@ -33,7 +33,7 @@ protocol_again _ fits long = absurd (omega arith)
 
 -- ---- labels
 
--- the label and the service information octet of what can be carried
+-- the label and the service information octet of protocol data that can be carried
 abbrev pub label_number : Protocol → ℕ
 label_number p = p.dpc + p.opc * 2 ^ 14 + p.sls * 2 ^ 28
 
@@ -56,7 +56,7 @@ carried_by p n sio h at_n at_sio =
 label_again : (n : ℕ) → label (n % 2 ^ 8) (n / 2 ^ 8 % 2 ^ 8) (n / 2 ^ 16 % 2 ^ 8) (n / 2 ^ 24) ≡ n
 label_again n = omega arith
 
--- what can be carried is the protocol data of the message with this octet and this label
+-- protocol data that can be carried is that of the message with this octet and this label
 pub carried_again : (p : Protocol) (n : ℕ) (user : List ℕ) → IsCarried p → n ≡ label_number p → user ≡ p.user_data
     → protocol_in (service p) (n % 2 ^ 8 ∷ n / 2 ^ 8 % 2 ^ 8 ∷ n / 2 ^ 16 % 2 ^ 8 ∷ n / 2 ^ 24 ∷ user) ≡ Some p
 carried_again p n user h at_n at_user =
@@ -97,7 +97,7 @@ one_carrier sio tio (a0 ∷ a1 ∷ a2 ∷ a3 ∷ a) (b0 ∷ []) p a_fits b_fits 
 one_carrier sio tio (a0 ∷ a1 ∷ a2 ∷ a3 ∷ a) (b0 ∷ b1 ∷ []) p a_fits b_fits e f = absurd cc
 one_carrier sio tio (a0 ∷ a1 ∷ a2 ∷ a3 ∷ a) (b0 ∷ b1 ∷ b2 ∷ []) p a_fits b_fits e f = absurd cc
 
--- ---- as it is put
+-- ---- parameters as they are appended
 
 pub put_is_padded : (items value : List ℕ) (tag n k padding : ℕ) → n ≡ length value + 4 → k ≡ length value → padding ≡ padding_after k
     → ((items ++ octets_2 tag) ++ octets_2 n) ++ value ++ replicate padding 0 ≡ items ++ padded (record { tag = tag; value = value })

@@ -1,4 +1,4 @@
--- A stream has one list of items, and reading it octet by octet gives that list.
+-- A stream has one list of items, and reading it octet by octet returns that list.
 use Rattle.std.proofs.Common.{◌≡◌, ℕ, zero, suc, ◌+◌, ◌-◌, ◌<◌, ◌≤◌, ◌≢◌, Bool, true, false, cond, eqb, ltb, List, [], ◌∷◌, ◌++◌, length, get_or, take, drop, Option, Some, None, ◌⊎◌, inl, inr, refl, sym, ap, subst, ◌∙◌, append_assoc, arith}
 use Rattle.std.specs.Prelude.{is_some}
 use Rattle.std.specs.List.{concat}
@@ -37,7 +37,7 @@ one_stream s (broken ∷ a) (whole n ∷ b) h k = absurd (omega (arith, h.1, k.0
 one_stream s (broken ∷ a) (too_long n ∷ b) h k = absurd (omega (arith, h.1, k.1))
 one_stream s (broken ∷ a) (broken ∷ b) h k = ap (λ (xs : List Item). broken ∷ xs) (h.2 ∙ sym k.2)
 
--- ---- what octets are
+-- ---- the item that octets are
 
 abbrev pub Judges : List ℕ → Option Item → Type 0
 Judges xs None = (length xs < 8) ⊎ ((8 ≤ length xs) × (8 ≤ told xs) × (told xs ≤ 4096) × (length xs ≢ told xs))
@@ -56,7 +56,7 @@ judge_by false false false false xs at_a at_b at_c at_d = inr (ltb-false _ _ (sy
 pub judges : (xs : List ℕ) → Judges xs (judged xs)
 judges xs = judge_by (ltb (length xs) 8) (ltb (told xs) 8) (ltb 4096 (told xs)) (eqb (length xs) (told xs)) xs refl refl refl refl
 
--- a header doesn't change by what follows
+-- octets after a header don't change its length field
 pub told-append : (xs ys : List ℕ) → 8 ≤ length xs → told (xs ++ ys) ≡ told xs
 told-append xs ys long =
     let e4 : get_or (xs ++ ys) 4 0 ≡ get_or xs 4 0 = get_or_append_left xs ys 0 4 (omega arith) in
@@ -65,7 +65,7 @@ told-append xs ys long =
     let e7 : get_or (xs ++ ys) 7 0 ≡ get_or xs 7 0 = get_or_append_left xs ys 0 7 (omega arith) in
     omega arith
 
--- ---- what has begun
+-- ---- the incomplete message
 
 begun_by : (xs : List ℕ) (j : Option Item) → Judges xs j → IsWithin xs → IsBeginning (cond (is_some j) [] xs)
 begun_by xs None (inl short) within = inl short
@@ -82,7 +82,7 @@ begun_by xs (Some i) j within = inl (omega arith)
 pub begun_begins : (xs : List ℕ) → IsWithin xs → IsBeginning (begun xs)
 begun_begins xs within = begun_by xs (judged xs) (judges xs) within
 
--- one octet more is still within
+-- with one more octet it is still within the limits
 grown_by : (xs : List ℕ) (o : ℕ) → IsBeginning xs → IsWithin (xs ++ o ∷ [])
 grown_by xs o (inl short) long = absurd (omega (arith, length-append xs (o ∷ [])))
 grown_by xs o (inr less) long =
@@ -147,7 +147,7 @@ takes : (octets : List ℕ) (o : ℕ) → (item_at (R octets 0) o ≡ judged (be
 unfolding after item_at
 takes octets o = (refl, refl)
 
--- an octet's item and what follows it
+-- the item at an octet, and the items after it
 items_by : (r q : Reading) (i : Option Item) (o : ℕ) (os : List ℕ) → item_at r o ≡ i → after r o ≡ q → option_to_list i ++ items_in q os ≡ items_in r (o ∷ os)
 items_by r q i o os item state =
     ap (λ (j : Option Item). option_to_list j ++ items_in q os) (sym item) ∙ ap (λ (s : Reading). option_to_list (item_at r o) ++ items_in s os) (sym state)

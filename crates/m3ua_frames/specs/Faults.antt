@@ -1,4 +1,4 @@
--- The error code by which a fault is answered (RFC 4666, 3.8.1).
+-- The error code that reports a fault (RFC 4666, 3.8.1).
 use Rattle.std.specs.Prelude.{ℕ}
 use Rattle.m3ua_frames.specs.declared.faults.Fault.{Fault}
 use Rattle.m3ua_frames.specs.declared.faults.Fault.TheVariants as fault

@@ -13,7 +13,7 @@ use Rattle.m3ua_frames.specs.Tags.{ROUTING_KEY, REGISTRATION, ROUTING_CONTEXT, D
 use Rattle.m3ua_frames.specs.Parameters.{Parameter, AreParameters, IsParameter, all_padded}
 use Rattle.m3ua_frames.specs.Parameters.{value_of}
 
--- the tags of the parameters that a message has to have (3.3 to 3.8)
+-- the tags of the parameters that a message must have (3.3 to 3.8)
 abbrev pub mandatory : Kind → List ℕ
 mandatory kind.Error = ERROR_CODE ∷ []
 mandatory kind.Notify = STATUS ∷ []
@@ -43,12 +43,12 @@ pub record Message : Type 0 where
   pub kind : Kind
   pub parameters : List Parameter
 
--- each tag stands before one of the parameters
+-- each tag is that of a parameter
 abbrev pub has_all : List ℕ → List Parameter → Bool
 has_all tags ps = list_all (λ tag. is_some (value_of tag ps)) tags
 
--- The header has eight octets: the version, a reserved one that may be any, the class, the type,
--- and the length of the message with its header.
+-- The header has eight octets: the version, a reserved octet of any value, the class, the type, and
+-- the length of the message with its header.
 abbrev pub TellsLength : List ℕ → Type 0
 TellsLength octets = (8 ≤ length octets) × (number_4 octets 4 ≡ length octets)
 
@@ -58,7 +58,7 @@ IsVersion1 octets = slice_index octets 0 ≡ 1
 abbrev pub kind_in : List ℕ → Result Kind Fault
 kind_in octets = kind_by (slice_index octets 2) (slice_index octets 3)
 
--- The octets are the message's.
+-- The octets are those of the message.
 pub record IsFrame (octets : List ℕ) (m : Message) : Type 0 where
   pub counted : TellsLength octets
   pub version : IsVersion1 octets
@@ -66,7 +66,7 @@ pub record IsFrame (octets : List ℕ) (m : Message) : Type 0 where
   pub parameters : AreParameters (drop 8 octets) m.parameters
   pub complete : has_all (mandatory m.kind) m.parameters ≡ true
 
--- why octets are none; of several reasons the first one counts
+-- why octets are no message: the first fault that applies
 abbrev pub Refuses : List ℕ → Fault → Type 0
 Refuses octets fault.Length = ¬ TellsLength octets
 Refuses octets fault.Version = TellsLength octets × (¬ IsVersion1 octets)
@@ -82,7 +82,7 @@ Refuses octets fault.Missing =
     × ((m : Message) × (kind_in octets ≡ Ok m.kind) × AreParameters (drop 8 octets) m.parameters
     × (has_all (mandatory m.kind) m.parameters ≡ false))
 
--- ---- as they are sent
+-- ---- messages in the form in which they are sent
 
 -- a message that can be sent
 pub record IsMessage (m : Message) : Type 0 where
@@ -93,6 +93,6 @@ pub record IsMessage (m : Message) : Type 0 where
 abbrev pub header : Kind → ℕ → List ℕ
 header kind n = 1 ∷ 0 ∷ class_of kind ∷ type_of kind ∷ octets_4 (n + 8)
 
--- the octets that are sent: zeros where the receiver takes any
+-- the octets that are sent: zeros where the receiver accepts any octets
 abbrev pub spelling : Message → List ℕ
 spelling m = header m.kind (length (all_padded m.parameters)) ++ all_padded m.parameters

@@ -57,7 +57,7 @@ type_of kind.Registered = 2
 type_of kind.Deregister = 3
 type_of kind.Deregistered = 4
 
--- ---- by the numbers: the types of each class, and the classes
+-- ---- the kind by type in each class, and by class
 
 abbrev pub management : ℕ → Result Kind Fault
 management t =
@@ -106,7 +106,7 @@ keys t =
     else (if t == 4 then Ok kind.Deregistered
     else Err UnknownType)))
 
--- what a class and a type stand for
+-- the kind of a class and a type
 abbrev pub kind_by : ℕ → ℕ → Result Kind Fault
 kind_by c t =
     if c == 0 then management t

@@ -6,21 +6,21 @@ use Rattle.m3ua_frames.specs.Frame.{Message, IsFrame, Refuses, IsMessage, spelli
 use Rattle.m3ua_frames.specs.Protocol.{Protocol, protocol_in}
 use Rattle.m3ua_frames.specs.Stream.{Item, Stream, start, items_in, items_of_pieces}
 
--- octets are those of one message at most
+-- octets are those of at most one message
 abbrev pub OneMessage : Type 0
 OneMessage = (octets : List ℕ) (m n : Message) → IsFrame octets m → IsFrame octets n → m ≡ n
 
--- octets that are refused for a reason are no message, and are refused for no other
+-- octets that are refused are no message, and are refused for one reason only
 abbrev pub OneReason : Type 0
 OneReason =
     ((octets : List ℕ) (m : Message) (fault : Fault) → IsFrame octets m → Refuses octets fault → ⊥)
     × ((octets : List ℕ) (a b : Fault) → Refuses octets a → Refuses octets b → a ≡ b)
 
--- what is sent of a message are its octets
+-- the octets sent for a message are its octets
 abbrev pub SpelledIsRead : Type 0
 SpelledIsRead = (m : Message) → IsMessage m → IsFrame (spelling m) m
 
--- protocol data is that of one MTP message at most
+-- protocol data is that of at most one MTP message
 abbrev pub AreOctets : List ℕ → Type 0
 AreOctets octets = (i : ℕ) → slice_index octets i < 2 ^ 8
 
@@ -29,13 +29,13 @@ OneCarrier =
     (sio tio : ℕ) (a b : List ℕ) (p : Protocol) → AreOctets a → AreOctets b
     → protocol_in sio a ≡ Some p → protocol_in tio b ≡ Some p → (sio ≡ tio) × (a ≡ b)
 
--- a stream is one list of items, which reading it octet by octet gives
+-- a stream is one list of items, and reading it octet by octet returns that list
 abbrev pub OneStream : Type 0
 OneStream =
     ((octets : List ℕ) → Stream octets (items_in start octets))
     × ((octets : List ℕ) (a b : List Item) → Stream octets a → Stream octets b → a ≡ b)
 
--- it doesn't matter how it is cut into pieces
+-- the items don't depend on how the stream is cut into pieces
 abbrev pub AnyCut : Type 0
 AnyCut =
     (a b : List (List ℕ)) → concat a ≡ concat b

@@ -1,7 +1,7 @@
 -- Numbers as octets, the highest octet first (RFC 4666, 3).
 use Rattle.std.specs.Prelude.{ℕ, ◌+◌, ◌*◌, ◌/◌, ◌%◌, ◌^◌, List, [], ◌∷◌, slice_index}
 
--- the number that two octets from a place on are, and four
+-- the number in two octets from an index on, and in four
 abbrev pub number_2 : List ℕ → ℕ → ℕ
 number_2 octets at = 2 ^ 8 * slice_index octets at + slice_index octets (at + 1)
 

@@ -11,13 +11,13 @@ pub record Parameter : Type 0 where
   pub tag : ℕ
   pub value : List ℕ
 
--- how many octets of padding follow a value of so many
+-- the number of octets of padding after a value of n octets
 abbrev pub padding_after : ℕ → ℕ
 padding_after n = (4 - n % 4) % 4
 
 -- Octets begin with this parameter, and the rest follows. Its length counts its tag, its length and
--- its value, and not the padding, which may be any octets. The padding after the last value may be
--- left out (3.1.4).
+-- its value, but not the padding, which may be any octets. The padding after the last value may be
+-- missing (3.1.4).
 pub record IsFirst (octets : List ℕ) (p : Parameter) (rest : List ℕ) : Type 0 where
   pub headed : 4 ≤ length octets
   pub tag : p.tag ≡ number_2 octets 0
@@ -38,7 +38,7 @@ abbrev pub value_of : ℕ → List Parameter → Option (List ℕ)
 value_of tag [] = None
 value_of tag (p ∷ ps) = if p.tag == tag then Some p.value else value_of tag ps
 
--- ---- as they are sent
+-- ---- parameters in the form in which they are sent
 
 -- a parameter that can be sent
 pub record IsParameter (p : Parameter) : Type 0 where

@@ -1,5 +1,4 @@
--- Protocol data of DATA (RFC 4666, 3.3.1), and the MTP messages that it stands for (Q.704, 2.2 and
--- 14.2).
+-- Protocol data of DATA (RFC 4666, 3.3.1), and the MTP messages in it (Q.704, 2.2 and 14.2).
 use Rattle.std.specs.Prelude.{ℕ, ◌+◌, ◌*◌, ◌/◌, ◌%◌, ◌^◌, ◌<◌, ◌≤◌, Option, Some, None}
 use Rattle.std.specs.Prelude.{List, [], ◌∷◌, ◌++◌, length}
 use Rattle.resend_store.specs.declared.messages.Msu.{Msu}
@@ -17,7 +16,7 @@ pub record Protocol : Type 0 where
   pub sls : ℕ
   pub user_data : List ℕ
 
--- protocol data without where its data lie
+-- protocol data with its data as a list
 abbrev pub view : ProtocolData → Protocol
 view p = record {
   opc = p.opc;
@@ -29,7 +28,7 @@ view p = record {
   user_data = p.user_data.now;
 }
 
--- its octets: two numbers of four octets, four of one, and the data
+-- the octets: two numbers of four octets, four of one octet, and the data
 abbrev pub protocol_octets : Protocol → List ℕ
 protocol_octets p =
     octets_4 p.opc ++ octets_4 p.dpc ++ p.si ∷ p.ni ∷ p.mp ∷ p.sls ∷ p.user_data
@@ -38,9 +37,9 @@ protocol_octets p =
 abbrev pub label : ℕ → ℕ → ℕ → ℕ → ℕ
 label a b c d = a + 2 ^ 8 * b + 2 ^ 16 * c + 2 ^ 24 * d
 
--- Of the label 14 bits are the destination, 14 the origin, 4 the selection, from the lowest on. The
--- service information octet has the service indicator in its lower half; above it two bits of
--- priority, and two of the network indicator.
+-- From the lowest bit on, the label has 14 bits of the destination, 14 of the origin and 4 of the
+-- selection. The service information octet has the service indicator in its lower half, then two
+-- bits of priority, then two of the network indicator.
 abbrev pub protocol_by : ℕ → ℕ → List ℕ → Protocol
 protocol_by sio n user = record {
   opc = n / 2 ^ 14 % 2 ^ 14;
@@ -52,7 +51,7 @@ protocol_by sio n user = record {
   user_data = user;
 }
 
--- what a message is as protocol data; nothing where its field has no label
+-- a message as protocol data; None if its field has no label
 abbrev pub protocol_in : ℕ → List ℕ → Option Protocol
 protocol_in sio [] = None
 protocol_in sio (a ∷ []) = None
@@ -63,7 +62,7 @@ protocol_in sio (a ∷ b ∷ c ∷ d ∷ user) = Some (protocol_by sio (label a 
 abbrev pub protocol_of : Msu → Option Protocol
 protocol_of m = protocol_in m.sio m.sif.items
 
--- what an MTP message can carry
+-- protocol data that an MTP message can carry
 pub record IsCarried (p : Protocol) : Type 0 where
   pub opc : p.opc < 2 ^ 14
   pub dpc : p.dpc < 2 ^ 14

@@ -1,4 +1,4 @@
--- How the code reads parameters: what octets begin with, if that is a parameter.
+-- How the code reads parameters: the parameter at the start of octets, if there is one.
 use Rattle.std.specs.Prelude.{ℕ, ◌-◌, ◌==◌, nat_lt, if◌then◌else◌, List, length, take, drop}
 use Rattle.std.specs.Prelude.{Option, Some, None}
 use Rattle.std.specs.Option.{option_map}

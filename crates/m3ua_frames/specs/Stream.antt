@@ -1,4 +1,4 @@
--- The messages of a stream, by the length in their headers only (RFC 4666, 3.1.4).
+-- The messages of a stream, only by the length in their headers (RFC 4666, 3.1.4).
 use Rattle.std.specs.Prelude.{◌≡◌, ℕ, ◌-◌, ◌<◌, ◌≤◌, ◌==◌, nat_lt, Bool, true, false}
 use Rattle.std.specs.Prelude.{if◌then◌else◌, ◌⊎◌}
 use Rattle.std.specs.Prelude.{List, [], ◌∷◌, ◌++◌, length, take, drop, Option, Some, None}
@@ -8,34 +8,34 @@ use Rattle.m3ua_frames.specs.Numbers.{number_4}
 use Rattle.m3ua_frames.specs.declared.stream.Heard.{Heard}
 use Rattle.m3ua_frames.specs.declared.stream.Heard.TheVariants as heard
 
--- the octets of a header
+-- the number of octets of a header
 abbrev pub HEADER : ℕ
 HEADER = 8
 
--- the most octets of a message that is taken
+-- the greatest number of octets of a message that is read
 abbrev pub MOST : ℕ
 MOST = 4096
 
--- the length that a header tells
+-- the length in a header
 abbrev pub told : List ℕ → ℕ
 told octets = number_4 octets 4
 
 pub data Item : Type 0 where
   -- a message
   whole : List ℕ → Item
-  -- the header of one that is too long: it is passed over
+  -- the header of a message that is too long and is skipped
   too_long : List ℕ → Item
-  -- a header that tells less than its own length: nothing that follows is read
+  -- a header with a length less than its own: nothing after it is read
   broken : Item
 
--- less than a header, or less of a message than its header tells
+-- less than a header, or less of a message than the length in its header
 abbrev pub IsBeginning : List ℕ → Type 0
 IsBeginning octets =
     (length octets < HEADER)
     ⊎ ((HEADER ≤ told octets) × (told octets ≤ MOST) × (length octets < told octets))
 
--- The octets of a stream, from the beginning of a message on, are these items; then a beginning of
--- one may follow.
+-- The octets of a stream, from the beginning of a message on, are these items. Then an incomplete
+-- message may follow.
 abbrev pub Stream : List ℕ → List Item → Type 0
 Stream octets [] = IsBeginning octets
 Stream octets (whole message ∷ items) =
@@ -49,17 +49,17 @@ Stream octets (broken ∷ items) = (HEADER ≤ length octets) × (told octets < 
 -- ---- octet by octet
 
 pub record Reading : Type 0 where
-  -- the octets of the message that has begun, or of the item that was the last
+  -- the octets of the incomplete message, or of the last item
   pub octets : List ℕ
-  -- how many octets are still to be passed over
+  -- how many octets are still to be skipped
   pub over : ℕ
-  -- a header was broken
+  -- whether a header was broken
   pub ended : Bool
 
 abbrev pub start : Reading
 start = record { octets = []; over = 0; ended = false }
 
--- what octets from the beginning of a message on are, once they are all of it
+-- the item that octets are, from the beginning of a message on, if they are complete
 abbrev pub judged : List ℕ → Option Item
 judged octets =
     if nat_lt (length octets) HEADER then None
@@ -67,7 +67,7 @@ judged octets =
     else (if nat_lt MOST (told octets) then Some (too_long octets)
     else (if length octets == told octets then Some (whole octets) else None)))
 
--- what has begun
+-- the octets of the incomplete message
 abbrev pub begun : List ℕ → List ℕ
 begun octets = if is_some (judged octets) then [] else octets
 
@@ -78,7 +78,7 @@ read_on octets (Some (too_long head)) =
     record { octets = octets; over = told octets - HEADER; ended = false }
 read_on octets (Some broken) = record { octets = octets; over = 0; ended = true }
 
--- one more octet
+-- the reading after one more octet
 unfoldable pub after : Reading → ℕ → Reading
 after r octet =
     if r.ended then r
@@ -90,7 +90,7 @@ item_at r octet =
     if r.ended then None
     else (if nat_lt 0 r.over then None else judged (begun r.octets ++ octet ∷ []))
 
--- all octets of a piece
+-- the reading after all octets of a piece
 abbrev pub reading_after : Reading → List ℕ → Reading
 reading_after r [] = r
 reading_after r (octet ∷ octets) = reading_after (after r octet) octets
@@ -99,20 +99,20 @@ abbrev pub items_in : Reading → List ℕ → List Item
 items_in r [] = []
 items_in r (octet ∷ octets) = option_to_list (item_at r octet) ++ items_in (after r octet) octets
 
--- piece by piece
+-- the items of a stream in pieces
 abbrev pub items_of_pieces : Reading → List (List ℕ) → List Item
 items_of_pieces r [] = []
 items_of_pieces r (piece ∷ pieces) =
     items_in r piece ++ items_of_pieces (reading_after r piece) pieces
 
--- how an item is told: by a word, and by the octets
+-- an item as the code reports it: by a word, and by the octets
 abbrev pub item_told : Heard → List ℕ → Option Item
 item_told heard.Nothing octets = None
 item_told heard.Message octets = Some (whole octets)
 item_told heard.TooLong octets = Some (too_long octets)
 item_told heard.Broken octets = Some broken
 
--- What stands after a header is no more than the header tells, and that is no more than is taken.
+-- After a header there are no more octets than its length says, and that is within the limit.
 abbrev pub IsWithin : List ℕ → Type 0
 IsWithin octets =
     HEADER < length octets → (length octets ≤ told octets) × (told octets ≤ MOST)

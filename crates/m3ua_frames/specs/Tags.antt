@@ -1,4 +1,4 @@
--- The tags of parameters (RFC 4666, 3.2), and how long their values are.
+-- The tags of parameters (RFC 4666, 3.2), and the lengths of their values.
 use Rattle.std.specs.Prelude.{ℕ, ◌%◌, ◌==◌, ◌&&◌, ◌||◌, nat_lt, nat_le, Bool, true}
 use Rattle.std.specs.Prelude.{if◌then◌else◌}
 use Rattle.std.specs.Prelude.{List, [], ◌∷◌}
@@ -80,14 +80,14 @@ LOCAL_KEY = 0x020a
 abbrev pub PROTOCOL_DATA : ℕ
 PROTOCOL_DATA = 0x0210
 
--- the parameters whose value is one number of four octets
+-- the tags of parameters whose value is one number of four octets
 abbrev pub NUMBERS : List ℕ
 NUMBERS =
     TRAFFIC_MODE ∷ ERROR_CODE ∷ STATUS ∷ ASP_IDENTIFIER ∷ CORRELATION ∷ NETWORK ∷ USER_CAUSE
     ∷ CONGESTION ∷ CONCERNED ∷ LOCAL_KEY ∷ []
 
--- A value of this tag may have so many octets: one number of four; one or more of them; a routing
--- label and what follows it; up to 255 octets of text; of any other tag, any number of octets.
+-- Whether a value of this tag may have n octets: one number of four; one or more such numbers; 12
+-- octets or more of protocol data; up to 255 octets of text. Other tags allow any number of octets.
 abbrev pub is_sized : ℕ → ℕ → Bool
 is_sized tag n =
     if list_any (λ t. t == tag) NUMBERS then n == 4

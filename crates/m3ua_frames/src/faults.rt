@@ -1,26 +1,26 @@
-//! Why octets are no message that is understood.
+//! Why octets are no message.
 ghost use Rattle.std.specs.Prelude.{◌≡◌};
 ghost use Rattle.m3ua_frames.specs.Faults.{code_of};
 
-/// Why octets are no message; of several reasons the first one counts.
+/// Why octets are no message: the first fault that applies.
 #[derive(Clone, Copy, Debug, PartialEq, Eq)]
 pub enum Fault {
-    /// The octets are fewer than a common header has, or not as many as it tells.
+    /// The octets are fewer than a common header has, or not as many as the header says.
     Length,
     /// The version isn't 1.
     Version,
-    /// The class is none that M3UA has, or one that is reserved.
+    /// M3UA has no such class, or it is reserved.
     UnknownClass,
     /// The class has no such type.
     UnknownType,
-    /// What follows the header isn't made of parameters, or the length of one is wrong.
+    /// The octets after the header aren't parameters, or the length of one is wrong.
     Field,
     /// A mandatory parameter is missing.
     Missing,
 }
 
 impl Fault {
-    /// The error code that answers it (RFC 4666, 3.8.1).
+    /// The error code that reports it (RFC 4666, 3.8.1).
     pub fn code(self) -> u32
         ensures { result ≡ code_of self }
     {

@@ -17,12 +17,12 @@ use arrayvec::ArrayVec;
 pub struct Frame<'a> {
     /// The class and the type.
     pub kind: Kind,
-    /// What follows the common header: parameters, in which [`find`] finds values.
+    /// The octets after the common header: parameters, in which [`find`] finds values.
     pub parameters: &'a [u8],
 }
 
 impl Kind {
-    /// The tags of the parameters that a message of this kind has to have.
+    /// The tags of the parameters that a message of this kind must have.
     pub fn mandatory(self) -> &'static [u16]
         ensures { result.now ≡ mandatory self }
     {
@@ -42,7 +42,7 @@ impl Kind {
     }
 }
 
-/// Whether each of these tags stands before one of the parameters.
+/// Whether each of these tags is that of a parameter.
 fn has_all(tags: &[u16], parameters: &[u8]) -> bool
     ensures { (ps : List Parameter) → AreParameters parameters.now ps → result ≡ has_all tags.now ps }
 {
@@ -54,17 +54,17 @@ fn has_all(tags: &[u16], parameters: &[u8]) -> bool
     true
 }
 
-/// The message that octets are.
+/// Decodes the octets of a message.
 ///
 /// # Errors
 ///
-/// Of several reasons the first of these counts.
+/// The first of these that applies.
 ///
-/// - `Length` where there are fewer than 8 octets, or not as many as the header tells (RFC 4666, 3.1.4).
-/// - `Version` where the version isn't 1 (3.1.1).
-/// - `UnknownClass` and `UnknownType` where there is no such class, or no such type in it (3.1.2).
-/// - `Field` where what follows the header isn't made of parameters, or the length of one is wrong (3.2).
-/// - `Missing` where a mandatory parameter isn't there (3.3 to 3.8).
+/// - `Length` if there are fewer than 8 octets, or not as many as the header says (RFC 4666, 3.1.4).
+/// - `Version` if the version isn't 1 (3.1.1).
+/// - `UnknownClass` and `UnknownType` if there is no such class, or no such type in it (3.1.2).
+/// - `Field` if the octets after the header aren't parameters, or the length of one is wrong (3.2).
+/// - `Missing` if a mandatory parameter is missing (3.3 to 3.8).
 pub fn decode(octets: &[u8]) -> Result<Frame<'_>, Fault>
     ensures found { IfOk result (λ frame. (ps : List Parameter) × AreParameters frame.parameters.now ps
         × IsFrame octets.now (record { kind = frame.kind; parameters = ps })) }
@@ -93,7 +93,7 @@ pub fn decode(octets: &[u8]) -> Result<Frame<'_>, Fault>
     Ok(Frame { kind, parameters })
 }
 
-/// Puts the octets of a message into `octets`, in place of what was there: the common header, and these parameters.
+/// Replaces `octets` by the octets of a message: the common header, and these parameters.
 pub fn encode<const N: usize>(kind: Kind, parameters: &[u8], octets: &mut ArrayVec<u8, N>)
     requires room { length parameters.now + 8 ≤ N }
     requires small { N ≤ 65536 }

@@ -1,10 +1,10 @@
-//! The messages of M3UA by class and type.
+//! The messages of M3UA, by class and type.
 ghost use Rattle.std.specs.Prelude.{◌≡◌};
 ghost use Rattle.m3ua_frames.specs.Kinds.{class_of, type_of, kind_by, management, transfer, network, state, traffic, keys};
 
 use crate::faults::Fault;
 
-/// What a message is: its class and its type (RFC 4666, 3.1.2).
+/// The kind of a message: its class and its type (RFC 4666, 3.1.2).
 #[derive(Clone, Copy, Debug, PartialEq, Eq)]
 pub enum Kind {
     /// ERR, Error.
@@ -157,7 +157,7 @@ fn keys(number: u8) -> Result<Kind, Fault>
     }
 }
 
-/// The message of this class and this type.
+/// The kind of this class and this type.
 pub(crate) fn kind_of(class: u8, number: u8) -> Result<Kind, Fault>
     ensures { result ≡ kind_by class number }
 {

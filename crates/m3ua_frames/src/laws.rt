@@ -1,7 +1,7 @@
-//! Laws over the definitions that the contracts of this crate cite. Each is the contract of a function that does nothing.
+//! Laws over the definitions that the contracts of this crate cite. Each is the contract of a function without code.
 ghost use Rattle.m3ua_frames.specs.Laws.{OneMessage, OneReason, SpelledIsRead, OneCarrier, OneStream, AnyCut};
 
-/// Octets are those of one message at most.
+/// Octets are those of at most one message.
 pub fn one_message()
     ensures { OneMessage }
 {}
@@ -11,17 +11,17 @@ pub fn one_reason()
     ensures { OneReason }
 {}
 
-/// What is sent of a message are its octets.
+/// The octets sent for a message are its octets.
 pub fn spelled_is_read()
     ensures { SpelledIsRead }
 {}
 
-/// Protocol data that an MTP message is, is that of no other message.
+/// Protocol data is that of at most one MTP message.
 pub fn one_carrier()
     ensures { OneCarrier }
 {}
 
-/// A stream is one list of messages, headers too long and a broken header, which reading it octet by octet gives.
+/// A stream is one list of messages, headers too long and a broken header. Reading it octet by octet returns that list.
 pub fn one_stream()
     ensures { OneStream }
 {}

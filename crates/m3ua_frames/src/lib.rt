@@ -1,5 +1,5 @@
 //! M3UA (RFC 4666) as octets: messages and their parameters, the protocol data of DATA and MTP messages, and the
-//! messages of a stream, however it is cut. No call here can answer that memory is wanting.
+//! messages of a stream, however it is cut. No call can fail because memory runs out.
 #![tactic(auto)]
 
 mod faults;

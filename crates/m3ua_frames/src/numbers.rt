@@ -5,7 +5,7 @@ ghost use Rattle.m3ua_frames.specs.Numbers.{number_2, number_4, octets_2, octets
 
 use arrayvec::ArrayVec;
 
-/// The number that the two octets from `at` on are.
+/// The number in the two octets from `at` on, the highest octet first.
 pub(crate) fn number_2(octets: &[u8], at: usize) -> u16
     requires { at + 2 ≤ length octets.now }
     ensures { result ≡ number_2 octets.now at }
@@ -13,7 +13,7 @@ pub(crate) fn number_2(octets: &[u8], at: usize) -> u16
     octets[at] as u16 * 256 + octets[at + 1] as u16
 }
 
-/// The number that the four octets from `at` on are, the highest octet first (RFC 4666, 3).
+/// The number in the four octets from `at` on, the highest octet first (RFC 4666, 3).
 pub fn number_4(octets: &[u8], at: usize) -> u32
     requires { at + 4 ≤ length octets.now }
     ensures { result ≡ number_4 octets.now at }
@@ -22,7 +22,7 @@ pub fn number_4(octets: &[u8], at: usize) -> u32
     a as u32 * 0x0100_0000 + b as u32 * 0x0001_0000 + c as u32 * 0x0100 + d as u32
 }
 
-/// Puts a number as two octets.
+/// Appends a number as two octets.
 pub(crate) fn push_2<const N: usize>(octets: &mut ArrayVec<u8, N>, number: u16)
     requires { array_vec_len octets.old + 2 ≤ N }
     ensures { octets.new.items ≡ octets.old.items ++ octets_2 number }
@@ -31,7 +31,7 @@ pub(crate) fn push_2<const N: usize>(octets: &mut ArrayVec<u8, N>, number: u16)
     octets.push((number % 0x0100) as u8);
 }
 
-/// Puts a number as four octets.
+/// Appends a number as four octets.
 pub(crate) fn push_4<const N: usize>(octets: &mut ArrayVec<u8, N>, number: u32)
     requires { array_vec_len octets.old + 4 ≤ N }
     ensures { octets.new.items ≡ octets.old.items ++ octets_4 number }
@@ -42,7 +42,7 @@ pub(crate) fn push_4<const N: usize>(octets: &mut ArrayVec<u8, N>, number: u32)
     octets.push((number % 0x0100) as u8);
 }
 
-/// Puts so many zeros.
+/// Appends `count` zeros.
 pub(crate) fn push_zeros<const N: usize>(octets: &mut ArrayVec<u8, N>, count: usize)
     requires { array_vec_len octets.old + count ≤ N }
     ensures { octets.new.items ≡ octets.old.items ++ replicate count 0 }

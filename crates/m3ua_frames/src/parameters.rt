@@ -11,7 +11,7 @@ use crate::numbers::{number_2, push_2, push_4, push_zeros};
 use crate::tag;
 use arrayvec::ArrayVec;
 
-/// Whether a value with this tag may have so many octets.
+/// Whether a value with this tag may have `len` octets.
 fn is_sized(tag: u16, len: usize) -> bool
     ensures { result ≡ is_sized tag len }
 {
@@ -26,7 +26,7 @@ fn is_sized(tag: u16, len: usize) -> bool
     }
 }
 
-/// How many octets of padding follow a value of so many.
+/// The number of octets of padding after a value of `len` octets.
 pub(crate) fn padding_after(len: usize) -> usize
     ensures value { result ≡ padding_after len }
     ensures few { result < 4 }
@@ -34,7 +34,7 @@ pub(crate) fn padding_after(len: usize) -> usize
     (4 - len % 4) % 4
 }
 
-/// What follows so many octets of padding, or none at the end.
+/// The octets after the padding. The padding may be missing at the end.
 fn past_padding(padding: usize, octets: &[u8]) -> Option<&[u8]>
     ensures { option_map (λ x. x.now) result ≡ past_padding padding octets.now }
 {
@@ -47,7 +47,7 @@ fn past_padding(padding: usize, octets: &[u8]) -> Option<&[u8]>
     Some(&octets[padding..])
 }
 
-/// The value of so many octets, and what follows its padding.
+/// The value of `len` octets, and the octets after its padding.
 #[tactic(auto, unfolding(crate::specs::Reading::value_at))]
 fn value_at(tag: u16, len: usize, octets: &[u8]) -> Option<(u16, &[u8], &[u8])>
     ensures { option_map (λ x. (record { tag = x.0; value = x.1.now }, x.2.now)) result ≡ value_at tag len octets.now }
@@ -65,7 +65,7 @@ fn value_at(tag: u16, len: usize, octets: &[u8]) -> Option<(u16, &[u8], &[u8])>
     }
 }
 
-/// The tag and the value of the parameter that octets begin with, and what follows it.
+/// The tag and the value of the parameter at the start of octets, and the octets after it.
 #[tactic(auto, unfolding(crate::specs::Reading::parameter_at))]
 fn first_parameter(octets: &[u8]) -> Option<(u16, &[u8], &[u8])>
     ensures { option_map (λ x. (record { tag = x.0; value = x.1.now }, x.2.now)) result ≡ parameter_at octets.now }
@@ -114,7 +114,7 @@ pub fn find(octets: &[u8], tag: u16) -> Option<&[u8]>
     None
 }
 
-/// Puts a parameter with its padding of zeros after what there is.
+/// Appends a parameter with its padding of zeros.
 pub fn push_parameter<const N: usize>(octets: &mut ArrayVec<u8, N>, tag: u16, value: &[u8])
     requires fits { length value.now + 4 < 2 ^ 16 }
     requires room { array_vec_len octets.old + length value.now + 7 ≤ N }
@@ -126,7 +126,7 @@ pub fn push_parameter<const N: usize>(octets: &mut ArrayVec<u8, N>, tag: u16, va
     push_zeros(octets, padding_after(value.len()));
 }
 
-/// Puts a parameter whose value is one number.
+/// Appends a parameter whose value is one number.
 pub fn push_number<const N: usize>(octets: &mut ArrayVec<u8, N>, tag: u16, number: u32)
     requires { array_vec_len octets.old + 8 ≤ N }
     ensures { octets.new.items ≡ octets.old.items ++ padded (record { tag = tag; value = octets_4 number }) }

@@ -1,4 +1,4 @@
-//! Protocol data, and MTP messages.
+//! Protocol data and MTP messages.
 ghost use Rattle.std.specs.Prelude.{◌≡◌, ◌≤◌, ◌<◌, ◌+◌, ◌^◌, ◌++◌, Some, IfSome, IfNone, IsTrue, ◌↔◌, length};
 ghost use Rattle.std.specs.Option.{option_map};
 ghost use Rattle.arrayvec.specs.ArrayVec.{array_vec_len};
@@ -31,7 +31,7 @@ pub struct ProtocolData<'a> {
     pub user_data: &'a [u8],
 }
 
-/// The protocol data that octets are; none where there are fewer than 12.
+/// Reads octets as protocol data; `None` if there are fewer than 12.
 pub fn protocol_data(octets: &[u8]) -> Option<ProtocolData<'_>>
     ensures found { IfSome result (λ p. octets.now ≡ protocol_octets (view p)) }
     ensures none { IfNone result (length octets.now < 12) }
@@ -50,7 +50,7 @@ pub fn protocol_data(octets: &[u8]) -> Option<ProtocolData<'_>>
     })
 }
 
-/// What an MTP message is as protocol data; none where it has no routing label (Q.704, 2.2).
+/// An MTP message as protocol data; `None` if it has no routing label (Q.704, 2.2).
 pub fn protocol_data_of(msu: &Msu) -> Option<ProtocolData<'_>>
     ensures { option_map view result ≡ protocol_of msu.now }
 {
@@ -72,7 +72,7 @@ pub fn protocol_data_of(msu: &Msu) -> Option<ProtocolData<'_>>
     }
 }
 
-/// Whether an MTP message can carry it.
+/// Whether an MTP message can carry this protocol data.
 fn is_carried(p: &ProtocolData<'_>) -> bool
     ensures { IsTrue result ↔ IsCarried (view p.now) }
 {
@@ -81,8 +81,8 @@ fn is_carried(p: &ProtocolData<'_>) -> bool
     label && service && p.user_data.len() <= 268
 }
 
-/// The MTP message that protocol data stands for; none where a point code has more than 14 bits, the service indicator or the selection more than 4,
-/// the network indicator or the priority more than 2, or the data more than 268 octets.
+/// The MTP message of protocol data; `None` if a point code has more than 14 bits, the service indicator or the
+/// selection more than 4, the network indicator or the priority more than 2, or the data more than 268 octets.
 pub fn message_of(p: &ProtocolData<'_>) -> Option<Msu>
     ensures found { IfSome result (λ msu. protocol_of msu ≡ Some (view p.now)) }
     ensures none { IfNone result (IsCarried (view p.now) → ⊥) }
@@ -103,7 +103,7 @@ pub fn message_of(p: &ProtocolData<'_>) -> Option<Msu>
     })
 }
 
-/// Puts the octets of protocol data.
+/// Appends the octets of protocol data.
 fn push_fields<const N: usize>(octets: &mut ArrayVec<u8, N>, p: &ProtocolData<'_>)
     requires { array_vec_len octets.old + length p.now.user_data.now + 12 ≤ N }
     ensures items { octets.new.items ≡ octets.old.items ++ protocol_octets (view p.now) }
@@ -118,7 +118,7 @@ fn push_fields<const N: usize>(octets: &mut ArrayVec<u8, N>, p: &ProtocolData<'_
     octets.try_extend_from_slice(p.user_data).unwrap();
 }
 
-/// Puts protocol data as a parameter after what there is.
+/// Appends protocol data as a parameter.
 pub fn push_protocol_data<const N: usize>(octets: &mut ArrayVec<u8, N>, p: &ProtocolData<'_>)
     requires fits { length p.now.user_data.now + 16 < 2 ^ 16 }
     requires room { array_vec_len octets.old + length p.now.user_data.now + 19 ≤ N }

@@ -7,26 +7,26 @@ use crate::numbers::number_4;
 use arrayvec::ArrayVec;
 use std::marker::Model;
 
-/// The octets of a common header.
+/// The number of octets of a common header.
 const HEADER: usize = 8;
 
-/// The most octets of a message that is taken.
+/// The greatest number of octets of a message that is read.
 const MOST: u32 = 4096;
 
-/// What the octets that were taken last completed.
+/// The item that the last octet completed.
 #[derive(Clone, Copy, Debug, PartialEq, Eq)]
 pub enum Heard {
-    /// Nothing.
+    /// No item.
     Nothing,
     /// A message.
     Message,
-    /// The header of a message of more than 4,096 octets, which is passed over.
+    /// The header of a message of more than 4,096 octets, which is skipped.
     TooLong,
-    /// A header that tells fewer than its own 8 octets: nothing that follows is read.
+    /// A header whose length is less than its own 8 octets: nothing after it is read.
     Broken,
 }
 
-/// Finds the messages of a stream by the length in their headers (RFC 4666, 3.1.4), in whatever pieces it comes.
+/// Finds the messages of a stream by the length in their headers (RFC 4666, 3.1.4), in pieces of any size.
 #[derive(Drop)]
 pub struct Deframer {
     octets: ArrayVec<u8, 4096>,
@@ -44,7 +44,7 @@ impl Model for Deframer {
     ghost invariant = { λ d. IsReading (record { octets = d.octets.items; over = d.over; ended = d.ended }) };
 }
 
-/// What octets from the beginning of a message on are, once they are all of it.
+/// The item that octets are, from the beginning of a message on, if they are complete.
 fn judged(octets: &[u8]) -> Heard
     ensures { judged octets.now ≡ item_told result octets.now }
 {
@@ -65,7 +65,7 @@ fn judged(octets: &[u8]) -> Heard
     }
 }
 
-/// Takes away what is complete.
+/// Removes the octets of a complete item.
 fn leave_begun(octets: &mut ArrayVec<u8, 4096>)
     ensures { octets.new.items ≡ begun octets.old.items }
 {
@@ -87,7 +87,7 @@ impl Deframer {
         }
     }
 
-    /// The octets of the message that was heard last, or of the header of one too long; of a message that has only begun, those that came.
+    /// The octets of the message completed last, or of the header of one too long, or of a message not complete yet.
     pub fn octets(&self) -> &[u8]
         ensures { result.now ≡ self.now.octets }
     {
@@ -122,7 +122,7 @@ impl Deframer {
         }
     }
 
-    /// Takes octets of a piece up to the first that completes something, and says how many it took: all of them where nothing is complete.
+    /// Takes octets of a piece up to the first that completes an item, or all if none does. Returns how many it took.
     pub fn take(&mut self, piece: &[u8]) -> (usize, Heard)
         ensures within { result.0 ≤ length piece.now }
         ensures progress { 0 < length piece.now → 0 < result.0 }

@@ -57,7 +57,7 @@ pub const LOCAL_KEY: u16 = 0x020a;
 /// Protocol Data.
 pub const PROTOCOL_DATA: u16 = 0x0210;
 
-/// Those whose value is one number of four octets.
+/// The tags whose value is one number of four octets.
 pub(crate) const NUMBERS: [u16; 10] = [
     TRAFFIC_MODE,
     ERROR_CODE,
