@@ -24,7 +24,7 @@ use Rattle.link_group.specs.Along.{heeded, units_read, units_taken, units_along,
 use Rattle.link_group.proofs.Heeding.{began_stays, begins_or_stays, fresh_begins, ends_heed}
 use Rattle.link_group.proofs.Units.{judged_began, Heeds, left_so, goes_through, heeding}
 
--- ---- an end goes on by signals, none of which is a beginning
+-- ---- signals other than a restart, at an end
 
 abbrev pub NearOn : TransceiverState → TransceiverState → Type 0
 NearOn h g = g.began ≡ false → (h.began ≡ false) × ((x : Ends) → x.near ≡ h → Lives x → Lives (record x { near = g }))
@@ -67,7 +67,7 @@ far_by s h (inr other) = λ e. (sym (began_stays s h other) ∙ e, λ x is r. su
 pub far_signal : (s : EnvSignal) (h : TransceiverState) → FarOn h (effect s h)
 far_signal s h = far_by s h (begins_or_stays s)
 
--- what is kept to send stays by each signal
+-- a signal leaves the messages held for sending
 abbrev SameKept : TransceiverState → TransceiverState → Type 0
 SameKept h g = g.sender.kept ≡ h.sender.kept
 
@@ -86,7 +86,7 @@ pub tidied_same : (t : Processes) → (tidied t).transceiver ≡ t.transceiver
 unfolding tidied
 tidied_same t = by_test (λ (u : Processes). u.transceiver ≡ t.transceiver) (is_low t) (with_book t (rebased t.book)) t (λ e. refl) (λ e. refl)
 
--- ---- no beginning behind is none before
+-- ---- no restart after octets means none before
 
 pub read_began : (octets : List ℕ) (t u : Processes) → Reads octets t u → u.transceiver.began ≡ false → t.transceiver.began ≡ false
 read_began _ _ _ (as_unit octets x t frame) e = sym (judged_began t.transceiver x) ∙ (unit_keeps NearOn near_same near_joined near_signal x t e).0
@@ -129,7 +129,7 @@ pub lose_forth : (x : Ends) (us ws : List Unit) → x.forth ≡ us → Arrive []
 lose_forth x us ws e (none_arrives same) r = subst (λ (fs : List Unit). Lives (record x { forth = fs })) (e ∙ same) r
 lose_forth x us ws e (one_lost {u = u} {us = rest} a) r = lose_forth (record x { forth = rest }) rest ws refl a (is_lost x u rest r e)
 
--- ---- near, along octets
+-- ---- near receives octets
 
 abbrev pub near_at : Ends → TransceiverState → List Unit → Ends
 near_at x v rest = record x { near = v; back = rest; place = place_behind (length x.near.sender.kept - length v.sender.kept) x.place }
@@ -163,7 +163,7 @@ near_signals x h g is on kept e r =
       lives = subst (λ (p : Option ℕ). Lives (record x { near = g; place = p })) (sym (behind_none (length x.near.sender.kept) (length g.sender.kept) x.place same)) ((on e).1 x is r);
     }
 
--- nothing is done near
+-- near does nothing
 near_waits : (x : Ends) (h : TransceiverState) (rest : List Unit) → x.near ≡ h → Arrive [] x.back rest → Lives x → NearTo x h rest
 near_waits x h rest is a r =
     let same : length x.near.sender.kept ≡ length h.sender.kept = ap (λ (k : TransceiverState). length k.sender.kept) is in
@@ -272,7 +272,7 @@ near_along _ _ _ _ _ _ (octet bits all given t u v first octets now on room are 
     near_further x u.transceiver v.transceiver s.0 ws one
     (near_further y w.transceiver v.transceiver s.0 ws two (near_along _ _ now w v octets hears z ws refl began s.2 two.lives))
 
--- ---- far, along octets
+-- ---- far receives octets
 
 abbrev pub far_at : Ends → TransceiverState → List Unit → List Msu → Ends
 far_at x v rest ms = record x { far = v; forth = rest; delivered = x.delivered ++ ms }

@@ -1,4 +1,4 @@
--- A life of a link between two sets: messages come to the link, it fails, and its messages are handed out.
+-- A life of a link between two sets: messages are given to the link, it fails, and its messages are retrieved.
 use Rattle.std.proofs.Common.{◌≡◌, ℕ, ◌+◌, ◌==◌, zero, suc, true, List, [], ◌∷◌, ◌++◌, length, Option, Some, None, refl, sym, ap, ◌∙◌, subst, inl, inr, append_assoc}
 use Rattle.std.specs.Prelude.{slice_get, option_map}
 use Rattle.std.proofs.lemmas.List.{append-nil}
@@ -35,7 +35,7 @@ pub record Between (l : ℕ) (c d : LinkSet) (x : Ends) : Type 0 where
   pub near : end_at c l ≡ Some x.near
   pub far : end_at d l ≡ Some x.far
 
--- of messages that counted as accepted some may count no longer, and no others do
+-- of the messages that counted as accepted some may no longer count, but no new ones do
 abbrev pub Fewer : Option ℕ → Option ℕ → Type 0
 Fewer was now = (p : ℕ) → now ≡ Some p → was ≡ Some p
 
@@ -57,7 +57,7 @@ pub puts_one : (m : Msu) (k : Link) → end_of (puts m k) ≡ with_more (m ∷ [
 unfolding puts
 puts_one m k = refl
 
--- ---- messages come
+-- ---- messages are given
 
 pub sends : (l : ℕ) (c d : LinkSet) (x : Ends) (m : Msu) → Between l c d x → link_of c.table (selection_of m) ≡ Some l → Between l (sent c m) d (given (m ∷ []) x)
 unfolding sent
@@ -71,9 +71,9 @@ pub binds : (l : ℕ) (c d : LinkSet) (x : Ends) (m : Msu) → Between l c d x �
 unfolding bound_at
 binds l c d x m b = record { life = gets x (m ∷ []) b.life; near = changed_end (puts m) (with_more (m ∷ [])) c.links l x.near (puts_one m) b.near; far = b.far }
 
--- ---- messages come by a diversion
+-- ---- messages are given by a diversion
 
--- at its end some messages more are kept, and nothing else is otherwise; what counted there counts, or does no longer
+-- the end holds some more messages, and is otherwise the same; the count there stays or is gone
 pub record Grows (old new : Option Link) : Type 0 where
   pub more : List Msu
   pub is : option_map end_of new ≡ option_map (with_more more) (option_map end_of old)
@@ -118,7 +118,7 @@ changed_grows f more ks l j (inl e) does counts =
     (grows_as (slice_get ks l) (option_map f (slice_get ks l)) (slice_get (change ks l f) l) (sym (change_here f ks l (slice_get ks l) refl)) (grows_by f more (slice_get ks l) does counts))
 changed_grows f more ks l j (inr other) does counts = grows_as (slice_get ks j) (slice_get ks j) (slice_get (change ks l f) j) (sym (change_other f ks l j other)) (grows_none (slice_get ks j))
 
--- where only marks change
+-- if only marks change
 same_grows : (f : Link → Link) (ks : List Link) (l j : ℕ) → ((k : Link) → end_of (f k) ≡ end_of k) → ((k : Link) → Fewer (counted_of (Some k)) (counted_of (Some (f k))))
     → Grows (slice_get ks j) (slice_get (change ks l f) j)
 same_grows f ks l j does counts = changed_grows f (λ k. []) ks l j (same j l) (λ k. does k ∙ sym (with_none (end_of k))) counts
@@ -174,7 +174,7 @@ diverted_grows ks ts l ms j =
     by_test (λ (y : Diverted). Grows (slice_get ks j) (slice_get y.at.links j)) (is_own l (takers l ks)) (gives_back l d (back_fault l d)) (moves (takers l ks) SELECTIONS 0 d)
     (λ e. gives_grows l d (back_fault l d) j) (λ e. moves_grows (takers l ks) SELECTIONS 0 d j)
 
--- no number counts while messages are handed out
+-- no number counts once messages are retrieved
 out_counts : (counts : List ℕ) (o : Option Changing) → Fewer (counted_in o) (counted_in (retrieval_in counts o))
 out_counts counts None = λ p e. e
 out_counts counts (Some c) = λ p e. absurd (none_some e)
@@ -210,7 +210,7 @@ far_fails l c d x b = record {
   far = changed_end changeover_begins_at (λ h. record h { hold = hold.Kept }) d.links l x.far (λ k. refl) b.far;
 }
 
--- ---- what is handed out
+-- ---- retrieved messages
 
 pub given_out : (c : LinkSet) (l : ℕ) (k : Link) → slice_get c.links l ≡ Some k → hand_at (after_retrieve c l) l ≡ unbound k.points (lacking (window k) (accepted_of k))
 unfolding messages_for

@@ -11,7 +11,7 @@ use Rattle.link_group.specs.Placing.{table_if}
 use Rattle.link_group.specs.Lines.{ByLink, ByCommand}
 use Rattle.link_group.proofs.Live.{over, by_seen, by_seen_command}
 
--- where the links were `old` first, then `new`, and then seen
+-- the links were first `old`, then `new`, and were then checked
 pub by_link : (did : Link → Link → Type 0) (l : ℕ) (c d : LinkSet) (old new mid new2 mid2 : List Link) (own peer unsure : ℕ) (table table2 : List (Option ℕ))
     → c ≡ over own peer unsure table old → d ≡ over own peer unsure table2 mid2 → AtLink did l old new → mid ≡ new → mid2 ≡ new2 → new2 ≡ change mid l asked
     → table2 ≡ table_if (came_by (slice_get mid l)) new2 table → ByLink did l c d
@@ -20,7 +20,7 @@ by_link did l c d old new mid new2 mid2 own peer unsure table table2 was is at s
     (subst (λ (x : LinkSet). ByLink did l (over own peer unsure table old) x) (sym is)
     (by_seen did own peer unsure l table table2 old new mid new2 mid2 at same same2 links tables))
 
--- .. and by a command, behind which what went counts as unsure
+-- as `by_link`, for a command after which the cleared messages count as unsure
 pub by_command : (command : Command) (l : ℕ) (c d : LinkSet) (old new mid new2 mid2 : List Link) (own peer was n unsure : ℕ) (table table2 : List (Option ℕ))
     → c ≡ over own peer was table old → d ≡ over own peer unsure table2 mid2 → AtLink (Commanded command) l old new → mid ≡ new → mid2 ≡ new2 → new2 ≡ change mid l asked
     → table2 ≡ table_if (came_by (slice_get mid l)) new2 table → n ≡ length (cleared_at command (slice_get old l)) → unsure ≡ min (2 ^ 64 - 1) (was + n) → ByCommand command l c d
@@ -35,11 +35,11 @@ all-of zero (x ∷ xs) rest e = absurd (omega (arith, e))
 all-of (suc n) [] rest e = absurd (omega (arith, e))
 all-of (suc n) (x ∷ xs) rest e = ap (λ (ys : List Link). x ∷ ys) (all-of n xs rest (omega (arith, e)))
 
--- what stands in a vector once a slice of all of it was written
+-- the items of a vector after a slice over all of it was written
 pub written : (n : ℕ) (xs items : List Link) → length xs ≡ n → take n (xs ++ drop (length xs) items) ≡ xs
 written n xs items e = all-of n xs (drop (length xs) items) e
 
--- and how many those are
+-- how many items there are then
 pub few_written : (n most : ℕ) (xs items : List Link) → length xs ≡ n → n ≤ most → length (take n (xs ++ drop (length xs) items)) ≤ most
 few_written n most xs items e h = let size = ap (λ (ys : List Link). length ys) (written n xs items e) in omega (arith, size, e, h)
 

@@ -1,4 +1,4 @@
--- Messages to send, and messages handed out.
+-- Messages to send, and retrieved messages.
 use Rattle.std.proofs.Common.{◌≡◌, ◌≢◌, ℕ, ◌<◌, ◌==◌, Bool, true, false, cond, List, [], ◌∷◌, ◌++◌, Option, Some, None, take, drop, refl, sym, ap, ◌∙◌, subst, inl, inr}
 use Rattle.std.specs.Prelude.{◌⊎◌, All, is_some, if◌then◌else◌, slice_get}
 use Rattle.std.proofs.lemmas.Bool.Decides.{eqb_tells}
@@ -36,7 +36,7 @@ use Rattle.link_group.proofs.Staying.{Stays, gone_marked, at_one, leaves, quiet}
 
 -- ---- retrievals
 
--- what is retrieved from each link, with that of one changed
+-- the messages retrieved from each link, with those of one link changed
 abbrev pub with_retrieval_of : (ℕ → List Msu) → ℕ → List Msu → ℕ → List Msu
 with_retrieval_of retrievals l ms j = if j == l then ms else retrievals j
 
@@ -136,7 +136,7 @@ stays_sent laws c retrievals accepted gone m stays free small =
     let first = row_passes (is_bound (points_of c) m) send.Bound _ free in
     send_by laws c retrievals accepted gone m (link_of c.table (selection_of m)) stays refl first.1 small first.0
 
--- ---- a message that is bound to a link
+-- ---- a message bound to a link
 
 binds_held : (m : Msu) (k : Link) → is_bound k.points m ≡ true → messages (puts m k) ≡ messages k
 unfolding puts
@@ -157,7 +157,7 @@ stays_bound laws c retrievals accepted gone l m stays bound =
       table = stays.table;
     }
 
--- ---- messages handed out
+-- ---- messages are retrieved
 
 gives_idle : (counts : List ℕ) (o : Option Changing) (ms : List Msu) → is_some o ≡ true → retrieval_by (retrieval_in counts o) ≡ None → ms ≡ []
 gives_idle counts None ms some e = let f : false ≡ true = some in cc
@@ -228,7 +228,7 @@ give_at laws law c retrievals accepted gone more l unsure k fsn left f stays the
       table = stays.table;
     }
 
--- ---- by the number that was told
+-- ---- by the number reported
 
 none_by : (n : ℕ) (b : Bool) → (n == 0) ≡ b → ((n == 0) ≡ true) × (n ≡ 0) ⊎ ((n == 0) ≡ false) × (n ≢ 0) → (if b then None else Some (retrieve.Unsure n)) ≡ None → n ≡ 0
 none_by n b is (inl x) e = x.1
@@ -280,7 +280,7 @@ pub stays_retrieved : (laws : StepsKeepPlaces) (law : KeptLaw) (c : LinkSet) (re
 unfolding retrieve_fault_at after_retrieve messages_for
 stays_retrieved laws law c retrievals accepted gone l stays e = retrieves_by laws law c retrievals accepted gone l (slice_get c.links l) stays refl e
 
--- ---- given up
+-- ---- sent messages are given up
 
 abbrev pub Unknown : Link → Type 0
 Unknown k = (retrieval_by k.availability.changing ≡ None) × (is_some k.availability.changing ≡ true)

@@ -1,4 +1,4 @@
--- Calls by a link go on with its life: a unit goes out, octets come in.
+-- Sending a unit and receiving octets by a link continue its life.
 use Rattle.std.proofs.Common.{◌≡◌, ℕ, ◌-◌, Bool, false, List, ◌++◌, length, take, Option, Some, refl, sym, ap, ◌∙◌, subst}
 use Rattle.std.specs.Prelude.{if◌then◌else◌, slice_get, option_map}
 use Rattle.std.specs.Option.{option_to_list}
@@ -23,7 +23,7 @@ use Rattle.link_group.proofs.Terminals.{terminals_fare}
 use Rattle.link_group.proofs.Between.{Between}
 use Rattle.link_group.proofs.Getting.{change_here, set_there}
 
--- ---- the links behind a call
+-- ---- the links after a call
 
 pub seen_links : (l : ℕ) (c : LinkSet) → (seen l c).links ≡ change c.links l asked
 unfolding seen
@@ -32,11 +32,11 @@ seen_links l c = refl
 pub behind_links : (did : Link → Link → Type 0) (i : ℕ) (c e : LinkSet) (by : ByLink did i c e) → e.links ≡ change by.links i asked
 behind_links did i c e by = ap (λ (y : LinkSet). y.links) by.set ∙ seen_links i (record c { links = by.links })
 
--- What was asked behind a call was asked: that it came into service, and began anew.
+-- After a call it was read whether the link came into service and restarted.
 abbrev pub asked_end : TransceiverState → TransceiverState
 asked_end h = record h { began = false; came = false }
 
--- where nothing began anew, nothing leaves
+-- without a restart, no message leaves
 pub asked_plain : (k : Link) → began k ≡ false → end_of (asked k) ≡ asked_end (end_of k)
 asked_plain k e = ap (λ (b : Bool). end_of (asked_of (if◌then◌else◌ {A = Link} b (leaves_out (unbegun k)) (unbegun k)))) e
 
@@ -52,7 +52,7 @@ pub end_before : (did : Link → Link → Type 0) (l : ℕ) (c e : LinkSet) (by 
 end_before did l c e by h is =
     let both : Some h ≡ Some (end_of by.at.before) = sym is ∙ ap (λ (o : Option Link). option_map end_of o) by.at.there in cc
 
--- ---- a unit goes out
+-- ---- a unit is sent
 
 pub near_gives : (l : ℕ) (c e d : LinkSet) (x : Ends) (unit : Option Unit) (by : ByLink (Sent unit) l c e) → Between l c d x → (end_of by.at.after).began ≡ false
     → Between l e d (record x { near = asked_end (end_of by.at.after); forth = x.forth ++ option_to_list unit })
@@ -90,7 +90,7 @@ far_gives l c d e x unit by b none =
       far = end_behind (Sent unit) l d e by none;
     }
 
--- ---- octets come in
+-- ---- octets are received
 
 pub near_hears : (l : ℕ) (c e d : LinkSet) (x : Ends) (octets : List ℕ) (taken : ℕ) (by : ByLink (Listened octets taken) l c e) (bits : List Bool) (all now : List LineEvent)
     (h : Hears bits all by.at.before.terminal.processes (take taken octets) now by.at.after.terminal.processes) (rest : List Unit) → Between l c d x → (end_of by.at.after).began ≡ false

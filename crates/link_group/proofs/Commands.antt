@@ -1,4 +1,4 @@
--- Commands that were refused.
+-- Refused commands.
 use Rattle.std.proofs.Common.{◌≡◌, ℕ, List, Option, Some, None, slice_set, refl, sym, ap, ◌∙◌, subst}
 use Rattle.link_processes.specs.declared.commands.Command.{Command}
 use Rattle.link_group.specs.declared.commanding.CommandError.{CommandError}
@@ -43,7 +43,7 @@ command_error command l c d ks new mid own peer unsure table f is at m same o p 
 pub commanded : (command : Command) (l : ℕ) (ks new : List Link) → AtLink (Commands command None) l ks new → AtLink (Commanded command) l ks new
 commanded command l ks new at = record { before = at.before; there = at.there; after = at.after; links = at.links; was = at.was }
 
--- ---- a set that a list of calls led to, and a command that was refused
+-- ---- a refused command of a set that a list of calls led to
 
 error_live : (command : Command) (l : ℕ) (c d : LinkSet) (f : CommandError) → IsCommandError command l c d f → Live c → Live d
 error_live command l c d error.NoLink is live = live_same c d is.1 live

@@ -1,4 +1,4 @@
--- Over every list of calls a set counts those of its messages that are unsure.
+-- Over every list of calls, a set counts its unsure messages.
 use Rattle.std.proofs.Common.{◌≡◌, ◌+◌, ◌-◌, ◌^◌, ℕ, Bool, cond, List, [], ◌∷◌, ◌++◌, Option, Some, None, length, map, refl, sym, ap, ◌∙◌, arith}
 use Rattle.std.specs.Prelude.{min, slice_get}
 use Rattle.std.proofs.lemmas.List.Sums.{sum_by-append}
@@ -25,7 +25,7 @@ use Rattle.link_group.specs.New.{new_set}
 use Rattle.link_group.specs.Laws.{unsure_in, UnsureAreCounted}
 use Rattle.link_group.specs.Reached.{Gone, acknowledged, unsure, unacknowledged_at, told_front, Reached, opens, sends, binds, fails, hears, retrieves, abandons, diverts, rebalances, listens, speaks, gives, reports, commands, refuses, ticks, makes_room, lacks_room, admits}
 
--- ---- messages that have left
+-- ---- messages that left
 
 both : (gone more : List Gone) → unsure_in (gone ++ more) ≡ unsure_in gone + unsure_in more
 both gone more = sum_by-append (λ (g : Gone). cond g.unsure 1 0) gone more
@@ -41,7 +41,7 @@ all_unsure (m ∷ ms) =
     let step : unsure_in (unsure (m ∷ ms)) ≡ unsure_in (unsure (m ∷ [])) + unsure_in (unsure ms) = both (unsure (m ∷ [])) (unsure ms) in
     omega (arith, one, step, all_unsure ms)
 
--- of those that were acknowledged none is unsure
+-- acknowledged messages add no unsure ones
 none_more : (n most : ℕ) (gone : List Gone) (ms : List Msu) → n ≡ min most (unsure_in gone) → n ≡ min most (unsure_in (gone ++ acknowledged ms))
 none_more n most gone ms e =
     let same : unsure_in (gone ++ acknowledged ms) ≡ unsure_in gone = omega (arith, both gone (acknowledged ms), known_none ms) in
@@ -50,7 +50,7 @@ none_more n most gone ms e =
 capped : (most n a b : ℕ) → b ≡ a + n → min most (min most a + n) ≡ min most b
 capped most n a b e = omega (arith, e)
 
--- those that are given up are
+-- messages that are given up are all unsure
 so_many_more : (most count n : ℕ) (gone : List Gone) (ms : List Msu) → count ≡ min most (unsure_in gone) → n ≡ length ms
     → min most (count + n) ≡ min most (unsure_in (gone ++ unsure ms))
 so_many_more most count n gone ms e is =

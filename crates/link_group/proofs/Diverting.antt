@@ -1,4 +1,4 @@
--- A retrieval that is diverted, selection by selection.
+-- A diversion of retrieved messages, selection by selection.
 use Rattle.std.proofs.Common.{◌≡◌, ◌≢◌, ℕ, ◌+◌, ◌<◌, ◌==◌, ◌%◌, zero, suc, Bool, true, false, not, cond, List, [], ◌∷◌, ◌++◌, Option, Some, None, length, slice_set, refl, sym, ap, ◌∙◌, subst, inl, inr, arith}
 use Rattle.std.specs.Prelude.{◌⊎◌, All, if◌then◌else◌, slice_get}
 use Rattle.std.proofs.lemmas.Bool.Decides.{eqb_tells}
@@ -27,16 +27,16 @@ use Rattle.link_group.proofs.Fitting.{IsSmall, FitsAvailability, FitsLink, FitsA
 use Rattle.link_group.proofs.Getting.{set_here, set_other, change_here, change_other}
 use Rattle.link_group.proofs.Staying.{places_with, Stays}
 
--- a set whose links and table are those of a diversion
+-- a set with the links and the table of a diversion
 abbrev pub within : LinkSet → Diversion → LinkSet
 within c d = record c { links = d.links; table = d.table }
 
--- The link's retrieval is marked as out.
+-- The link is marked as having retrieved messages.
 abbrev pub IsOut : Option Link → Type 0
 IsOut None = ⊥
 IsOut (Some k) = retrieval_by k.availability.changing ≡ None → ⊥
 
--- a link that may take messages: another one, whose retrieval isn't out
+-- a link that may take messages: another one, without retrieved messages
 pub record IsOther (l : ℕ) (retrievals : ℕ → List Msu) (t : ℕ) : Type 0 where
   pub other : t ≡ l → ⊥
   pub free : retrievals t ≡ []
@@ -86,7 +86,7 @@ free_off : (p : Points) (s : ℕ) (ms : List Msu) → All (IsUnbound p) ms → A
 unfolding off
 free_off p s ms free = All-filter (λ m. not (is_on s m)) (IsUnbound p) ms free
 
--- the retrieval of a link that is out may be any
+-- a link marked as having retrieved messages may have any in its hand
 fits_other : (p : Points) (o : Option Link) (ms new : List Msu) → IsOut o → All IsSmall new → All (IsUnbound p) new → FitsAt p o ms → FitsAt p o new
 fits_other p None ms new out small free fits = absurd out
 fits_other p (Some k) ms new out small free fits = record {
@@ -112,7 +112,7 @@ retrieved_anew_by p ks retrievals l j old new (inl e) out small free fits =
 retrieved_anew_by p ks retrievals l j old new (inr other) out small free fits =
     rw (retrieval_other retrievals l j new other) (subst (λ (ms : List Msu). FitsAt p (slice_get ks j) ms) (retrieval_other retrievals l j old other) (fits j))
 
--- less is retrieved
+-- fewer messages are retrieved
 pub fits_retrieved_anew : (p : Points) (ks : List Link) (retrievals : ℕ → List Msu) (l : ℕ) (old new : List Msu) → IsOut (slice_get ks l) → All IsSmall new → All (IsUnbound p) new
     → Fits p ks (with_retrieval_of retrievals l old) → Fits p ks (with_retrieval_of retrievals l new)
 fits_retrieved_anew p ks retrievals l old new out small free fits = λ j. retrieved_anew_by p ks retrievals l j old new (same j l) out small free fits
@@ -184,7 +184,7 @@ moves_to laws c retrievals accepted gone l s t d k small able there some m =
       out = subst (λ (o : Option Link). IsOut o) (sym (change_other (takes_on ms) d.links t l (λ x. able.other (sym x)))) m.out;
     }
 
--- ---- one after another
+-- ---- selection after selection
 
 move_there : (laws : StepsKeepPlaces) (c : LinkSet) (retrievals : ℕ → List Msu) (accepted : List Msu) (gone : List Gone) (l s t : ℕ) (d : Diversion) (o : Option Link) → s < SELECTIONS
     → IsOther l retrievals t → slice_get d.links t ≡ o → take_fault (length (of s d.rest)) o ≡ None → (length (of s d.rest) == 0) ≡ false → Moving c retrievals accepted gone l d
@@ -212,7 +212,7 @@ pub stays_moving : (laws : StepsKeepPlaces) (c : LinkSet) (retrievals : ℕ → 
 unfolding move_fault moved
 stays_moving laws c retrievals accepted gone l s ls d small able fault m = move_one laws c retrievals accepted gone l s ls d (length (of s d.rest) == 0) small able refl fault m
 
--- ---- what is left of the selections so far
+-- ---- no messages of the selections so far remain
 
 equal_by : (a b : ℕ) → ((a == b) ≡ true) × (a ≡ b) ⊎ ((a == b) ≡ false) × (a ≢ b) → (a == b) ≡ true → a ≡ b
 equal_by a b (inl x) e = x.1
@@ -240,7 +240,7 @@ pub none_behind : (ls : List ℕ) (s : ℕ) (d : Diversion) → move_fault ls s 
 unfolding move_fault moved
 none_behind ls s d fault none = none_more ls s d (length (of s d.rest) == 0) (pick ls s) refl fault none
 
--- a diversion that has gone as far as it goes
+-- a diversion that went as far as it can
 pub record Gone_on (c : LinkSet) (retrievals : ℕ → List Msu) (accepted : List Msu) (gone : List Gone) (l : ℕ) (w : Diverted) : Type 0 where
   pub moving : Moving c retrievals accepted gone l w.at
   pub whole : w.fault ≡ None → NoneBelow SELECTIONS w.at.rest
@@ -264,7 +264,7 @@ moves_stay laws c retrievals accepted gone l (suc k) s ls d is able none m =
     (λ e. moves_stay laws c retrievals accepted gone l k (s + 1) ls (moved ls s d) (omega (arith, is)) able (none_behind ls s d e none)
     (stays_moving laws c retrievals accepted gone l s ls d (omega (arith, is)) able e m))
 
--- ---- nothing is left of any selection
+-- ---- no messages of any selection remain
 
 on_itself : (m : Msu) (ms : List Msu) → of (selection_of m) (m ∷ ms) ≡ [] → ⊥
 unfolding of

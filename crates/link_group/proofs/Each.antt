@@ -1,4 +1,4 @@
--- Over every list of calls each message stands in its one place.
+-- Over every list of calls, each message is in its one place.
 use Rattle.std.proofs.Common.{◌≡◌, ℕ, ◌+◌, ◌-◌, ◌^◌, Bool, true, false, List, [], ◌++◌, length, Option, Some, None, refl, sym, ap, ◌∙◌, subst}
 use Rattle.std.proofs.lemmas.List.Elements.{All-nil}
 use Rattle.plain_laws.proofs.Truths.{by_test}
@@ -95,7 +95,7 @@ same_failed m n e = ap (λ (x : Availability). x.failed) e
 refused_held : (k new : Link) → new.terminal ≡ with_processes k.terminal (tidied k.terminal.processes) → held k ≡ held new
 refused_held k new e = sym (ap (λ (t : Term). (window_of t).kept) e ∙ ap (λ (h : TransceiverState). h.sender.kept) (transceiver_tidied k.terminal.processes))
 
--- what has left counts by its messages alone
+-- only the messages of those that left matter
 restated : (c : LinkSet) (retrievals : ℕ → List Msu) (accepted : List Msu) (gone more : List Gone) → messages_gone gone ≡ messages_gone more
     → Stays c retrievals accepted gone → Stays c retrievals accepted more
 restated c retrievals accepted gone more same stays = record {

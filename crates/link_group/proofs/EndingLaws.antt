@@ -33,7 +33,7 @@ use Rattle.link_group.proofs.PlacingLaws.{link_at, holds_at_none, nothing, with_
 use Rattle.link_group.proofs.Staying.{places_with, Stays, placed, leaves}
 use Rattle.link_group.proofs.Working.{one_changes}
 
--- ---- retrievals by another function, the same for each link
+-- ---- equal retrievals for each link
 
 pub same_retrievals : (laws : StepsKeepPlaces) (c : LinkSet) (retrievals new : ℕ → List Msu) (accepted : List Msu) (gone : List Gone) → ((l : ℕ) → new l ≡ retrievals l)
     → Stays c retrievals accepted gone → Stays c new accepted gone
@@ -50,7 +50,7 @@ own_by retrievals l j (inr x) = ap (λ (b : Bool). if b then retrievals l else r
 
 -- ---- the links that may take messages
 
--- a link that passes a test, and its place
+-- a link that passes a test, at a place
 abbrev pub IsFound : (Link → Bool) → ℕ → List Link → ℕ → Type 0
 IsFound may n ks t = (j : ℕ) × (k : Link) × (t ≡ n + j) × (slice_get ks j ≡ Some k) × (may k ≡ true)
 
@@ -75,7 +75,7 @@ turned false e = refl
 still_by : (b : Bool) (k : Link) → is_still b k ≡ true → is_some k.availability.changing ≡ false
 still_by b k e = turned (is_some k.availability.changing) (and_first (not (is_some k.availability.changing)) (b || not k.availability.failed) e)
 
--- No changeover goes on at a link that may be given something.
+-- No changeover goes on at a link that may take messages.
 still : (b outage : Bool) (k : Link) → is_open b outage k ≡ true → is_some k.availability.changing ≡ false
 still b outage k e = still_by b k (and_second (is_so_out outage k) (is_still b k) (and_second (shares k) (is_so_out outage k && is_still b k) e))
 
@@ -101,7 +101,7 @@ able_others p b outage ks retrievals l own fits there changing = λ i t e.
     let at : t ≡ r.0 = omega (arith, r.2) in
     open_other p b outage ks retrievals l t own r.1 fits there changing (ap (slice_get ks) at ∙ r.3) r.4
 
--- others, unless the link itself stands first
+-- other links, unless the link itself is first
 abbrev pub OthersOrOwn : ℕ → (ℕ → List Msu) → List ℕ → Type 0
 OthersOrOwn l retrievals ls = is_own l ls ≡ false → Others l retrievals ls
 
@@ -134,14 +134,14 @@ unfolding way
 way_others p ks retrievals l outage own fits there changing =
     first_others l retrievals (others outage ks) (own_place l outage (slice_get ks l)) (both_others p ks retrievals l outage own fits there changing) (own_others l retrievals outage (slice_get ks l))
 
--- Where the link itself isn't the one that takes its messages others are, if any does.
+-- If the link itself doesn't take its messages, others do, if any do.
 takers_others : (p : Points) (ks : List Link) (retrievals : ℕ → List Msu) (l : ℕ) (own : Link) → Fits p ks retrievals → slice_get ks l ≡ Some own → is_some own.availability.changing ≡ true
     → OthersOrOwn l retrievals (takers l ks)
 unfolding takers
 takers_others p ks retrievals l own fits there changing =
     first_others l retrievals (way l false ks) (way l true ks) (way_others p ks retrievals l false own fits there changing) (way_others p ks retrievals l true own fits there changing)
 
--- ---- whose retrieval it is
+-- ---- the link whose messages are retrieved
 
 out_by : (o : Option Changing) → is_some (retrieval_by o) ≡ true → (is_some o ≡ true) × (retrieval_by o ≡ None → ⊥)
 out_by None e = let f : false ≡ true = e in cc
@@ -194,7 +194,7 @@ takes_back laws c retrievals accepted gone l d (Some k) there out m =
       out = out_at (slice_get (change d.links l (takes_on d.rest)) l) (takes_on d.rest k) now (λ x. out (ap (λ (n : Availability). retrieval_by n.changing) (sym (takes_availability d.rest k)) ∙ x));
     }
 
--- a diversion that has gone as far as it goes: where nothing kept it, nothing is left
+-- a diversion that went as far as it can: if nothing stopped it, no messages remain
 pub record Went (c : LinkSet) (retrievals : ℕ → List Msu) (accepted : List Msu) (gone : List Gone) (l : ℕ) (w : Diverted) : Type 0 where
   pub moving : Moving c retrievals accepted gone l w.at
   pub whole : w.fault ≡ None → w.at.rest ≡ []
@@ -223,7 +223,7 @@ all_shared c retrievals accepted gone l w on = record {
   whole = λ e. all_gone w.at.rest (rest_small c retrievals accepted gone l w.at on.moving) (on.whole e);
 }
 
--- ---- the changeover ends, or what is left stays retrieved
+-- ---- the changeover ends, or the rest stays retrieved
 
 abbrev pub after_by : LinkSet → ℕ → Diversion → Option DivertFault → LinkSet
 after_by c l d o = with_division c (settled_by (takers l c.links) l d o)
@@ -232,7 +232,7 @@ abbrev pub left_by : Option DivertFault → List Msu → List Msu
 left_by None ms = []
 left_by (Some fault) ms = ms
 
--- what a diversion leaves retrieved
+-- the messages that a diversion leaves retrieved
 abbrev pub left_to_divert : Diverted → List Msu
 left_to_divert d = left_by d.fault d.at.rest
 

@@ -1,4 +1,4 @@
--- A call of the far set goes on with the life of a link, and what its end tells is the number of the message that it accepted last.
+-- A call of the far set continues the life of a link; the number that its end reports is its last accepted one.
 use Rattle.std.proofs.Common.{◌≡◌, ℕ, true, false, nat_lt, take, List, [], ◌∷◌, ◌++◌, Option, Some, None, refl, sym, ap, ◌∙◌, subst, inl, inr}
 use Rattle.std.specs.Prelude.{◌⊎◌, slice_get, option_map}
 use Rattle.std.specs.Option.{option_to_list}
@@ -42,13 +42,13 @@ use Rattle.link_group.proofs.Messages.{order_number, far_heard}
 use Rattle.link_group.proofs.Shut.{shut_along}
 use Rattle.link_group.proofs.Within.{end_is, far_speaks, far_reports, far_ticks, far_commands}
 
--- ---- what a call comes to
+-- ---- the effect of a call
 
 pub record FarDid (l : ℕ) (c e : LinkSet) (y : Ends) (out rest : List Unit) (accepted : List Msu) (told : Option ℕ) : Type 0 where
   pub now : TransceiverState
   pub between : Between l c e (record y { far = now; forth = rest; back = y.back ++ out; delivered = y.delivered ++ accepted; told = told_behind told y.told })
 
--- Units come that are under way; or whichever, where a number was heard.
+-- Received units were under way; or they are any units, if a number was heard.
 abbrev pub Comes : List Unit → Ends → List Unit → Type 0
 Comes came y rest = Arrive came y.forth rest ⊎ ((p : ℕ) × (y.place ≡ Some p) × (rest ≡ y.forth))
 
@@ -89,7 +89,7 @@ far_leaves l c d e y rest b a v =
     let x = v.ends y.far b.far in
     far_plain l c e y x.0 rest a (record { life = far_else y x.0 b.life x.2.receiver x.2.withheld x.2.holds; near = b.near; far = x.1 })
 
--- ---- its own messages come
+-- ---- its own messages are given
 
 far_takes : (l : ℕ) (c d e : LinkSet) (y : Ends) (ms : List Msu) (rest : List Unit) → Between l c d y → Comes [] y rest → end_at e l ≡ Some (with_more ms y.far) → FarDid l c e y [] rest [] None
 far_takes l c d e y ms rest b a now =
@@ -109,7 +109,7 @@ far_diverts l i c d y rest b a =
     let g : Grows (slice_get d.links l) (slice_get (after_divert d i).links l) = divert_grows d i l in
     far_takes l c d (after_divert d i) y g.more rest b a (g.is ∙ ap (λ (o : Option TransceiverState). option_map (with_more g.more) o) b.far)
 
--- ---- octets come
+-- ---- octets are received
 
 far_listens : (l : ℕ) (c d e : LinkSet) (y : Ends) (rest : List Unit) (accepted : List Msu) (g : TransceiverState) → Between l c d y → end_at e l ≡ Some (asked_end g)
     → Lives (record y { far = g; forth = rest; delivered = y.delivered ++ accepted }) → FarDid l c e y [] rest accepted None
@@ -122,7 +122,7 @@ far_listens l c d e y rest accepted g b now life = record {
   });
 }
 
--- ---- it tells a number
+-- ---- it reports a number
 
 number_told : (l : ℕ) (c e : LinkSet) (z : Ends) (told : Option ℕ) → Between l c e z → ((n : ℕ) → told ≡ Some n → (n ≡ z.far.receiver.last) × (is_held z.far.hold ≡ true))
     → Between l c e (record z { told = told_behind told z.told })
@@ -181,7 +181,7 @@ far_step l c _ _ y _ rest (hears d m) b a = far_answers l c d y m rest b a
 far_step l c _ _ y _ rest (by_other d e i other one) b a =
     far_leaves l c d e y rest b a (leaves_as (slice_get d.links l) (slice_get d.links l) (slice_get e.links l) (sym (only_one i l d e other one)) (leaves_same (slice_get d.links l)))
 
--- ---- what it keeps to send goes
+-- ---- its buffers are emptied
 
 offered_far : (y : Ends) (o : Option Offer) (t : Processes) → y.far ≡ t.transceiver → (offered_if o t).transceiver.began ≡ false → Lives y → Lives (record y { far = (offered_if o t).transceiver })
 offered_far y None t is began r = subst (λ (h : TransceiverState). Lives (record y { far = h })) is r

@@ -1,4 +1,4 @@
--- What far accepted, and then what is retrieved with the number that it told, is what came near.
+-- What far accepted, then what is retrieved with the number that it reported, is what near was given.
 use Rattle.std.proofs.Common.{◌≡◌, ℕ, ◌+◌, ◌-◌, ◌≤◌, Bool, true, false, List, [], ◌∷◌, ◌++◌, length, Option, Some, None, nat_le, is_some, refl, sym, ap, ◌∙◌, subst, arith}
 use Rattle.std.specs.Prelude.{if◌then◌else◌, unwrap_or}
 use Rattle.std.proofs.lemmas.Bool.{le-leb}
@@ -28,9 +28,9 @@ use Rattle.link_group.specs.Ends.{Ends, units_in, ends_anew, given, near_sends, 
 use Rattle.link_group.proofs.Units.{outgoing_of, outgoing_in, outgoings, outgoings-append, telling_of, telling_in, telling_by, tellings, tellings-append, says_none, fills_in, gives_one, going, SameIntake, tells_none, tells_one, answering, Comes, passes_by, is_judged, status_comes, unit_comes, coming_in, Obeys, ignores, is_obeyed, status_back, unit_back, coming_back, judged_spare}
 use Rattle.link_group.proofs.Sounding.{sound_given, sound_sent, sound_filled, sound_arrived, sound_lost, sound_came_back, sound_lost_back, sound_answered, sound_front, sound_again, sound_place, sound_few, sound_sizes, sound_whole, sound_in_order}
 
--- ---- one direction, as the stores of both ends see it
+-- ---- one direction, as both ends' stores see it
 
--- the number and the bit that are withheld go out from now on, whatever comes
+-- the withheld number and bit are sent from now on, whatever is received
 abbrev withheld_in : Option Backward → List Answer
 withheld_in None = []
 withheld_in (Some b) = telling_by b ∷ []
@@ -45,7 +45,7 @@ exchange_of x = record {
   delivered = x.delivered;
 }
 
--- what holds at each moment
+-- the invariant of each moment
 record Fares (x : Ends) : Type 0 where
   sound : Sound (exchange_of x)
   spare : x.near.spare ≡ 0
@@ -55,7 +55,7 @@ record Fares (x : Ends) : Type 0 where
 none_some : {A : Type 0} (n : A) → None ≡ Some n → ⊥
 none_some n e = cc
 
--- ---- both begin anew
+-- ---- both restart
 
 withheld_anew : (o : Option Backward) (w : Window) (r : Intake) (ms : List Msu) → w.kept ≡ ms → w.sent ≡ 0 → w.first ≡ 0 → w.again ≡ 0 → w.turn ≡ 0 → r.last ≡ 127
     → Sound (record { sender = w; receiver = r; forth = []; back = withheld_in (renewed_backward o); taken = ms; delivered = [] })
@@ -95,7 +95,7 @@ fares_anew h g = record {
   place = λ p e. absurd (none_some p e);
 }
 
--- ---- messages come near
+-- ---- messages are given to near
 
 fares_given : (x : Ends) (ms : List Msu) → Fares x → Fares (given ms x)
 fares_given x ms f = record {
@@ -105,7 +105,7 @@ fares_given x ms f = record {
   place = λ p e. let was = f.place p e in (was.0, omega (arith, was.1, length-append x.taken ms, length-append x.near.sender.kept ms));
 }
 
--- ---- a unit goes out near
+-- ---- near sends a unit
 
 sound_as : (x : Exchange) (w : Window) (us : List Outgoing) → w ≡ x.sender → us ≡ x.forth → Sound x → Sound (record x { sender = w; forth = us })
 sound_as x w us e f h =
@@ -137,7 +137,7 @@ fares_near_sends x f =
           (subst (λ (w : Window). Sound (record (exchange_of x) { sender = w; forth = outgoings x.forth ++ (next x.near.sender).unit ∷ [] })) (sym same) (sound_sent (exchange_of x) f.sound)) f
     ]
 
--- ---- a unit goes out at far
+-- ---- far sends a unit
 
 answers_by : (x : Exchange) (o : Option Backward) (bs : List Answer) → x.back ≡ bs ++ withheld_in o → Sound x
     → Sound (record x { back = (bs ++ telling_by (unwrap_or o (backward_of x.receiver)) ∷ []) ++ withheld_in o })
@@ -170,7 +170,7 @@ fares_far_sends x f =
           fares_far x g.transceiver (units_in g.out) (telling_by (backward_out x.far) ∷ []) one same (answers_by (exchange_of x) x.far.withheld (tellings x.back) refl f.sound) f
     ]
 
--- ---- a unit arrives, or is lost
+-- ---- a unit arrives at far, or is lost
 
 fares_at_far : (x : Ends) (u : Unit) (us : List Unit) (ms : List Msu) → ms ≡ accepted_of x.far u
     → Sound (record (exchange_of x) { receiver = (judged x.far u).transceiver.receiver; forth = outgoings us; delivered = x.delivered ++ ms }) → Fares x → Fares (arrived u us x)
@@ -201,7 +201,7 @@ lost_front x (unit.Fisu head) us e h = sound_lost x (outgoing_of head None) (out
 lost_front x (unit.Msu head sio sif) us e h = sound_lost x (outgoing_of head (Some (record { sio = sio; sif = sif }))) (outgoings us) e h
 lost_front x (unit.Lssu head status second) us e h = subst (λ (vs : List Outgoing). Sound (record x { forth = vs })) e h
 
--- one that passes by leaves the receiver as it was
+-- a unit that skips the stores leaves the receiver
 passed : (x : Exchange) (r : Intake) (ms : List Msu) → r ≡ x.receiver → ms ≡ [] → Sound x → Sound (record x { receiver = r; delivered = x.delivered ++ ms })
 passed x r ms e none h =
     subst (λ (q : Intake). Sound (record x { receiver = q; delivered = x.delivered ++ ms })) (sym e)
@@ -226,7 +226,7 @@ fares_arrived x u us e f =
 fares_lost : (x : Ends) (u : Unit) (us : List Unit) → x.forth ≡ u ∷ us → Fares x → Fares (record x { forth = us })
 fares_lost x u us e f = record { sound = lost_front (exchange_of x) u us (ap outgoings e) f.sound; spare = f.spare; told = f.told; place = f.place }
 
--- ---- a unit comes back, or is lost on that way
+-- ---- a unit arrives at near, or is lost
 
 lost_answer : (x : Exchange) (u : Unit) (us : List Unit) (rest : List Answer) → x.back ≡ (telling_in u ++ tellings us) ++ rest → Sound x → Sound (record x { back = tellings us ++ rest })
 lost_answer x (unit.Fisu head) us rest e h = sound_lost_back x (telling_of head) (tellings us ++ rest) e h
@@ -307,7 +307,7 @@ fares_acknowledges x f = record {
   place = f.place;
 }
 
--- ---- whatever else is done
+-- ---- all other steps
 
 fares_near_else : (x : Ends) (h : TransceiverState) → h.sender ≡ x.near.sender → h.spare ≡ x.near.spare → Fares x → Fares (record x { near = h })
 fares_near_else x h same spare f = record {
@@ -327,7 +327,7 @@ fares_far_else x g same withheld holds f = record {
   place = λ p e. let was = f.place p e in (holds was.0, was.1);
 }
 
--- ---- the number is told, and heard
+-- ---- the number is reported, and heard
 
 fares_tells : (x : Ends) → is_held x.far.hold ≡ true → Fares x → Fares (record x { told = Some x.far.receiver.last })
 fares_tells x held f = record { sound = f.sound; spare = f.spare; told = λ n e. let same : x.far.receiver.last ≡ n = cc in (held, sym same); place = f.place }
@@ -355,7 +355,7 @@ fares_hears x f = record {
       (was.0, place_of x at.0 p f was.1 at.2);
 }
 
--- ---- every list of deeds
+-- ---- every list of steps
 
 each_fares : (x : Ends) → Lives x → Fares x
 each_fares _ (begins h g) = fares_anew h g
@@ -373,7 +373,7 @@ each_fares _ (far_else x g r same withheld holds) = fares_far_else x g same with
 each_fares _ (tells x r held) = fares_tells x held (each_fares x r)
 each_fares _ (hears x r) = fares_hears x (each_fares x r)
 
--- where a number was heard far is held
+-- once a number was heard, far is held
 pub held_far : (x : Ends) (p : ℕ) → Lives x → x.place ≡ Some p → is_held x.far.hold ≡ true
 held_far x p r e = ((each_fares x r).place p e).0
 

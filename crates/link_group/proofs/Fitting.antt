@@ -1,4 +1,4 @@
--- What is marked at each link fits what the caller has retrieved.
+-- The marks of each link fit the messages retrieved from it.
 use Rattle.std.proofs.Common.{◌≡◌, ℕ, ◌<◌, true, List, [], ◌∷◌, ◌++◌, Option, Some, None, refl, sym, ap, ◌∙◌, subst, arith, inl, inr}
 use Rattle.std.specs.Prelude.{All, is_some, map, option_map, slice_get}
 use Rattle.std.proofs.lemmas.List.Elements.{All-tail}
@@ -25,12 +25,12 @@ IsSmall m = selection_of m < SELECTIONS
 pub none_small : All IsSmall []
 none_small = λ i d lt. absurd (omega (arith, lt))
 
--- The caller has the retrieval of a link only where that is marked as out. A link in changeover has failed.
+-- Only a link marked so has retrieved messages. A link in changeover has failed.
 pub record FitsAvailability (m : Availability) (ms : List Msu) : Type 0 where
   pub idle : retrieval_by m.changing ≡ None → ms ≡ []
   pub failed : is_some m.changing ≡ true → m.failed ≡ true
 
--- All links lie between the same points, and no retrieval has a message that is bound to its link.
+-- All links connect the same points, and no link has retrieved a message bound to it.
 pub record FitsLink (p : Points) (k : Link) (ms : List Msu) : Type 0 where
   pub availability : FitsAvailability k.availability ms
   pub small : All IsSmall (messages k)
@@ -63,7 +63,7 @@ change_by p f ks retrievals ms l j new (inl e) fits else is some none =
     subst (λ (i : ℕ). FitsAt p (slice_get (change ks l f) i) (new i)) (sym e) here
 change_by p f ks retrievals ms l j new (inr other) fits else is some none = rw (change_other f ks l j other, else j other) (fits j)
 
--- a link changes, with its retrieval
+-- a link changes, with its retrieved messages
 pub fits_changed : (p : Points) (f : Link → Link) (ks : List Link) (retrievals new : ℕ → List Msu) (ms : List Msu) (l : ℕ) → Fits p ks retrievals
     → ((i : ℕ) → (i ≡ l → ⊥) → new i ≡ retrievals i) → new l ≡ ms
     → ((k : Link) → slice_get ks l ≡ Some k → FitsLink p (f k) ms) → (slice_get ks l ≡ None → ms ≡ []) → Fits p (change ks l f) new
@@ -72,7 +72,7 @@ fits_changed p f ks retrievals new ms l fits else is some none = λ j. change_by
 none_at : (p : Points) (ks : List Link) (retrievals : ℕ → List Msu) (l : ℕ) → Fits p ks retrievals → slice_get ks l ≡ None → retrievals l ≡ []
 none_at p ks retrievals l fits e = subst (λ (o : Option Link). FitsAt p o (retrievals l)) e (fits l)
 
--- a link changes, and its retrieval stays
+-- a link changes, but not its retrieved messages
 pub fits_change : (p : Points) (f : Link → Link) (ks : List Link) (retrievals : ℕ → List Msu) (l : ℕ) → Fits p ks retrievals
     → ((k : Link) → slice_get ks l ≡ Some k → FitsLink p k (retrievals l) → FitsLink p (f k) (retrievals l)) → Fits p (change ks l f) retrievals
 fits_change p f ks retrievals l fits step =
@@ -88,7 +88,7 @@ fits_map p f ks retrievals fits step = λ l. rw (slice_get-map f ks l) (map_at p
 
 -- ---- marks
 
--- marks that say the same of retrievals and changeovers
+-- marks with equal retrievals and changeovers
 pub fits_alike : (m n : Availability) (ms : List Msu) → n.changing ≡ m.changing → n.failed ≡ m.failed → FitsAvailability m ms → FitsAvailability n ms
 fits_alike m n ms c f fits = record {
   idle = λ e. fits.idle (ap retrieval_by (sym c) ∙ e);
@@ -151,9 +151,9 @@ fits_waits n m ms fits = record {
   failed = λ e. fits.failed (sym (waited_some n m.changing) ∙ e);
 }
 
--- ---- links that hold the same
+-- ---- links with equal messages
 
--- the same messages, those that are bound to it left out, and the same points
+-- equal messages, without bound ones, and equal points
 abbrev pub Alike : Link → Link → Type 0
 Alike new old = (messages new ≡ messages old) × (new.points ≡ old.points)
 
@@ -170,7 +170,7 @@ pub back_small : (left rest : List Msu) → All IsSmall (left ++ rest) → All I
 back_small [] rest small = small
 back_small (m ∷ left) rest small = back_small left rest (All-tail IsSmall m (left ++ rest) small)
 
--- a link that holds what is left of what another holds
+-- a link that holds only some of another's messages, the last ones
 pub less_fits : (p : Points) (k new : Link) (ms left : List Msu) → messages k ≡ left ++ messages new → new.points ≡ k.points → FitsAvailability new.availability ms → FitsLink p k ms → FitsLink p new ms
 less_fits p k new ms left parts points availability fits = record {
   availability = availability;

@@ -1,4 +1,4 @@
--- What stands at a place of a list once another was set, and of a set's links once one was changed.
+-- The item at a place of a list after another was set, and a set's links after one changed.
 use Rattle.std.proofs.Common.{◌≡◌, ℕ, ◌<◌, zero, suc, List, [], ◌∷◌, Option, Some, None, length, slice_set, refl, ap, ◌∙◌, arith, inl, inr}
 use Rattle.std.specs.Prelude.{slice_get, option_map, map}
 use Rattle.std.proofs.lemmas.Option.{slice_get-map}
@@ -42,7 +42,7 @@ pub change_other : (f : Link → Link) (ks : List Link) (l j : ℕ) → (j ≡ l
 unfolding change
 change_other f ks l j h = other_by f ks l j (slice_get ks l) h
 
--- ---- what links hold
+-- ---- the messages that links hold
 
 held_same : (f : Link → Link) (o : Option Link) → ((k : Link) → o ≡ Some k → messages (f k) ≡ messages k) → held_by (option_map f o) ≡ held_by o
 held_same f None h = refl
@@ -53,7 +53,7 @@ held_change f ks l j (inl e) h =
     rw e (ap held_by (change_here f ks l (slice_get ks l) refl) ∙ held_same f (slice_get ks l) h)
 held_change f ks l j (inr other) h = ap held_by (change_other f ks l j other)
 
--- a change of a link that leaves what it holds
+-- a change of a link that leaves its messages
 pub held_changed : (f : Link → Link) (ks : List Link) (l j : ℕ) → ((k : Link) → slice_get ks l ≡ Some k → messages (f k) ≡ messages k) → held_by (slice_get (change ks l f) j) ≡ held_by (slice_get ks j)
 held_changed f ks l j h = held_change f ks l j (same j l) h
 

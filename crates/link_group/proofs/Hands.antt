@@ -1,4 +1,4 @@
--- What a link handed out stays its own, whatever is done to a set, until it is diverted.
+-- A link's retrieved messages stay in its hand, whatever is done to the set, until they are diverted.
 use Rattle.std.proofs.Common.{◌≡◌, ℕ, ◌+◌, ◌-◌, ◌^◌, ◌==◌, zero, suc, Bool, true, List, [], Option, Some, None, length, map, slice_set, refl, sym, ap, ◌∙◌, subst, inl, inr}
 use Rattle.std.specs.Prelude.{min, slice_get, option_map}
 use Rattle.std.proofs.lemmas.Option.{slice_get-map}
@@ -38,7 +38,7 @@ use Rattle.link_group.proofs.Fitting.{FitsAt}
 use Rattle.link_group.proofs.Getting.{change_here, change_other, set_there, set_other}
 use Rattle.link_group.proofs.Working.{PartOf, part_at}
 
--- each link has what it had
+-- each link's hand is as before
 abbrev pub SameHands : LinkSet → LinkSet → Type 0
 SameHands d c = (j : ℕ) → hand_at d j ≡ hand_at c j
 
@@ -64,7 +64,7 @@ set_at ks new l j before after (inl e) there is hand =
     rw e (ap hand_by (ap (λ (xs : List Link). slice_get xs l) is ∙ set_there ks l after before there) ∙ hand ∙ ap hand_by (sym there))
 set_at ks new l j before after (inr other) there is hand = ap hand_by (ap (λ (xs : List Link). slice_get xs j) is ∙ set_other ks l j after other)
 
--- ---- a new set has none
+-- ---- the hands of a new set are empty
 
 new_at : (p : Points) (o : Option Term) → hand_by (option_map (fresh p) o) ≡ []
 new_at p None = refl
@@ -74,7 +74,7 @@ pub hands_new : (own peer : ℕ) (ts : List Term) (j : ℕ) → hand_at (new_set
 unfolding new_set
 hands_new own peer ts j = ap hand_by (slice_get-map (fresh (points own peer)) ts j) ∙ new_at (points own peer) (slice_get ts j)
 
--- ---- calls that hand nothing out
+-- ---- calls that retrieve nothing
 
 puts_hand : (m : Msu) (k : Link) → (puts m k).hand ≡ k.hand
 unfolding puts
@@ -158,7 +158,7 @@ pub hands_admitted : (c : LinkSet) (l : ℕ) (way : Bool) → SameHands (after_a
 unfolding after_admission
 hands_admitted c l way = λ j. hand_changed (admits_at way) c.links l j (λ k. refl)
 
--- ---- messages are handed out
+-- ---- messages are retrieved
 
 out_hand : (n : Option ℕ) (k : Link) → (hands_out n k).hand ≡ handed_by k n
 unfolding hands_out
@@ -201,7 +201,7 @@ same_out : (o : Option Link) → is_out_at (option_map without_hand o) ≡ is_ou
 same_out None = refl
 same_out (Some k) = refl
 
--- It is marked still that they are handed out.
+-- It is still marked that they are retrieved.
 pub out_emptied : (c : LinkSet) (l : ℕ) → is_out_at (slice_get c.links l) ≡ true → is_out_at (slice_get (emptied c l).links l) ≡ true
 out_emptied c l e = ap is_out_at (change_here without_hand c.links l (slice_get c.links l) refl) ∙ same_out (slice_get c.links l) ∙ e
 
@@ -251,7 +251,7 @@ kept_hand : (ms : List Msu) (o : Option Link) → (o ≡ None → ms ≡ []) →
 kept_hand ms None there = sym (there refl)
 kept_hand ms (Some k) there = refl
 
--- a link of which something is retrieved is there
+-- a link with retrieved messages exists
 none_there : (p : Points) (f : Link → Link) (ks : List Link) (retrievals : ℕ → List Msu) (l : ℕ) (ms : List Msu)
     → FitsAt p (slice_get (change ks l f) l) (with_retrieval_of retrievals l ms l) → slice_get ks l ≡ None → ms ≡ []
 none_there p f ks retrievals l ms fits e =

@@ -1,4 +1,4 @@
--- What the actors of an end tell it, and what level 3 does there, are deeds of a life.
+-- The signals of an end's actors, and level 3's holds there, are steps of a life.
 use Rattle.std.proofs.Common.{◌≡◌, ℤ, true, false, Option, Some, None, slice_get, refl, ap, ◌∙◌, inl, inr}
 use Rattle.std.specs.Prelude.{◌⊎◌}
 use Rattle.plain_laws.proofs.Truths.{by_test}
@@ -13,7 +13,7 @@ use Rattle.link_transceiver.specs.Effects.{effect, renewed, clears, directed, to
 use Rattle.link_transceiver.specs.Reporting.{reported, message_reported, status_reported}
 use Rattle.link_group.specs.Ends.{Ends, Lives, withholds, acknowledges, near_else, far_else, is_beginning, EndsHeed}
 
--- what no signal but a beginning, no report and no hold changes
+-- what no signal except a restart, no report and no hold changes
 record Aside (h g : TransceiverState) : Type 0 where
   sender : g.sender ≡ h.sender
   spare : g.spare ≡ h.spare
@@ -117,7 +117,7 @@ pub fresh_begins : (h : TransceiverState) → (effect signal.Fresh h).began ≡ 
 unfolding effect renewed
 fresh_begins h = refl
 
--- ---- what level 3 does, and what is cleared
+-- ---- holds by level 3, and clearing
 
 far_cleared : (x : Ends) → Lives x → Lives (record x { far = clears x.far })
 unfolding clears

@@ -1,4 +1,4 @@
--- What far accepts by a link, and then what near hands out with the number that far told, is what came to the link.
+-- What far accepts by a link, then what near retrieves with the number that far reported, is what the link was given.
 use Rattle.std.proofs.Common.{◌≡◌, ℕ, Bool, true, false, List, [], ◌++◌, Option, Some, None, refl, sym, ap, ◌∙◌, inl, inr, append_assoc, append-nil}
 use Rattle.std.specs.Prelude.{if◌then◌else◌, slice_get, option_map}
 use Rattle.plain_laws.proofs.Options.{none_some}
@@ -51,7 +51,7 @@ anew_life h g sends accepts =
     let x : Ends = ends_anew h g in
     far_else (record x { near = h }) g (near_else x h (lives_anew h g) sends.sender sends.spare) accepts.receiver accepts.withheld (held_anew g.hold)
 
--- ---- each call goes on with it
+-- ---- each call continues it
 
 each_inside : (l : ℕ) (x : Joined) → Fares l x → Inside l x
 each_inside l _ (begins c d h g near far sends accepts none) = record {
@@ -75,7 +75,7 @@ each_inside l _ (far_empties x e r call) =
     let did = far_empty l x.near x.far e (ends_of x i.near i.far i.place) call i.between in
     record { near = i.near; far = did.0; place = i.place; between = did.1; counts = i.counts }
 
--- ---- far goes on behind the number
+-- ---- far continues after the number
 
 record Behind (l p : ℕ) (c e : LinkSet) (y : Ends) (later : List Msu) : Type 0 where
   z : Ends
@@ -103,7 +103,7 @@ each_behind l p c _ _ y _ place b (empties d e f later r call) =
     let did = far_empty l c e f v.z call v.between in
     record { z = record v.z { far = did.0 }; between = did.1; near = v.near; place = v.place; taken = v.taken; delivered = v.delivered }
 
--- ---- what is handed out
+-- ---- retrieved messages
 
 counts_so : (b : Bool) (o : Option ℕ) (p : ℕ) → (if◌then◌else◌ {A = Option ℕ} b None o) ≡ Some p → o ≡ Some p
 counts_so true o p e = absurd (none_some e)
@@ -144,7 +144,7 @@ in_order l x r =
     let i : Inside l x = each_inside l x r in
     ends_complete.in_order (ends_of x i.near i.far i.place) i.between.life
 
--- ---- the number counts as it is heard
+-- ---- the number counts when it is heard
 
 number_counts : (l : ℕ) (x : Joined) (m : Changeover) (k : Link) (n : ℕ) → Fares l x → x.told ≡ Some n → slice_get x.near.links l ≡ Some k
     → takes_number (begun_by_message m.kind k.availability).changing ≡ true → k.availability.anew ≡ false → is_for x.near m ≡ true → m.label.sls ≡ l → number_in m.kind ≡ Some n

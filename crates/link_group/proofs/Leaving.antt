@@ -1,4 +1,4 @@
--- What calls leave of a link that they don't work by: of its end, and of the number that counts there.
+-- What calls of other links leave of a link: its end, and the number that counts there.
 use Rattle.std.proofs.Common.{◌≡◌, ℕ, ◌-◌, zero, suc, Bool, true, false, List, [], ◌∷◌, ◌++◌, take, drop, map, slice_set, Option, Some, None, refl, sym, ap, ◌∙◌, subst, inl, inr, arith}
 use Rattle.std.specs.Prelude.{if◌then◌else◌, slice_get, option_map}
 use Rattle.std.proofs.lemmas.Option.{slice_get-map}
@@ -64,9 +64,9 @@ mapped_leaves : (f : Link → Link) (ks : List Link) (l : ℕ) → ((k : Link) �
     → Leaves (slice_get ks l) (slice_get (map f ks) l)
 mapped_leaves f ks l does counts = leaves_as (slice_get ks l) (option_map f (slice_get ks l)) (slice_get (map f ks) l) (sym (slice_get-map f ks l)) (leaves_by f (slice_get ks l) does counts)
 
--- ---- what level 3 does
+-- ---- holds by level 3
 
--- a changeover that goes on goes on, and none that begins has a number
+-- a changeover stays, and one that begins has no number
 begun_counts : (m : Availability) (o : Option Changing) → m.changing ≡ o → Fewer (counted_in o) (counted_in (begun_by o m).changing)
 begun_counts m None e = λ p f. absurd (none_some f)
 begun_counts m (Some c) e = λ p f. ap counted_in (sym e) ∙ f
@@ -142,7 +142,7 @@ only_one i l _ _ other (is_commanded c e command by) =
 only_one i l _ _ other (refuses_it c e by) =
     ap (λ (y : LinkSet). slice_get y.links l) by.set ∙ (ap (λ (ks : List Link). slice_get ks l) by.at.links ∙ set_other c.links i l by.at.after other)
 
--- ---- what counts behind a call of the terminal
+-- ---- the count after a call of the terminal
 
 served_changing : (b : Bool) (m : Availability) → (if◌then◌else◌ {A = Availability} b (serves m) m).changing ≡ m.changing
 served_changing true m = refl
@@ -166,7 +166,7 @@ pub same_counts : (did : Link → Link → Type 0) (l : ℕ) (c e : LinkSet) (by
 same_counts did l c e by none same = λ p f.
     ap counted_of by.at.there ∙ (ap (λ (m : Availability). counted_in m.changing) (sym same) ∙ (sym (behind_counts did l c e by none) ∙ f))
 
--- messages that it speaks of have left
+-- messages among those counted have left
 fewer_cases : (n : ℕ) (c : Changing) (r : Option (List ℕ)) (a : Option Answer)
     → counted_in (fewer_in n (Some (record c { retrieval = r; answer = a }))) ≡ place_behind n (counted_in (Some (record c { retrieval = r; answer = a })))
 fewer_cases n c (Some counts) a = refl

@@ -1,4 +1,4 @@
--- A set that a list of calls led to, and one call more.
+-- A set that a list of calls led to, and one more call.
 use Rattle.std.proofs.Common.{◌≡◌, ℕ, ◌+◌, ◌-◌, ◌^◌, ◌<◌, ◌≤◌, arith, Bool, true, false, List, [], ◌∷◌, ◌++◌, length, Option, Some, None, Result, Ok, Err, map, refl, sym, ap, ◌∙◌, subst}
 use Rattle.std.specs.Prelude.{All, OnOk, OnErr, min, if◌then◌else◌, slice_get}
 use Rattle.std.specs.List.{list_any}
@@ -49,7 +49,7 @@ Live c = ∥ WasReached c ∥₁
 abbrev pub over : ℕ → ℕ → ℕ → List (Option ℕ) → List Link → LinkSet
 over own peer unsure table ks = record { own = own; peer = peer; links = ks; table = table; unsure = unsure }
 
--- ---- one call more
+-- ---- one more call
 
 new_reached : (own peer : ℕ) (ts : List Term) → All IsUnused ts → WasReached (new_set own peer ts)
 new_reached own peer ts unused = record { accepted = []; gone = []; reached = opens own peer ts unused }
@@ -120,7 +120,7 @@ live_lacking c d none live = ∥∥₁_map live (λ was. record { accepted = was
 pub live_same : (c d : LinkSet) → d ≡ c → Live c → Live d
 live_same c d is live = subst Live (sym is) live
 
--- ---- the links as a call found them
+-- ---- the links before a call
 
 pub live_from : (own peer unsure : ℕ) (table : List (Option ℕ)) (ks old : List Link) → old ≡ ks → Live (over own peer unsure table ks) → Live (over own peer unsure table old)
 live_from own peer unsure table ks old from live = subst (λ (xs : List Link). Live (over own peer unsure table xs)) (sym from) live
@@ -129,7 +129,7 @@ live_from own peer unsure table ks old from live = subst (λ (xs : List Link). L
 pub live_kept : (own peer unsure : ℕ) (table : List (Option ℕ)) (old new mid : List Link) → mid ≡ new → new ≡ old → Live (over own peer unsure table old) → Live (over own peer unsure table mid)
 live_kept own peer unsure table old new mid same kept live = subst (λ (xs : List Link). Live (over own peer unsure table xs)) (sym (same ∙ kept)) live
 
--- ---- of calls with a result: what is refused changes nothing
+-- ---- calls with a result: a refused one changes nothing
 
 by_result : {A E F : Type 0} (g : Result A E → Option F) (r : Result A E) (f : Option F) (P : List Link → Type 0) (old new made mid : List Link) → ((x : A) → g (Ok x) ≡ None) → mid ≡ new → g r ≡ f
     → OnOk r (new ≡ made) → OnErr r (new ≡ old) → (f ≡ None → P old → P made) → P old → P mid
@@ -177,7 +177,7 @@ live_retrieved r own peer unsure table ks new mid l same fault ok err live =
     by_result retrieve_refusal r (fault_at retrieve.NoLink retrieve_fault (slice_get ks l)) (λ xs. Live (over own peer unsure table xs)) ks new (change ks l handed) mid (λ x. refl) same fault
     ok err (λ free was. ∥∥₁_map was (retrieved_reached (over own peer unsure table ks) l free)) live
 
--- ---- of calls that are made
+-- ---- calls that succeed
 
 pub live_abandoned : (own peer unsure count n : ℕ) (table : List (Option ℕ)) (ks new mid : List Link) (l : ℕ) → mid ≡ new → fault_at abandon.NoLink abandon_fault (slice_get ks l) ≡ None
     → new ≡ change ks l given_up → n ≡ sent_by (slice_get ks l) → count ≡ min (2 ^ 64 - 1) (unsure + n) → Live (over own peer unsure table ks) → Live (over own peer count table mid)

@@ -1,4 +1,4 @@
--- A message of changeover: which number counts near behind it, and which far tells by its answer.
+-- A changeover message: which number counts near after it, and which one far reports by its answer.
 use Rattle.std.proofs.Common.{◌≡◌, ℕ, ◌==◌, ◌&&◌, ◌||◌, Bool, true, false, not, List, Option, Some, None, refl, sym, ap, ◌∙◌, subst, inl, inr}
 use Rattle.std.specs.Prelude.{◌⊎◌, if◌then◌else◌, slice_get, option_map}
 use Rattle.std.proofs.lemmas.Bool.Decides.{eqb_tells}
@@ -45,7 +45,7 @@ number_here l m e = ap (λ (b : Bool). if◌then◌else◌ {A = Option ℕ} b (n
 number_none : (l : ℕ) (m : Changeover) → (l ≡ m.label.sls → ⊥) → number_of l (Some m) ≡ None
 number_none l m other = ap (λ (b : Bool). if◌then◌else◌ {A = Option ℕ} b (number_in m.kind) None) (other_so m.label.sls l (eqb_tells m.label.sls l) (λ e. other (sym e)))
 
--- ---- what counts behind a message
+-- ---- the count after a message
 
 told_cases : (c : Changing) (r : Option (List ℕ)) (o : Option Answer) (a : Answer) (p : ℕ) → counted_in (Some (told_by r a (record c { retrieval = r; answer = o }))) ≡ Some p
     → (counted_in (Some (record c { retrieval = r; answer = o })) ≡ Some p) ⊎ (count_in (Some a) ≡ Some p)
@@ -78,7 +78,7 @@ either_counts what k p (inr e) = inr (after_counts k.availability (count_heard w
 heard_counts : (what : Kind) (k : Link) (p : ℕ) → counted_of (Some (hears what k)) ≡ Some p → (counted_of (Some k) ≡ Some p) ⊎ (count_heard what k ≡ Some p)
 heard_counts what k p e = either_counts what k p (told_counts (begun_by_message what k.availability).changing (answer_after k.availability (count_heard what k)) p e)
 
--- It counted there, or is so many by the number that was heard.
+-- It counted already, or it is the count of the number that was heard.
 abbrev pub Counted : Option Link → Option ℕ → ℕ → Type 0
 Counted o number p = (counted_of o ≡ Some p) ⊎ ((h : TransceiverState) → option_map end_of o ≡ Some h → count_told h.sender number ≡ Some p)
 
@@ -108,12 +108,12 @@ pub message_counted : (c : LinkSet) (o : Option Changeover) (l p : ℕ) → coun
 message_counted c None l p e = inl e
 message_counted c (Some m) l p e = message_by (is_for c m) c m l p e
 
--- where what is heard is what was told
+-- if the number heard is the one reported
 pub told_heard : (w : Window) (heard told : Option ℕ) (p : ℕ) → IsTold heard told → count_told w heard ≡ Some p → count_told w told ≡ Some p
 told_heard w None told p is e = absurd (none_some e)
 told_heard w (Some n) told p is e = ap (count_told w) is ∙ e
 
--- ---- what an order tells
+-- ---- the number that an order reports
 
 pub order_number : (d : LinkSet) (l : ℕ) (k : Link) (n : ℕ) → slice_get d.links l ≡ Some k → number_in (order_at d l).kind ≡ Some n → n ≡ (end_of k).receiver.last
 unfolding order_at
@@ -122,13 +122,13 @@ order_number d l k n there e =
     by_test (λ (w : Kind). number_in w ≡ Some n → n ≡ accepted_at k) k.availability.anew kind.EmergencyOrder (kind.Order (accepted_at k)) (λ anew f. absurd (none_some f))
     (λ anew f. let is : accepted_at k ≡ n = cc in sym is) (ap number_in (sym kind_is) ∙ e)
 
--- ---- what an answer tells
+-- ---- the number that an answer reports
 
 or_true : (b : Bool) → (b || true) ≡ true
 or_true true = refl
 or_true false = refl
 
--- an order that is answered by a number holds the link
+-- an order answered by a number holds the link
 holds_so : (fsn : ℕ) (m : Availability) → m.anew ≡ false → is_over m ≡ false → is_held_by (kind.Order fsn) m ≡ true
 holds_so fsn m anew over =
     ap (λ (o : Bool). true && not o && (not (is_changing m) || true && not m.anew)) over
@@ -155,7 +155,7 @@ reply_holds what k e =
     ap (λ (b : Bool). is_held (end_of (with_availability (marked what k) (if◌then◌else◌ {A = Link} b (with_hold (hold_by (marked what k).changing) k) k))).hold) e
     ∙ held_by_some (marked what k).changing
 
--- What becomes of an end by a message: a number that is told by the answer is that of the message accepted last there, and the end is held.
+-- An end after a message: a number in the answer is that of the message accepted last there, and the end is held.
 pub record HeardFar (o new : Option Link) (h : TransceiverState) (told : Option ℕ) : Type 0 where
   pub end : TransceiverState
   pub is : option_map end_of new ≡ Some end

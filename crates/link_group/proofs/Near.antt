@@ -1,4 +1,4 @@
--- A call of the near set goes on with the life of a link, and what counts there is what the far end told.
+-- A call of the near set continues the life of a link; the count there is that of the number that far reported.
 use Rattle.std.proofs.Common.{◌≡◌, ℕ, ◌-◌, Bool, false, List, [], ◌∷◌, ◌++◌, length, drop, Option, Some, None, refl, sym, ap, ◌∙◌, subst, inl, inr}
 use Rattle.std.specs.Prelude.{◌⊎◌, if◌then◌else◌, slice_get, option_map}
 use Rattle.std.specs.Option.{option_to_list}
@@ -37,7 +37,7 @@ use Rattle.link_group.proofs.Leaving.{Leaves, leaves_same, leaves_as, failed_lea
 use Rattle.link_group.proofs.Messages.{Counted, message_counted, told_heard, HeardFar, far_heard}
 use Rattle.link_group.proofs.Within.{ticked_there, commanded_links, near_speaks, near_reports, near_ticks, near_commands}
 
--- ---- what a call comes to
+-- ---- the effect of a call
 
 pub record NearDid (l : ℕ) (e d : LinkSet) (y : Ends) (out rest : List Unit) (more : List Msu) : Type 0 where
   pub now : TransceiverState
@@ -88,7 +88,7 @@ near_leaves l c e d y rest b counts a v =
     let x = v.ends y.near b.near in
     near_plain l e d y x.0 y.place rest a (record { life = near_else y x.0 b.life x.2.sender x.2.spare; near = x.1; far = b.far }) (λ p f. counts p (v.counts p f))
 
--- ---- messages come
+-- ---- messages are given
 
 put_link : (m : Msu) (o : Option Link) → Fewer (counted_of o) (counted_of (option_map (puts m) o))
 unfolding puts
@@ -106,7 +106,7 @@ bound_counts : (l : ℕ) (c : LinkSet) (m : Msu) → Fewer (counted_of (slice_ge
 unfolding bound_at
 bound_counts l c m = put_counts m c.links l
 
--- what is kept at an end
+-- the messages held at an end
 abbrev kept_in : Option TransceiverState → List Msu
 kept_in None = []
 kept_in (Some h) = h.sender.kept
@@ -170,7 +170,7 @@ ticked_counts l n c k there none = λ p f.
     ∙ (sym (waited_counts n k.availability.changing)
     ∙ (sym (asked_counts (passed n (roomy k)) none) ∙ (ap counted_of (sym (ticked_there n l c k there)) ∙ f)))
 
--- ---- a message of changeover comes
+-- ---- a changeover message is received
 
 near_either : (l p : ℕ) (c d : LinkSet) (y : Ends) (m : Option Changeover) (rest : List Unit) → Between l c d y → Fewer y.place (counted_of (slice_get c.links l)) → Arrive [] y.back rest
     → IsTold (number_of l (if_for c m)) y.told → HeardFar (slice_get c.links l) (slice_get (after_message c m).links l) y.near (number_of l (reply_to c m))

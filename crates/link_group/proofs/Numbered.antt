@@ -9,7 +9,7 @@ there-is [] l d h = absurd (omega (arith, h))
 there-is (k ∷ ks) zero d h = refl
 there-is (k ∷ ks) (suc l) d h = there-is ks l d (omega (arith, h))
 
--- the link that a vector lends
+-- the link at a place of a vector
 pub here : (ks : List Link) (l : ℕ) (was : Link) → l < length ks → was ≡ get_or ks l was → slice_get ks l ≡ Some was
 here ks l was h is = there-is ks l was h ∙ ap Some (sym is)
 

@@ -35,7 +35,7 @@ low_after t = low_by t (is_low t) refl
 pub all_roomy : (ks : List Link) → All HasRoom (map roomy ks)
 all_roomy ks = All-map HasRoom roomy ks (λ i d lt. low_after (get_or ks i d).terminal.processes)
 
--- what has room stays as it is
+-- a terminal with room stays the same
 pub tidy_already : (t : Processes) → is_low t ≡ false → tidied t ≡ t
 unfolding tidied
 tidy_already t e = ap (λ (b : Bool). if b then with_book t (rebased t.book) else t) e
@@ -43,16 +43,16 @@ tidy_already t e = ap (λ (b : Bool). if b then with_book t (rebased t.book) els
 pub due_is : (n : ℕ) (t : Processes) (due : ℕ) → is_low t ≡ false → Says (reply.Passed due) ≡ (ask (tidied t).book (Advance n)).answer → due ≡ due_in (ask t.book (Advance n)).answer
 due_is n t due room is = ap due_in (is ∙ ap (λ (u : Processes). (ask u.book (Advance n)).answer) (tidy_already t room))
 
--- a terminal that has room makes none
+-- a terminal with room makes none
 pub passes : (n : ℕ) (k : Link) (new : Term) (availability : Availability) → is_low k.terminal.processes ≡ false → new ≡ with_processes k.terminal (offered (Advance n) (tidied k.terminal.processes))
     → availability ≡ waits n k.availability → record { points = k.points; terminal = new; availability = availability; hand = k.hand } ≡ passed n k
 passes n k new availability room is m =
     let same : new ≡ with_processes k.terminal (offered (Advance n) k.terminal.processes) = is ∙ ap (λ (u : Processes). with_processes k.terminal (offered (Advance n) u)) (tidy_already k.terminal.processes room) in
     rw (same, m) refl
 
--- ---- one link behind another
+-- ---- link after link
 
--- where those before a place have changed, that at the place is as it was
+-- changes of the links before a place leave the one at that place
 pub get_over : (f : Link → Link) (ks : List Link) (n : ℕ) (d : Link) → n < length ks → get_or (map f (take n ks) ++ drop n ks) n d ≡ get_or ks n d
 get_over f [] n d h = absurd (omega (arith, h))
 get_over f (k ∷ ks) zero d h = refl

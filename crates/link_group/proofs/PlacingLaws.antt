@@ -1,4 +1,4 @@
--- Selections get links: as a link first comes into service, and as a set is rebalanced.
+-- Giving links to selections: when a link first comes into service, and when a set is rebalanced.
 use Rattle.std.proofs.Common.{◌≡◌, ◌≢◌, ℕ, ◌+◌, ◌<◌, ◌==◌, zero, suc, Bool, true, false, List, [], ◌∷◌, ◌++◌, Option, Some, None, map, refl, sym, ap, ◌∙◌, inl, inr, arith}
 use Rattle.std.specs.Prelude.{◌⊎◌, if◌then◌else◌, slice_get, option_map}
 use Rattle.std.specs.List.{list_any}
@@ -41,7 +41,7 @@ pub link_at : (f : ℕ → Option ℕ) (s : ℕ) → s < SELECTIONS → link_of 
 unfolding link_of
 link_at f s h = ap entry_by (slice_get-map f selections s ∙ ap (option_map f) (selection_at s h))
 
--- ---- none of a selection
+-- ---- no messages of a selection
 
 any_at : (p : Link → Bool) (ks : List Link) (l : ℕ) (k : Link) → list_any p ks ≡ false → slice_get ks l ≡ Some k → p k ≡ false
 any_at p [] l k e there = absurd (none_some there)
@@ -52,7 +52,7 @@ holds_none : (s : ℕ) (k : Link) → holds s k ≡ false → of s (messages k) 
 unfolding holds
 holds_none s k e = none-of k.points s (held k) e
 
--- what a link holds of a selection, if it is there
+-- the messages of a selection that a link holds, if it exists
 pub holds_at_none : (s : ℕ) (o : Option Link) → holds_at s o ≡ false → of s (held_by o) ≡ []
 holds_at_none s None e = of-nil s
 holds_at_none s (Some k) e = holds_none s k e
@@ -69,7 +69,7 @@ retrieval_none p (Some k) ms e fits = fits.availability.idle (no_retrieval k.ava
 pub nothing : (s : ℕ) (h g : List Msu) → of s h ≡ [] → g ≡ [] → of s h ++ of s g ≡ []
 nothing s h g e f = rw (e, f, of-nil s) refl
 
--- ---- made anew
+-- ---- the table is remade
 
 stands_none : (c : LinkSet) (retrievals : ℕ → List Msu) (accepted : List Msu) (gone : List Gone) (s : ℕ) (o : Option ℕ) → Stays c retrievals accepted gone
     → changing_at c.links o ≡ false → held_by_any s c.links ≡ false → standing (places_with c retrievals accepted gone) s o ≡ []
@@ -103,7 +103,7 @@ stays_placed laws c retrievals accepted gone stays =
       table = refl;
     }
 
--- ---- rebalanced
+-- ---- a set is rebalanced
 
 below_by : (f : ℕ → Bool) (n i : ℕ) → any_below f n ≡ false → f n ≡ false → i < suc n → Same i n → (i < n → f i ≡ false) → f i ≡ false
 below_by f n i e last h (inl here) before = ap f here ∙ last

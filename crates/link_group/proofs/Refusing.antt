@@ -1,4 +1,4 @@
--- Want of memory is no refusal.
+-- Running out of memory is no refusal.
 use Rattle.std.proofs.Common.{◌≡◌, ℕ, ◌==◌, ◌&&◌, Bool, true, false, not, Option, Some, None, refl, sym, ◌∙◌}
 use Rattle.std.specs.Prelude.{nat_lt, if◌then◌else◌, is_some}
 use Rattle.plain_laws.proofs.Options.{none_some}

@@ -1,4 +1,4 @@
--- Messages that are bound to a link: how many there are, and that they leave as its directions begin anew.
+-- Messages bound to a link: how many there are, and that they leave when its directions restart.
 use Rattle.std.proofs.Common.{◌≡◌, ℕ, ◌+◌, ◌-◌, ◌<◌, ◌≤◌, zero, suc, Bool, true, false, cond, List, [], ◌∷◌, ◌++◌, Some, length, take, drop, refl, sym, ap, ◌∙◌, arith, append_assoc}
 use Rattle.std.specs.Prelude.{if◌then◌else◌, slice_get, filter}
 use Rattle.std.proofs.lemmas.List.{length-take-le, length-append}
@@ -15,7 +15,7 @@ use Rattle.link_group.specs.OneLink.{window, held, bound_by, bound_among, unknow
 use Rattle.link_group.specs.Doing.{began, unbegun, leaves_out, anew, came_first, with_kept, without_bound_at, without_bound}
 use Rattle.link_group.proofs.Turning.{begun}
 
--- ---- how many are
+-- ---- how many there are
 
 one_by : (m : Msu) (b : Bool) → length (cond b (m ∷ []) []) ≡ 0 + cond {A = ℕ} b 1 0
 one_by m true = refl

@@ -1,4 +1,4 @@
--- Ticks of a set, and want of room.
+-- Ticks of a set, and lack of room.
 use Rattle.std.proofs.Common.{◌≡◌, ℕ, List, Option, map, sym, ◌∙◌, subst}
 use Rattle.std.specs.Prelude.{All}
 use Rattle.link_group.specs.declared.link.Link.{Link}

@@ -1,4 +1,4 @@
--- What a diversion comes to, and why it went no further.
+-- The result of a diversion, and why it stopped.
 use Rattle.std.proofs.Common.{◌≡◌, ℕ, List, Option, Some, None, length, map, ap, ◌∙◌}
 use Rattle.std.specs.Prelude.{slice_get}
 use Rattle.resend_store.specs.declared.messages.Msu.{Msu}
@@ -10,7 +10,7 @@ use Rattle.link_group.specs.Moving.{Diversion, Diverted, division, takers, hands
 use Rattle.link_group.specs.declared.ending.DivertError.TheVariants as error
 use Rattle.link_group.specs.Diverting.{diverted, settled_by, settled, left_by, left_fault}
 
--- ---- of messages that were taken out
+-- ---- messages taken from a hand
 
 pub diverted_by : (ks : List Link) (ts : List (Option ℕ)) (l : ℕ) (ms : List Msu) (able : List ℕ) → able ≡ takers l ks → hands_over able l (division ks ts ms) ≡ diverted ks ts l ms
 unfolding diverted

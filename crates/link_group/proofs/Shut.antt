@@ -1,4 +1,4 @@
--- An end whose number counts accepts nothing, whatever units come, until its directions begin anew.
+-- An end whose number counts accepts nothing, whatever units it receives, until its directions restart.
 use Rattle.std.proofs.Common.{◌≡◌, ℕ, Bool, true, false, List, [], ◌++◌, Some, sym, ap, ◌∙◌, subst, refl}
 use Rattle.std.proofs.lemmas.List.{append-nil}
 use Rattle.resend_store.specs.declared.messages.Msu.{Msu}
@@ -36,7 +36,7 @@ shut_unit x u t p place is began r =
     let came : Lives y = subst (λ (k : TransceiverState). Lives (far_at x (judged k u).transceiver x.forth (accepted_of k u))) is (shut_judged x u p place r) in
     (unit_keeps FarOn far_same far_joined far_signal u t began).1 y refl came
 
--- ---- octets come
+-- ---- octets are received
 
 shut_read : (octets : List ℕ) (t u : Processes) (read : Reads octets t u) (x : Ends) (p : ℕ) → x.place ≡ Some p → x.far ≡ t.transceiver → u.transceiver.began ≡ false → Lives x
     → Lives (far_at x u.transceiver x.forth (accepted_read read))

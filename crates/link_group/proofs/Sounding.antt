@@ -1,4 +1,4 @@
--- One direction of a link, a step at a time.
+-- One direction of a link, step by step.
 use Rattle.std.proofs.Common.{◌≡◌, ℕ, ◌+◌, ◌-◌, ◌<◌, ◌≤◌, zero, suc, max, List, [], ◌∷◌, ◌++◌, length, take, drop, None, refl, ap, sym, ◌∙◌, subst, arith, le_refl}
 use Rattle.std.specs.Prelude.{slice_get}
 use Rattle.std.proofs.lemmas.List.{drop-drop, drop-append-le, take-append-le, length-drop, length-take-le, length-append, take-append-drop}
@@ -33,12 +33,12 @@ backs_front : (a d : ℕ) (bs cs : List Answer) → Backs a d (bs ++ cs) → Bac
 backs_front a d [] cs h = none_back (backs_le a d cs h)
 backs_front a d (b ∷ bs) cs (one_back k le same rest) = one_back k le same (backs_front k d bs cs rest)
 
--- the last of them once more
+-- the last answer once more
 backs_twice : (a d : ℕ) (bs : List Answer) (b : Answer) → Backs a d (bs ++ b ∷ []) → Backs a d ((bs ++ b ∷ []) ++ b ∷ [])
 backs_twice a d [] b (one_back k le same rest) = one_back k le same (one_back k (le_refl k) same rest)
 backs_twice a d (c ∷ bs) b (one_back k le same rest) = one_back k le same (backs_twice k d bs b rest)
 
--- ---- a direction that is as it was but for these
+-- ---- a direction in which only these change
 
 sound_forth : (x : Exchange) (us : List Outgoing) → ((ms : List Msu) (s d : ℕ) → Flight ms s d x.forth → Flight ms s d us) → Sound x → Sound (record x { forth = us })
 sound_forth x us f h = record {
@@ -99,7 +99,7 @@ sound_given x ms h =
 pub sound_sent : (x : Exchange) → Sound x → Sound (exchange_step x sends)
 sound_sent x h = sound_run x (sends ∷ []) h
 
--- a unit without a message goes out, whatever the sender would give
+-- a unit without a message is sent, whatever the sender's next unit is
 pub sound_filled : (x : Exchange) (u : Outgoing) → u.msu ≡ None → Sound x → Sound (record x { forth = x.forth ++ u ∷ [] })
 sound_filled x u none h = sound_forth x (x.forth ++ u ∷ []) (λ ms s d f. flight_idle ms s d x.forth u none f) h
 
@@ -115,15 +115,15 @@ sound_came_back x b bs e h = subst (λ (cs : List Answer). Sound (first_comes_ba
 pub sound_lost_back : (x : Exchange) (b : Answer) (bs : List Answer) → x.back ≡ b ∷ bs → Sound x → Sound (record x { back = bs })
 sound_lost_back x b bs e h = subst (λ (cs : List Answer). Sound (first_is_lost_back x cs)) e (sound_run x (is_lost_back ∷ []) h)
 
--- the receiver answers with what it accepted last
+-- the receiver answers with its last accepted number
 pub sound_answered : (x : Exchange) → Sound x → Sound (record x { back = x.back ++ record { bsn = x.receiver.last; bib = x.receiver.bib } ∷ [] })
 sound_answered x h = sound_run x (answers ∷ []) h
 
--- only some of the answers come
+-- only some of the answers arrive
 pub sound_front : (x : Exchange) (bs cs : List Answer) → x.back ≡ bs ++ cs → Sound x → Sound (record x { back = bs })
 sound_front x bs cs e h = sound_back x bs (λ a d f. backs_front a d bs cs (subst (λ (xs : List Answer). Backs a d xs) e f)) h
 
--- it answers once more as it did last
+-- it repeats its last answer
 pub sound_again : (x : Exchange) (bs : List Answer) (b : Answer) → x.back ≡ bs ++ b ∷ [] → Sound x → Sound (record x { back = (bs ++ b ∷ []) ++ b ∷ [] })
 sound_again x bs b e h =
     sound_back x ((bs ++ b ∷ []) ++ b ∷ []) (λ a d f. backs_twice a d bs b (subst (λ (xs : List Answer). Backs a d xs) e f)) h
@@ -143,7 +143,7 @@ delivered_so_many x h =
 kept_so_many : (x : Exchange) (h : Sound x) → length x.sender.kept ≡ length x.taken - h.a
 kept_so_many x h = ap (λ (ms : List Msu). length ms) h.kept ∙ length-drop h.a x.taken
 
--- how many of the messages that are kept the number of the message accepted last acknowledges
+-- how many held messages the number of the last accepted message acknowledges
 pub sound_place : (x : Exchange) → Sound x → count_by x.sender x.receiver.last + length x.taken ≡ length x.delivered + length x.sender.kept
 sound_place x h =
     let le = backs_le h.a h.d x.back h.back in let inside = h.inside in
@@ -152,7 +152,7 @@ sound_place x h =
 pub sound_few : (x : Exchange) → Sound x → count_by x.sender x.receiver.last ≤ x.sender.sent
 sound_few x h = let count = known_last x h in let reached = h.reached in omega arith
 
--- None that is kept behind the number that was accepted last is missing.
+-- No held message after the last accepted number is missing.
 pub sound_sizes : (x : Exchange) → Sound x → length x.taken ≤ length x.delivered + length x.sender.kept
 sound_sizes x h =
     let le = backs_le h.a h.d x.back h.back in let inside = h.inside in

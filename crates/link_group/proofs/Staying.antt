@@ -1,4 +1,4 @@
--- A set in which each message stands in its one place, and what keeps it so.
+-- A set in which each message is in its one place, and what keeps it so.
 use Rattle.std.proofs.Common.{◌≡◌, ℕ, ◌<◌, Bool, List, [], ◌∷◌, ◌++◌, Option, Some, length, map, refl, sym, ap, ◌∙◌, inl}
 use Rattle.std.specs.Prelude.{◌⊎◌}
 use Rattle.std.proofs.lemmas.List.{append-nil, map-append}
@@ -13,7 +13,7 @@ use Rattle.link_group.specs.Laws.{held_at}
 use Rattle.link_group.specs.Reached.{Gone, acknowledged, messages_gone}
 use Rattle.link_group.proofs.Fitting.{Fits}
 
--- where messages stand, with what is retrieved from each link
+-- the places of messages, with those retrieved from each link
 abbrev pub places_with : LinkSet → (ℕ → List Msu) → List Msu → List Gone → Places
 places_with c retrievals accepted gone = record {
   accepted = accepted;
@@ -28,7 +28,7 @@ pub record Stays (c : LinkSet) (retrievals : ℕ → List Msu) (accepted : List 
   pub fits : Fits (points_of c) c.links retrievals
   pub table : length c.table ≡ SELECTIONS
 
--- ---- messages that have left
+-- ---- messages that left
 
 gone_map : (b : Bool) (ms : List Msu) → messages_gone (map (λ m. record { message = m; unsure = b }) ms) ≡ ms
 gone_map b [] = refl
@@ -49,7 +49,7 @@ quiet laws c d retrievals accepted gone held table places =
     laws.placed_anew (places_with c retrievals accepted gone) (places_with d retrievals accepted gone) places
     (record { accepted = refl; gone = refl; held = held; retrieval = λ l. refl; link = λ s lt. inl (ap (λ (t : List (Option ℕ)). link_of t s) table) })
 
--- ---- selections of which nothing stands get other links
+-- ---- selections without messages get other links
 
 pub placed : (laws : StepsKeepPlaces) (c d : LinkSet) (retrievals : ℕ → List Msu) (accepted : List Msu) (gone : List Gone)
     → ((l : ℕ) → held_at d l ≡ held_at c l)
@@ -59,7 +59,7 @@ placed laws c d retrievals accepted gone held links places =
     laws.placed_anew (places_with c retrievals accepted gone) (places_with d retrievals accepted gone) places
     (record { accepted = refl; gone = refl; held = held; retrieval = λ l. refl; link = links })
 
--- ---- messages come to one link, leave it, or go into its retrieval or back
+-- ---- messages are given to a link, leave it, are retrieved, or go back
 
 pub at_one : (laws : StepsKeepPlaces) (l : ℕ) (c d : LinkSet) (retrievals new : ℕ → List Msu) (accepted came left : List Msu) (gone more : List Gone)
     → OnePlace (places_with c retrievals accepted gone)
@@ -84,7 +84,7 @@ at_one laws l c d retrievals new accepted came left gone more places marked own 
       link = λ s. ap (λ (t : List (Option ℕ)). link_of t s) table;
     })
 
--- the same where none comes: what was accepted is what was
+-- as above, without new messages: the accepted ones stay
 none_came : (accepted : List Msu) (c : LinkSet) (retrievals : ℕ → List Msu) (gone : List Gone) → OnePlace (places_with c retrievals (accepted ++ []) gone)
     → OnePlace (places_with c retrievals accepted gone)
 none_came accepted c retrievals gone places = rw (sym (append-nil accepted)) places

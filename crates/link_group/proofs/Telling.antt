@@ -1,4 +1,4 @@
--- The number of a message counts in a changeover that goes on, or begins by it, where none counts yet.
+-- A message's number counts in a changeover that goes on, or begins by it, if none counts yet.
 use Rattle.std.proofs.Common.{◌≡◌, ℕ, Bool, true, false, not, List, Option, Some, None, is_some, refl, ap, ◌∙◌}
 use Rattle.std.specs.Prelude.{if◌then◌else◌, slice_get}
 use Rattle.plain_laws.proofs.Truths.{and_first, and_second}

@@ -1,4 +1,4 @@
--- The steps of the terminals at both ends of a link are deeds of a life of it.
+-- The steps of the terminals at both ends of a link are steps of a life of it.
 use Rattle.std.proofs.Common.{◌≡◌, false, List, ◌++◌, Option, Some, None, refl, ap, ◌∙◌, subst}
 use Rattle.std.specs.Option.{option_to_list}
 use Rattle.su_octets.specs.declared.units.Unit.{Unit}
@@ -12,7 +12,7 @@ use Rattle.link_group.specs.Ends.{Ends, units_in, Lives, near_goes, far_goes}
 use Rattle.link_group.specs.Along.{TerminalsFare}
 use Rattle.link_group.proofs.Along.{NearOn, near_same, near_joined, near_signal, FarOn, far_same, far_joined, far_signal, near_along, far_along}
 
--- ---- units that go out
+-- ---- sent units
 
 unit_of : (t : Processes) (o : Option UnitOut) → units_in o ≡ option_to_list (sent_by t o).unit
 unit_of t None = refl

@@ -1,4 +1,4 @@
--- A queue turned round once: what is of a selection goes, the rest stays in order.
+-- A queue turned round once: messages of a selection leave, the rest stay in order.
 use Rattle.std.proofs.Common.{◌≡◌, ℕ, ◌+◌, ◌<◌, ◌≤◌, ◌==◌, zero, suc, Bool, true, false, not, cond, List, [], ◌∷◌, ◌++◌, length, take, drop, get_or, refl, sym, ap, ◌∙◌, arith, append_assoc, subst, inl, inr}
 use Rattle.std.specs.Prelude.{All, ◌⊎◌, ◌≢◌}
 use Rattle.std.proofs.lemmas.List.Elements.{filter-append}
@@ -113,7 +113,7 @@ room-left s n ms items t u e is room =
     (of-parts s n ms) (ap length (of-turned s n ms items e))
     (ap (λ (x : Term). length (kept x)) is ∙ ap length (takes-kept (of s (take n ms)) t) ∙ length-append (kept t) (of s (take n ms))) room
 
--- the element at a place, in front of all behind it
+-- the message at a place is followed by all later ones
 pub begun : (n : ℕ) (ms : List Msu) → n < length ms → (m : Msu) × (drop n ms ≡ m ∷ drop (n + 1) ms) × (take (n + 1) ms ≡ take n ms ++ m ∷ [])
 begun n [] h = absurd (omega (arith, h))
 begun n (x ∷ xs) h = (get_or (x ∷ xs) n x, drop_more (x ∷ xs) n x h, take_more (x ∷ xs) n x h)

@@ -1,4 +1,4 @@
--- What units that go out and units that come make of what one direction of a link rests on.
+-- What sent and received units do to one direction of a link.
 use Rattle.std.proofs.Common.{◌≡◌, ℕ, ◌≤◌, ◌&&◌, Bool, true, false, not, List, [], ◌∷◌, ◌++◌, Option, Some, None, Result, Ok, Err, nat_lt, nat_le, is_some, refl, sym, ap, ◌∙◌, subst, append_assoc}
 use Rattle.std.specs.Prelude.{if◌then◌else◌}
 use Rattle.std.specs.Option.{option_to_list}
@@ -65,9 +65,9 @@ tellings-append [] vs = refl
 tellings-append (u ∷ us) vs =
     ap (λ (xs : List Answer). telling_in u ++ xs) (tellings-append us vs) ∙ sym (append_assoc (telling_in u) (tellings us) (tellings vs))
 
--- ---- units that go out: what is kept to send
+-- ---- sent units: the messages held for sending
 
--- none of the stores, one without a message, or what the sender gives next
+-- no unit from the stores, one without a message, or the sender's next one
 pub data Goes (h : TransceiverState) (g : Gone) : Type 0 where
   says_none : outgoings (units_in g.out) ≡ [] → g.transceiver.sender ≡ h.sender → g.transceiver.spare ≡ h.spare → Goes h g
   fills_in : (u : Outgoing) → outgoings (units_in g.out) ≡ u ∷ [] → u.msu ≡ None → g.transceiver.sender ≡ h.sender → g.transceiver.spare ≡ h.spare → Goes h g
@@ -97,7 +97,7 @@ pub going : (h : TransceiverState) → Goes h (gone h)
 unfolding gone
 going h = by_test (λ (g : Gone). Goes h g) h.busy (status_gone (record h { busy = false }) BUSY_CODE) (gone_by h h.line) (λ e. says_none refl refl refl) (λ e. line_goes h h.line)
 
--- ---- units that go out: what is known of the messages that come
+-- ---- sent units: the receiver
 
 pub record SameIntake (h g : TransceiverState) : Type 0 where
   pub receiver : g.receiver ≡ h.receiver
@@ -145,9 +145,9 @@ began_answering h g (tells_one one same) = same.began
 pub gone_began : (h : TransceiverState) → (gone h).transceiver.began ≡ h.began
 gone_began h = began_answering h (gone h) (answering h)
 
--- ---- units that come: what is known of the messages
+-- ---- received units: the receiver
 
--- One passes by, or is judged by the receiver; of what it brings these messages are accepted.
+-- A unit skips the stores, or the receiver judges it; these messages of it are accepted.
 pub data Comes (old new : Intake) (o : Outgoing) (ms : List Msu) : Type 0 where
   passes_by : new ≡ old → ms ≡ [] → Comes old new o ms
   is_judged : new ≡ (hear old o.fsn o.fib (is_some o.msu)).known
@@ -205,7 +205,7 @@ heard_none h head = elim h.behind_odd
     as (λ b. Comes h.receiver (if◌then◌else◌ {A = Stored} b (discarded h (head_heeded h head)) (stored h (head_heeded h head) None)).transceiver.receiver (outgoing_of head None) [])
     [ true ↦ passes_by refl refl | false ↦ stored_none h (head_heeded h head) ]
 
--- the message, where a unit has these tests behind it
+-- the message of a unit, if these tests hold
 abbrev if_accepted : TransceiverState → Head → Bool → Bool → Msu → List Msu
 if_accepted h head takes heeds m =
     if takes && heeds && not (is_abnormal h.sender (bsn_heeded h head.bsn)) && is_accept (hearing (accepts h) h.receiver (head_heeded h head) true).verdict then m ∷ [] else []
@@ -244,9 +244,9 @@ coming_in h (unit.Msu head sio sif) =
     unit_comes (outgoing_of head (Some (record { sio = sio; sif = sif }))) refl (by_stores_some h head (record { sio = sio; sif = sif }))
 coming_in h (unit.Lssu head status second) = status_comes refl refl refl
 
--- ---- units that come: what is kept to send
+-- ---- received units: the messages held for sending
 
--- a backward number and bit that count for nothing, or that are obeyed
+-- a backward number and bit that count for nothing, or are obeyed
 pub data Obeys (old new : Window) (b : Answer) : Type 0 where
   ignores : new ≡ old → Obeys old new b
   is_obeyed : new ≡ after_back old b.bsn b.bib → count_by old b.bsn ≤ old.sent → Obeys old new b
@@ -261,7 +261,7 @@ stored_back : (h : TransceiverState) (head : Head) (o : Option Msu) → Obeys h.
 unfolding stored
 stored_back h head o = stored_by h head o (is_abnormal h.sender head.bsn) refl
 
--- where nothing was cleared each number counts as it is
+-- if nothing was cleared, each number counts unchanged
 heeds : (h : TransceiverState) (bsn : ℕ) → h.spare ≡ 0 → bsn_heeded h bsn ≡ bsn
 unfolding bsn_heeded
 heeds h bsn e = ap (λ (n : ℕ). if nat_lt 0 n && nat_le (count_by h.sender bsn) n then last_acknowledged h.sender else bsn) e
@@ -283,7 +283,7 @@ by_stores_back h head o e = elim h.take
     as (λ b. Obeys h.sender (if◌then◌else◌ {A = Judged} b (through h (heard h head o)) (left_aside 8 h)).transceiver.sender (telling_of head))
     [ true ↦ heard_back h head o e | false ↦ ignores refl ]
 
--- a unit that comes back
+-- a unit received near
 pub data ComesBack (h : TransceiverState) (u : Unit) : Type 0 where
   status_back : telling_in u ≡ [] → (judged h u).transceiver.sender ≡ h.sender → ComesBack h u
   unit_back : (b : Answer) → telling_in u ≡ b ∷ [] → Obeys h.sender (judged h u).transceiver.sender b → ComesBack h u
@@ -294,7 +294,7 @@ coming_back h (unit.Fisu head) e = unit_back (telling_of head) refl (by_stores_b
 coming_back h (unit.Msu head sio sif) e = unit_back (telling_of head) refl (by_stores_back h head (Some (record { sio = sio; sif = sif })) e)
 coming_back h (unit.Lssu head status second) e = status_back refl refl
 
--- ---- a unit that comes clears nothing, and no direction begins anew by it
+-- ---- a received unit clears nothing and restarts no direction
 
 stored_spare : (h : TransceiverState) (head : Head) (o : Option Msu) → (stored h head o).transceiver.spare ≡ h.spare
 unfolding stored

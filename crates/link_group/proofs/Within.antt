@@ -1,4 +1,4 @@
--- What else goes on with a life of a link between two sets.
+-- Other calls that continue a life of a link between two sets.
 use Rattle.std.proofs.Common.{◌≡◌, ℕ, ◌+◌, ◌-◌, ◌^◌, min, length, zero, suc, Bool, true, false, List, ◌++◌, Option, Some, None, refl, sym, ap, ◌∙◌, subst, map, append_assoc}
 use Rattle.std.specs.Prelude.{if◌then◌else◌, slice_get, option_map}
 use Rattle.std.specs.Option.{option_to_list}
@@ -45,7 +45,7 @@ use Rattle.link_group.proofs.Getting.{change_here, set_there}
 use Rattle.link_group.proofs.Heeding.{ends_heed}
 use Rattle.link_group.proofs.Units.{gone_began}
 
--- ---- units one after another
+-- ---- units in order
 
 sent_began : (t : Processes) → (sent t).processes.transceiver.began ≡ false → t.transceiver.began ≡ false
 sent_began t e = sym (gone_began t.transceiver) ∙ (sent_keeps NearOn near_same near_joined near_signal t e).0
@@ -100,7 +100,7 @@ far_speaks l c d e x units octets by b none =
     let as_end : Lives (record x { far = h; back = x.back ++ units_given n t }) = subst (λ (g : TransceiverState). Lives (record x { far = g; back = x.back ++ units_given n t })) (sym now) went in
     record { life = far_else (record x { far = h; back = x.back ++ units_given n t }) (asked_end h) as_end refl refl (λ held. held); near = b.near; far = end_behind (Spoken units octets) l d e by none }
 
--- ---- an end that goes on
+-- ---- an end continues
 
 near_on : (x : Ends) (h : TransceiverState) → Lives (record x { near = h }) → Lives (record x { near = asked_end h })
 near_on x h r = near_else (record x { near = h }) (asked_end h) r refl refl
@@ -201,7 +201,7 @@ near_commands l c e d x command by b clear none =
       far = b.far;
     }
 
--- the event behind buffers that are emptied, and what it finds
+-- the event after buffers are cleared, and the state before it
 abbrev none_out : Processes → Event
 none_out q = offer_event q.names (acknowledgement_seen false)
 
@@ -254,9 +254,9 @@ far_commands l c d e x command by b none =
       far = commanded_end command l d e by none;
     }
 
--- ---- level 3 says something of a link
+-- ---- level 3's calls about a link
 
--- what that leaves of its end
+-- what such a call leaves of a link's end
 pub record Stays (h g : TransceiverState) : Type 0 where
   pub sender : g.sender ≡ h.sender
   pub spare : g.spare ≡ h.spare

@@ -1,4 +1,4 @@
--- Changeovers that begin and are heard of, calls of one terminal, and ticks.
+-- Changeovers that begin and their messages, calls of one terminal, and ticks.
 use Rattle.std.proofs.Common.{◌≡◌, ℕ, zero, suc, Bool, true, false, not, List, [], ◌∷◌, ◌++◌, Option, Some, None, map, take, drop, slice_set, refl, sym, ap, ◌∙◌, subst, inl, inr}
 use Rattle.std.specs.Prelude.{◌⊎◌, ◌&&◌, if◌then◌else◌, slice_get, option_map}
 use Rattle.std.specs.List.{list_any}
@@ -57,7 +57,7 @@ all_change laws c retrievals accepted gone f same availability stays = record {
   table = stays.table;
 }
 
--- ---- a changeover begins, and is heard of
+-- ---- a changeover begins, and its messages are received
 
 pub stays_failed : (laws : StepsKeepPlaces) (c : LinkSet) (retrievals : ℕ → List Msu) (accepted : List Msu) (gone : List Gone) (l : ℕ) → Stays c retrievals accepted gone → Stays (after_failure c l) retrievals accepted gone
 unfolding after_failure
@@ -82,7 +82,7 @@ stays_heard laws c retrievals accepted gone (Some m) stays =
 
 -- ---- a link comes into service
 
--- a link that was looked at, with these marks
+-- a link that was checked, with these marks
 abbrev asked_with : Link → Availability → Link
 asked_with k m =
     marked_served (record k { terminal = term_with_transceiver k.terminal (record k.terminal.processes.transceiver { came = false }); availability = m })
@@ -101,7 +101,7 @@ fits_asked_of k ms fits =
 fits_asked : (k : Link) (ms : List Msu) → FitsAvailability k.availability ms → FitsAvailability (asked k).availability ms
 fits_asked k ms fits = fits_asked_of (anew k) ms (fits_anew k ms fits)
 
--- What isn't bound to it stays as its directions begin anew.
+-- Messages not bound to a link stay when its directions restart.
 anew_alike : (k : Link) → Alike (anew k) k
 anew_alike k =
     by_test (λ (x : Link). Alike x k) (began k) (leaves_out (unbegun k)) (unbegun k)
@@ -169,7 +169,7 @@ same_set : (c : LinkSet) (ks new : List Link) (l : ℕ) (before after : Link) �
     → record c { links = change c.links l (λ k. after) } ≡ record c { links = new }
 same_set c ks new l before after there is = ap (λ (xs : List Link). record c { links = xs }) (sym (is ∙ changed_is c.links l before after there))
 
--- whatever it did, some of what it held left from the front, and no mark of a changeover changed
+-- after any such call: some of the oldest messages left, and no mark of a changeover changed
 pub alone_works : (laws : StepsKeepPlaces) (did : Link → Link → Type 0) (c : LinkSet) (retrievals : ℕ → List Msu) (accepted : List Msu) (gone : List Gone) (l : ℕ) (new : List Link) (left : List Msu)
     → Stays c retrievals accepted gone → (at : AtLink did l c.links new) → messages at.before ≡ left ++ messages at.after → at.after.points ≡ at.before.points
     → ((ms : List Msu) → FitsAvailability at.before.availability ms → FitsAvailability at.after.availability ms) → Stays (record c { links = new }) retrievals accepted (gone ++ acknowledged left)
@@ -184,7 +184,7 @@ link_works laws did c d retrievals accepted gone l left stays by kept points ali
     subst (λ (x : LinkSet). Stays x retrievals accepted (gone ++ acknowledged left)) (sym by.set)
     (stays_seen laws (record c { links = by.links }) retrievals accepted (gone ++ acknowledged left) l (alone_works laws did c retrievals accepted gone l by.links left stays by.at kept points alike))
 
--- those that left, and those that stay
+-- the messages that left, and those that stay
 pub part_messages : (a b : Link) (left : List Msu) → b.points ≡ a.points → held a ≡ left ++ held b → messages a ≡ unbound a.points left ++ messages b
 part_messages a b left points e =
     ap (unbound a.points) e ∙ unbound-append a.points left (held b) ∙ ap (λ (p : Points). unbound a.points left ++ unbound p (held b)) (sym points)
@@ -192,7 +192,7 @@ part_messages a b left points e =
 same_messages : (a b : Link) → b.points ≡ a.points → held a ≡ held b → messages a ≡ messages b
 same_messages a b points e = ap (unbound a.points) e ∙ ap (λ (p : Points). unbound p (held b)) (sym points)
 
--- none left
+-- no messages left
 pub alone_keeps : (laws : StepsKeepPlaces) (did : Link → Link → Type 0) (c d : LinkSet) (retrievals : ℕ → List Msu) (accepted : List Msu) (gone : List Gone) (l : ℕ) → Stays c retrievals accepted gone
     → (by : Alone did l c d) → held by.at.before ≡ held by.at.after → by.at.after.points ≡ by.at.before.points → by.at.after.availability.changing ≡ by.at.before.availability.changing → by.at.after.availability.failed ≡ by.at.before.availability.failed
     → Stays d retrievals accepted gone

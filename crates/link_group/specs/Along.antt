@@ -1,4 +1,4 @@
--- What the terminals at the two ends of a link do, step by step, in one life of it.
+-- The steps of the terminals at both ends of a link in one life of it.
 use Rattle.std.specs.Prelude.{◌≡◌, ℕ, ◌-◌, Bool, false, if◌then◌else◌, List, [], ◌∷◌, ◌++◌}
 use Rattle.std.specs.Prelude.{length}
 use Rattle.std.specs.Option.{option_to_list}
@@ -14,14 +14,14 @@ use Rattle.link_term.specs.Hearing.{sixteen, Hears, silent, octet}
 use Rattle.link_term.specs.Laws.{accepted_along}
 use Rattle.link_group.specs.Ends.{Ends, place_behind, Lives}
 
--- A unit, where it goes through the stores of an end: none does that bears a status, and none while
--- units aren't taken.
+-- The unit, if it goes through the stores of an end. LSSUs don't, and no unit does while units
+-- aren't taken.
 abbrev pub heeded : TransceiverState → Unit → List Unit
 heeded h (units.Lssu head status second) = []
 heeded h (units.Fisu head) = if h.take then units.Fisu head ∷ [] else []
 heeded h (units.Msu head sio sif) = if h.take then units.Msu head sio sif ∷ [] else []
 
--- the units that are read along the octets of a line and go through the stores, in order
+-- the units along the octets of a line that go through the stores, in order
 abbrev pub units_read : {octets : List ℕ} {t u : Processes} → Reads octets t u → List Unit
 units_read (as_unit octets x t frame) = heeded t.transceiver x
 units_read (as_error octets t none) = []
@@ -40,17 +40,17 @@ units_along (silent bits all t) = []
 units_along (octet bits all given t u v first octets now on room are taken counts hears) =
     units_taken taken ++ units_along hears
 
--- Of the units under way these arrive, in order. Others before them are lost, and the rest is under
--- way still.
+-- Of the units under way these arrive, in order. Others before them are lost, and the rest stay
+-- under way.
 pub data Arrive : List Unit → List Unit → List Unit → Type 0 where
   none_arrives : {us ws : List Unit} → us ≡ ws → Arrive [] us ws
   one_lost : {u : Unit} {us vs ws : List Unit} → Arrive vs us ws → Arrive vs (u ∷ us) ws
   one_arrives : {u v : Unit} {us vs ws : List Unit} → u ≡ v → Arrive vs us ws
       → Arrive (u ∷ vs) (v ∷ us) ws
 
--- Each step of the terminals at the two ends belongs to a life of the link, as long as the
--- directions don't begin anew in it: an event of the actors, a unit that goes out, and octets, of
--- whose units those that go through the stores are under way.
+-- Each step of the terminals at both ends belongs to a life of the link, as long as the directions
+-- don't restart in it: an event of the actors, a sent unit, and octets whose units that go through
+-- the stores are under way.
 pub record TerminalsFare : Type 0 where
   pub near_offered :
       (x : Ends) (t : Processes) (e : Event) → x.near ≡ t.transceiver

@@ -1,5 +1,5 @@
--- Changeover of a link that failed (Q.704): how it begins, what is said of it, and which messages
--- are handed out.
+-- Changeover of a failed link (Q.704): how it begins, the messages about it, and which messages are
+-- retrieved.
 use Rattle.std.specs.Prelude.{ℕ, ◌+◌, ◌^◌, ◌-◌, ◌==◌, ◌&&◌, min, Bool, if◌then◌else◌, List, Option}
 use Rattle.std.specs.Prelude.{Some, None, slice_get}
 use Rattle.arrayvec.specs.ArrayVec.{ArrayVec}
@@ -27,14 +27,14 @@ use Rattle.link_group.specs.Failing.{none_known}
 
 -- ---- a link fails
 
--- K1 without the link, K2 where its changeover goes on
+-- K1 without the link, K2 if its changeover goes on
 unfoldable pub fail_fault : LinkSet → ℕ → Option FailError
 fail_fault c l = fault_at fail.NoLink fail_fault_of (slice_get c.links l)
 
 unfoldable pub after_failure : LinkSet → ℕ → LinkSet
 after_failure c l = record c { links = change c.links l changeover_begins_at }
 
--- a message from one point to another about a link
+-- a changeover message from one point to another about a link
 abbrev pub message : ℕ → ℕ → ℕ → Kind → Changeover
 message from to l what = record { label = record { dpc = to; opc = from; sls = l }; kind = what }
 
@@ -45,23 +45,23 @@ abbrev pub order_by : LinkSet → ℕ → Option Link → Changeover
 order_by c l None = to_peer c l kind.EmergencyOrder
 order_by c l (Some k) = to_peer c l (order_of k)
 
--- the order for a link that is there
+-- the order for an existing link
 unfoldable pub order_at : LinkSet → ℕ → Changeover
 order_at c l = order_by c l (slice_get c.links l)
 
--- ---- what the other point says of it
+-- ---- messages about it from the other point
 
--- a message to this point from the other
+-- whether a message is from the other point to this one
 abbrev pub is_for : LinkSet → Changeover → Bool
 is_for c m = (m.label.dpc == c.own) && (m.label.opc == c.peer)
 
--- All others, those of a link that isn't there, and octets that are no message change nothing.
+-- Other messages, those about a missing link, and octets that are no message change nothing.
 abbrev pub after_message : LinkSet → Option Changeover → LinkSet
 after_message c None = c
 after_message c (Some m) =
     if is_for c m then record c { links = change c.links m.label.sls (hears m.kind) } else c
 
--- what it was
+-- how the message counted
 abbrev pub hearing_of : LinkSet → Option Changeover → Hearing
 hearing_of c None = hearing.Nothing
 hearing_of c (Some m) =
@@ -77,7 +77,7 @@ reply_to c (Some m) =
     if is_for c m then reply_by c m.label.sls (replies_at m.kind (slice_get c.links m.label.sls))
     else None
 
--- octets as the message that they are, or none
+-- octets that read as this message, or as none
 abbrev pub IsRead : List ℕ → Option Changeover → Type 0
 IsRead octets None = (m : Changeover) → Reads octets m → ⊥
 IsRead octets (Some m) = Reads octets m
@@ -88,7 +88,7 @@ IsReply None (Some sif) = ⊥
 IsReply (Some m) None = ⊥
 IsReply (Some m) (Some sif) = Says sif.items m
 
--- ---- its messages are handed out
+-- ---- its messages are retrieved
 
 unfoldable pub retrieve_fault_at : LinkSet → ℕ → Option RetrieveError
 retrieve_fault_at c l = fault_at retrieve.NoLink retrieve_fault (slice_get c.links l)
@@ -96,23 +96,23 @@ retrieve_fault_at c l = fault_at retrieve.NoLink retrieve_fault (slice_get c.lin
 unfoldable pub after_retrieve : LinkSet → ℕ → LinkSet
 after_retrieve c l = record c { links = change c.links l handed }
 
--- exactly those behind the ones that the far side told of, and where it told of none those that
--- weren't sent since both directions last began anew
+-- exactly those after the ones that the far side reported; without a report, those not sent since
+-- both directions last restarted
 unfoldable pub messages_for : LinkSet → ℕ → List Msu
 messages_for c l = messages_by accepted_of (slice_get c.links l)
 
--- ---- those that were sent are given up
+-- ---- the sent messages are given up
 
 unfoldable pub abandon_fault_at : LinkSet → ℕ → Option AbandonError
 abandon_fault_at c l = fault_at abandon.NoLink abandon_fault (slice_get c.links l)
 
--- They count as unsure; the count stays at its greatest value.
+-- They count as unsure; the count stops at its greatest value.
 unfoldable pub after_abandon : LinkSet → ℕ → LinkSet
 after_abandon c l = record c {
   links = change c.links l given_up;
   unsure = min (2 ^ 64 - 1) (c.unsure + sent_by (slice_get c.links l));
 }
 
--- the unsent ones
+-- the unsent messages
 unfoldable pub unsent_at : LinkSet → ℕ → List Msu
 unsent_at c l = messages_by none_known (slice_get c.links l)

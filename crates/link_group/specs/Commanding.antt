@@ -40,8 +40,8 @@ abbrev pub is_barred_in : Option Changing → Bool
 is_barred_in None = false
 is_barred_in (Some c) = not (is_some c.retrieval)
 
--- Start is no command in a changeover until its messages are handed out: what the far side tells
--- speaks of the numbers that stand.
+-- Start is barred in a changeover until its messages are retrieved, since the far side's report
+-- refers to the present numbers.
 abbrev pub is_barred : Command → Link → Bool
 is_barred command k = is_start command && is_barred_in k.availability.changing
 
@@ -51,29 +51,29 @@ starts_anew command k = is_start command && not (is_serving k)
 abbrev pub marked : Bool → Availability → Availability
 marked anew m = if anew then record m { anew = true } else m
 
--- A link to which Start is commanded while it is out of service is started anew.
+-- A link that is started while out of service is marked as restarted.
 abbrev pub started : Command → Link → Availability
 started command k = marked (starts_anew command k) k.availability
 
--- the terminal behind it, before buffers are emptied
+-- the terminal after the command, before buffers are cleared
 abbrev pub behind_command : Command → Term → Term
 behind_command command t =
     let p = tidied t.processes
     in with_processes t (offered (command_event p.names command) p)
 
--- what goes as the text empties the buffers: all that is kept, where it asked for that
+-- the messages that are cleared: all held ones, if the text requested that
 abbrev pub cleared_of : Term → List Msu
 cleared_of t = take (to_clear t.processes) (window_of t).kept
 
--- The buffers are emptied, where the text asked for that. What the far side told of the messages
--- that were kept it told of those that are kept still.
+-- The buffers are cleared, if the text requested that. A count of accepted messages becomes one of
+-- the remaining messages.
 abbrev pub clears : Link → Link
 clears k = record k {
   terminal = with_processes k.terminal (clear_obeyed k.terminal.processes);
   availability = fewer (to_clear k.terminal.processes) k.availability;
 }
 
--- those that aren't bound to the link, which count as unsure
+-- the cleared messages that aren't bound to the link, which count as unsure
 abbrev pub cleared_by : Command → Link → List Msu
 cleared_by command k = unbound k.points (cleared_of (behind_command command k.terminal))
 
@@ -81,8 +81,8 @@ abbrev pub cleared_at : Command → Option Link → List Msu
 cleared_at command None = []
 cleared_at command (Some k) = cleared_by command k
 
--- The terminal took it. That takes no message away; behind it the buffers are emptied, where the
--- text asked for that.
+-- The terminal accepted the command, which removes no message. Then the buffers are cleared, if the
+-- text requested that.
 pub record Commanded (command : Command) (old new : Link) : Type 0 where
   pub points : new.points ≡ old.points
   pub hand : new.hand ≡ old.hand
@@ -100,7 +100,7 @@ pub record Commanded (command : Command) (old new : Link) : Type 0 where
       new.availability
       ≡ fewer (to_clear (behind_command command old.terminal).processes) (started command old)
 
--- The terminal refused it: nothing changed, but that there may be room in its journal now.
+-- The terminal refused the command. Nothing changed, except that its journal may have room now.
 pub record Refused (command : Command) (refusal : Refusal) (old new : Link) : Type 0 where
   pub points : new.points ≡ old.points
   pub hand : new.hand ≡ old.hand
@@ -111,12 +111,12 @@ pub record Refused (command : Command) (refusal : Refusal) (old new : Link) : Ty
   pub terminal : new.terminal ≡ with_processes old.terminal (tidied old.terminal.processes)
   pub availability : new.availability ≡ old.availability
 
--- It has to wait.
+-- The command has to wait.
 pub record Barred (command : Command) (old new : Link) : Type 0 where
   pub bars : is_barred command old ≡ true
   pub same : new ≡ old
 
--- Its journal lacks room, and there was no memory for it.
+-- Its journal lacks room, and memory ran out.
 pub record Lacks (command : Command) (old new : Link) : Type 0 where
   pub free : is_barred command old ≡ false
   pub low : is_low old.terminal.processes ≡ true
@@ -128,7 +128,7 @@ command_error_text error.Waiting = codes "K2 Waiting"
 command_error_text (error.Refused refusal) = refusal_text refusal
 command_error_text error.NoMemory = codes "out of memory"
 
--- what a link makes of a command, by why it isn't done
+-- the effect of a command on a link, by why it is refused, if it is
 abbrev pub Commands : Command → Option CommandError → Link → Link → Type 0
 Commands command None old new = Commanded command old new
 Commands command (Some error.NoLink) old new = ⊥

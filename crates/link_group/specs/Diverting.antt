@@ -1,4 +1,4 @@
--- Diversion (Q.704): what a link handed out goes to the other links.
+-- Diversion (Q.704): a link's retrieved messages go to the other links.
 use Rattle.std.specs.Prelude.{ℕ, if◌then◌else◌, List, length, map, Option, Some, None, slice_get}
 use Rattle.resend_store.specs.declared.messages.Msu.{Msu}
 use Rattle.group_changeover.specs.Sharing.{selections, link_of}
@@ -11,11 +11,11 @@ use Rattle.link_group.specs.declared.ending.DivertError.{DivertError}
 use Rattle.link_group.specs.declared.ending.DivertError.TheVariants as error
 use Rattle.link_group.specs.Set.{LinkSet}
 
--- what becomes of messages that were taken out of the hand of a link
+-- the diversion of messages taken from a link's hand
 unfoldable pub diverted : List Link → List (Option ℕ) → ℕ → List Msu → Diverted
 diverted ks ts l ms = hands_over (takers l ks) l (division ks ts ms)
 
--- Where all of them went, the changeover of the link ends; else what is left is its hand again.
+-- If all of them went, the link's changeover ends. Otherwise the rest are its hand again.
 abbrev pub settled_by : List ℕ → ℕ → Diversion → Option DivertFault → Diversion
 settled_by ls l d None = record {
   links = change d.links l ends_at;
@@ -28,23 +28,23 @@ abbrev pub settled : List Link → List (Option ℕ) → ℕ → List Msu → Di
 settled ks ts l ms =
     settled_by (takers l ks) l (diverted ks ts l ms).at (diverted ks ts l ms).fault
 
--- ---- of a set
+-- ---- diversion in a set
 
--- The messages that the link handed out are taken out of its hand.
+-- The link's retrieved messages are taken from its hand.
 abbrev pub emptied : LinkSet → ℕ → LinkSet
 emptied c l = record c { links = change c.links l without_hand }
 
 abbrev pub with_division : LinkSet → Diversion → LinkSet
 with_division c d = record c { links = d.links; table = d.table }
 
--- what becomes of a set once these were taken out
+-- the set after the diversion of the messages taken
 abbrev pub after_taken : LinkSet → ℕ → List Msu → LinkSet
 after_taken c l ms = with_division c (settled c.links c.table l ms)
 
 abbrev pub after_hand : LinkSet → ℕ → LinkSet
 after_hand c l = after_taken (emptied c l) l (hand_by (slice_get c.links l))
 
--- Where it handed nothing out, nothing changes.
+-- If its messages aren't retrieved, nothing changes.
 unfoldable pub after_divert : LinkSet → ℕ → LinkSet
 after_divert c l = if is_out_at (slice_get c.links l) then after_hand c l else c
 
@@ -52,7 +52,7 @@ abbrev pub left_by : Diversion → Option DivertFault → Option DivertError
 left_by d None = None
 left_by d (Some fault) = Some (error.Left fault (length d.rest))
 
--- why some are left, and how many
+-- why some messages remain, and how many
 abbrev pub left_fault : Diverted → Option DivertError
 left_fault d = left_by d.at d.fault
 
@@ -62,6 +62,6 @@ divert_fault_by c l (Some k) =
     if is_out_at (Some k) then left_fault (diverted (emptied c l).links c.table l k.hand)
     else Some error.Waiting
 
--- K1 without the link, K2 where it handed nothing out, else why some are left
+-- K1 without the link, K2 if its messages aren't retrieved, else why some remain
 unfoldable pub divert_fault : LinkSet → ℕ → Option DivertError
 divert_fault c l = divert_fault_by c l (slice_get c.links l)

@@ -1,4 +1,4 @@
--- What a link does by its terminal, and that it comes into service.
+-- What a link does with its terminal, and how it comes into service.
 use Rattle.std.specs.Prelude.{◌≡◌, ℕ, ◌-◌, ◌<◌, ◌≤◌, ◌&&◌, ◌⊎◌, Bool, true, false, not}
 use Rattle.std.specs.Prelude.{if◌then◌else◌}
 use Rattle.std.specs.Prelude.{List, ◌++◌, length, take, drop, Option, Some, None}
@@ -21,19 +21,19 @@ use Rattle.group_changeover.specs.declared.bound.Points.{Points}
 use Rattle.link_group.specs.OneLink.{held, window, shares, accepted_of, with_availability}
 use Rattle.link_group.specs.OneLink.{bound_by, bound_among}
 
--- it came into service since that was last asked
+-- the link came into service since that was last read
 abbrev pub came : Link → Bool
 came k = k.terminal.processes.transceiver.came
 
--- it is in service, not held, and admitted for the first time
+-- the link is in service, not held, and admitted for the first time
 abbrev pub came_first : Link → Bool
 came_first k = shares k && not k.availability.served
 
--- from then on it counts as one that has been that
+-- from then on it is marked so
 abbrev pub marked_served : Link → Link
 marked_served k = with_availability (takes_part (shares k) k.availability) k
 
--- ---- level 3 admits it
+-- ---- level 3 admits a link
 
 abbrev pub admitted : Bool → Link → Link
 admitted way k = with_availability (admits way k.availability) k
@@ -48,7 +48,7 @@ abbrev pub admits_by : Bool → Option Link → Bool
 admits_by way None = false
 admits_by way (Some k) = admits_first way k
 
--- ---- its directions begin anew
+-- ---- a link's directions restart
 
 abbrev pub began : Link → Bool
 began k = k.terminal.processes.transceiver.began
@@ -65,13 +65,13 @@ with_kept ms t =
     term_with_transceiver t
     (record t.processes.transceiver { sender = record (window_of t) { kept = ms } })
 
--- the message at a place is taken out where it is bound to a link
+-- the message at a place is removed if it is bound to a link
 abbrev pub without_bound_at : Points → ℕ → Term → Term
 without_bound_at p i t =
     if bound_by p (slice_get (window_of t).kept i)
     then with_kept (without_at (window_of t) i).kept t else t
 
--- of those that wait, each that is bound to it is
+-- all waiting messages bound to a link are removed
 abbrev pub without_bound : Points → Term → Term
 without_bound p t =
     with_kept
@@ -82,14 +82,13 @@ abbrev pub how_many : Option ℕ → ℕ
 how_many None = 0
 how_many (Some n) = n
 
--- of those that the far side told of, how many are bound to it and wait
+-- how many bound and waiting messages are among those that the far side reported as accepted
 abbrev pub bound_told : Link → ℕ
 bound_told k =
     length (bound_among k (how_many (accepted_of k))) - length (bound_among k (window k).sent)
 
--- The messages that are bound to it and wait leave. What the far side told of the messages that
--- were
--- kept it told of those that are kept still.
+-- The waiting messages bound to the link are removed. The far side's count becomes one of the
+-- remaining messages.
 abbrev pub leaves_out : Link → Link
 leaves_out k =
     record k {
@@ -97,13 +96,13 @@ leaves_out k =
       availability = fewer (bound_told k) k.availability;
     }
 
--- They leave where its directions began anew since that was last asked.
+-- They are removed if the link's directions restarted since that was last read.
 abbrev pub anew : Link → Link
 anew k = if began k then leaves_out (unbegun k) else unbegun k
 
--- ---- it comes into service
+-- ---- a link comes into service
 
--- A link that came into service counts no longer as started anew.
+-- A link that came into service loses its mark of a restart.
 abbrev pub asked_of : Link → Link
 asked_of k = marked_served (record k {
   terminal = term_with_transceiver k.terminal
@@ -118,12 +117,12 @@ abbrev pub came_by : Option Link → Bool
 came_by None = false
 came_by (Some k) = came_first k
 
--- Its journal is low: it needs memory to make room there.
+-- whether its journal is low, so that making room needs memory
 abbrev pub low_at : Option Link → Bool
 low_at None = false
 low_at (Some k) = is_low k.terminal.processes
 
--- the terminal of the link at a place did this, and nothing else changed
+-- only the terminal of the link at a place changed, in this way
 pub record AtLink (did : Link → Link → Type 0) (l : ℕ) (old new : List Link) : Type 0 where
   pub before : Link
   pub there : slice_get old l ≡ Some before
@@ -131,8 +130,7 @@ pub record AtLink (did : Link → Link → Type 0) (l : ℕ) (old new : List Lin
   pub links : new ≡ slice_set old l after
   pub was : did before after
 
--- So much of the octets was taken. What the far side told of the messages that were kept it told of
--- those that are kept still.
+-- So many of the octets were taken. The far side's count becomes one of the remaining messages.
 pub record Listened (octets : List ℕ) (taken : ℕ) (old new : Link) : Type 0 where
   pub points : new.points ≡ old.points
   pub hand : new.hand ≡ old.hand
@@ -146,7 +144,7 @@ pub record Listened (octets : List ℕ) (taken : ℕ) (old new : Link) : Type 0 
   pub availability :
       new.availability ≡ fewer (length (held old) - length (held new)) old.availability
 
--- so many units were asked for, and these octets went out
+-- so many units were requested, and these octets were sent
 pub record Spoken (units : ℕ) (octets : List ℕ) (old new : Link) : Type 0 where
   pub points : new.points ≡ old.points
   pub hand : new.hand ≡ old.hand
@@ -154,7 +152,7 @@ pub record Spoken (units : ℕ) (octets : List ℕ) (old new : Link) : Type 0 wh
   pub sends : Sends units old.terminal new.terminal
   pub availability : new.availability ≡ old.availability
 
--- this unit went out
+-- this unit was sent
 pub record Sent (unit : Option Unit) (old new : Link) : Type 0 where
   pub points : new.points ≡ old.points
   pub hand : new.hand ≡ old.hand
@@ -164,7 +162,7 @@ pub record Sent (unit : Option Unit) (old new : Link) : Type 0 where
   pub sends : Sends 1 old.terminal new.terminal
   pub availability : new.availability ≡ old.availability
 
--- this was handed out
+-- this report was handed out
 pub record Reported (report : Option Report) (old new : Link) : Type 0 where
   pub points : new.points ≡ old.points
   pub hand : new.hand ≡ old.hand

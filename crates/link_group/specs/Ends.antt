@@ -1,5 +1,5 @@
--- One direction of a link between its two ends, over one life of it: from a beginning of both its
--- directions on, until they begin anew.
+-- One direction of a link between its two ends, over one life of it: from a restart of both
+-- directions to the next.
 use Rattle.std.specs.Prelude.{◌≡◌, ℕ, ◌-◌, Bool, true, false, Option, Some, None, List, [], ◌∷◌}
 use Rattle.std.specs.Prelude.{◌++◌, length}
 use Rattle.resend_store.specs.declared.messages.Msu.{Msu}
@@ -21,23 +21,23 @@ pub record Ends : Type 0 where
   -- the end that sends messages, and the one that accepts them
   pub near : TransceiverState
   pub far : TransceiverState
-  -- units under way from the one to the other, and back, what arrives first at the front
+  -- units under way from near to far, and back; the next to arrive is first
   pub forth : List Unit
   pub back : List Unit
-  -- what waited near as the directions began anew, and what came there since
+  -- the messages held near at the restart, and those given to it since
   pub taken : List Msu
-  -- what far accepted since, in order
+  -- the messages that far accepted since, in order
   pub delivered : List Msu
-  -- the number that far told, once level 3 held it there
+  -- the number that far reported while level 3 held it
   pub told : Option ℕ
-  -- of how many of the messages that near keeps that speaks, since it was heard there
+  -- how many of near's held messages that number acknowledges, once it was heard there
   pub place : Option ℕ
 
 abbrev pub units_in : Option UnitOut → List Unit
 units_in None = []
 units_in (Some out) = out.unit ∷ []
 
--- Both begin anew, and nothing of before is under way.
+-- Both ends restart, and no earlier unit is under way.
 abbrev pub ends_anew : TransceiverState → TransceiverState → Ends
 ends_anew h g = record {
   near = renewed h;
@@ -50,14 +50,14 @@ ends_anew h g = record {
   place = None;
 }
 
--- Messages come near, to be sent: from `send`, or from another link.
+-- Messages to send are given to near, by `send` or from another link.
 abbrev pub given : List Msu → Ends → Ends
 given ms x = record x {
   near = record x.near { sender = record x.near.sender { kept = x.near.sender.kept ++ ms } };
   taken = x.taken ++ ms;
 }
 
--- near is asked for a unit; so is far
+-- near sends a unit; below, far does
 abbrev pub near_sends : Ends → Ends
 near_sends x = record x {
   near = (gone x.near).transceiver;
@@ -70,7 +70,7 @@ far_sends x = record x {
   back = x.back ++ units_in (gone x.far).out;
 }
 
--- a unit arrives at far, and these are under way still
+-- a unit arrives at far, and these remain under way
 abbrev pub arrived : Unit → List Unit → Ends → Ends
 arrived u us x = record x {
   far = (judged x.far u).transceiver;
@@ -78,12 +78,12 @@ arrived u us x = record x {
   delivered = x.delivered ++ accepted_of x.far u;
 }
 
--- What was told of the messages that were kept it was told of those that are kept still.
+-- A count of the messages held becomes one of the messages that remain.
 abbrev pub place_behind : ℕ → Option ℕ → Option ℕ
 place_behind n None = None
 place_behind n (Some p) = Some (p - n)
 
--- a unit comes back to near
+-- a unit arrives back at near
 abbrev pub came_back : Unit → List Unit → Ends → Ends
 came_back u us x =
     let h = (judged x.near u).transceiver
@@ -93,11 +93,11 @@ came_back u us x =
       place = place_behind (length x.near.sender.kept - length h.sender.kept) x.place;
     }
 
--- What the two ends come to over a list of deeds. A line may lose units and delay them, and never
--- changes their order. Whatever else is done near, as long as it leaves what is kept to send: its
--- actors may tell it anything but to begin anew, and level 3 may hold it. Whatever else is done at
--- far, as long as it leaves what is known of the messages that come: its own messages may come, go
--- and be cleared. Once level 3 holds far it does so until the directions begin anew.
+-- The states of the two ends over any list of steps. A line may lose and delay units, but keeps
+-- their order. Near may do anything else that leaves its held messages: its actors may send any
+-- signal except a restart, and level 3 may hold it. Far may do anything else that leaves its
+-- receiver: its own messages may be given, sent and cleared. Once level 3 holds far, it does so
+-- until the directions restart.
 pub data Lives : Ends → Type 0 where
   begins : (h g : TransceiverState) → Lives (ends_anew h g)
   gets : (x : Ends) (ms : List Msu) → Lives x → Lives (given ms x)
@@ -115,7 +115,7 @@ pub data Lives : Ends → Type 0 where
   is_lost_back :
       (x : Ends) (u : Unit) (us : List Unit)
       → Lives x → x.back ≡ u ∷ us → Lives (record x { back = us })
-  -- far withholds acknowledgement, as it is now, or does so no longer
+  -- far begins to withhold acknowledgement, or stops
   withholds :
       (x : Ends) → Lives x → Lives (record x { far = effect (signal.Withhold true) x.far })
   acknowledges : (x : Ends) → Lives x → Lives (record x { far = record x.far { withheld = None } })
@@ -126,17 +126,17 @@ pub data Lives : Ends → Type 0 where
       (x : Ends) (g : TransceiverState)
       → Lives x → g.receiver ≡ x.far.receiver → g.withheld ≡ x.far.withheld
       → (is_held x.far.hold ≡ true → is_held g.hold ≡ true) → Lives (record x { far = g })
-  -- far tells the number of the message that it accepted last
+  -- far reports the number of the message that it accepted last
   tells :
       (x : Ends) → Lives x → is_held x.far.hold ≡ true
       → Lives (record x { told = Some x.far.receiver.last })
-  -- That is heard near, at any time behind.
+  -- That number is heard near, at any later time.
   hears : (x : Ends) → Lives x → Lives (record x { place = count_told x.near.sender x.told })
 
--- What far accepted, and then what is retrieved with the number that it told once it was held, is
--- what was taken: nothing is lost and nothing comes twice, and the order stays. That number is none
--- that acknowledges more than was sent. Also before that what was accepted is a beginning of what
--- was taken.
+-- What far accepted, then what is retrieved with the number that it reported while held, is what
+-- near was given: none is lost, none comes twice, and the order stays. That number never
+-- acknowledges more than was sent. At any earlier time, what far accepted is a beginning of what
+-- near was given.
 pub record EndsComplete : Type 0 where
   pub in_order : (x : Ends) → Lives x → (missing : List Msu) × (x.taken ≡ x.delivered ++ missing)
   pub whole :
@@ -146,15 +146,15 @@ pub record EndsComplete : Type 0 where
       (x : Ends) (n : ℕ) → Lives x → x.told ≡ Some n
       → (p : ℕ) × (count_told x.near.sender x.told ≡ Some p)
 
--- ---- what a terminal does is such a deed
+-- ---- what a terminal does is such a step
 
--- what has the directions begin anew
+-- whether a signal restarts the directions
 abbrev pub is_beginning : EnvSignal → Bool
 is_beginning signal.Fresh = true
 is_beginning _ = false
 
--- Whatever else its actors tell an end, that a report is taken there, that level 3 holds it, and
--- that the far one's own messages are cleared or handed out: all that is such a deed.
+-- These are such steps: any other signal of an end's actors, a report, a hold by level 3, and the
+-- clearing or retrieval of far's own messages.
 pub record EndsHeed : Type 0 where
   pub near_told :
       (x : Ends) (s : EnvSignal) → is_beginning s ≡ false

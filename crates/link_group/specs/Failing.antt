@@ -1,5 +1,5 @@
--- Changeover at one link (Q.704): how it begins, what is said of it, and which messages are handed
--- out.
+-- Changeover at one link (Q.704): how it begins, the messages about it, and which messages are
+-- retrieved.
 use Rattle.std.specs.Prelude.{ℕ, if◌then◌else◌, List, [], Option, Some, None}
 use Rattle.resend_store.specs.declared.messages.Msu.{Msu}
 use Rattle.link_transceiver.specs.declared.signals.Hold.TheVariants as hold
@@ -20,7 +20,7 @@ use Rattle.link_group.specs.OneLink.{with_hold, hold_by}
 abbrev pub fail_fault_of : Link → Option FailError
 fail_fault_of k = if is_changing k then Some fail.Waiting else None
 
--- From then on it is held.
+-- From the beginning of its changeover the link is held.
 abbrev pub changeover_begins_at : Link → Link
 changeover_begins_at k =
     with_availability (changeover_begins k.availability) (with_hold hold.Kept k)
@@ -28,12 +28,12 @@ changeover_begins_at k =
 abbrev pub order_of : Link → Kind
 order_of k = order_after k.availability (accepted_at k)
 
--- how many of its messages a message acknowledges by its number, as they stand when it is heard
+-- how many held messages the number of a changeover message acknowledges when it is heard
 abbrev pub count_heard : Kind → Link → Option ℕ
 count_heard what k = count_told (window k) (number_in what)
 
--- An order begins the changeover where none goes on, unless it may be a late one. It is an answer,
--- as an acknowledgement is.
+-- An order begins the changeover if none goes on, unless it may be a late one. Like an
+-- acknowledgement, it is also an answer.
 abbrev pub marked : Kind → Link → Availability
 marked what k =
     told (answer_after k.availability (count_heard what k)) (begun_by_message what k.availability)
@@ -46,12 +46,12 @@ hears what k =
 abbrev pub replies : Kind → Link → Option Kind
 replies what k = reply_after what k.availability (accepted_at k)
 
--- what a link answers, if it is there
+-- a link's answer, if the link exists
 abbrev pub replies_at : Kind → Option Link → Option Kind
 replies_at what None = None
 replies_at what (Some k) = replies what k
 
--- what a message was, if the link is there
+-- how a message counted, if the link exists
 abbrev pub heard_at : Kind → Option Link → Hearing
 heard_at what None = hearing.Nothing
 heard_at what (Some k) = hearing_of what k.availability
@@ -66,7 +66,7 @@ messages_by f (Some k) = handed_by k (f k)
 abbrev pub given_up : Link → Link
 given_up k = hands_out None k
 
--- how many of its messages are sent and not acknowledged, those that are bound to it left out
+-- how many messages not bound to the link are unacknowledged
 abbrev pub sent_by : Option Link → ℕ
 sent_by None = 0
 sent_by (Some k) = unknown k

@@ -1,5 +1,5 @@
--- Two sets that the lines of a link join, call by call, over one life of that link: from a
--- beginning of both its directions on, until they begin anew.
+-- Two sets joined by the lines of a link, call by call, over one life of that link: from a restart
+-- of both directions to the next.
 use Rattle.std.specs.Prelude.{◌≡◌, ℕ, ◌==◌, Bool, true, false, if◌then◌else◌, List, [], ◌∷◌, ◌++◌}
 use Rattle.std.specs.Prelude.{◌⊎◌, length, take, drop, Option, Some, None, slice_get, option_map}
 use Rattle.std.specs.Option.{option_to_list}
@@ -42,22 +42,22 @@ use Rattle.link_group.specs.Along.{units_along, Arrive}
 abbrev pub end_of : Link → TransceiverState
 end_of k = k.terminal.processes.transceiver
 
--- that of the link at a place, if it is there
+-- the end of the link at a place, if it exists
 abbrev pub end_at : LinkSet → ℕ → Option TransceiverState
 end_at c l = option_map end_of (slice_get c.links l)
 
--- ---- what a call comes to at one link
+-- ---- the effect of a call at one link
 
 pub record Deed : Type 0 where
-  -- messages that came to it, to be sent
+  -- messages given to the link, to be sent
   pub given : List Msu
-  -- units that went out by it, and those that came in and went through the stores
+  -- units sent in the call, and received units that went through the stores
   pub out : List Unit
   pub came : List Unit
-  -- messages that it accepted of these
+  -- messages accepted from the received units
   pub accepted : List Msu
-  -- the number that the far side told of it, and the one that the far side is told, in a message of
-  -- changeover
+  -- the number heard from the far side about the link, and the one told to it, in a changeover
+  -- message
   pub heard : Option ℕ
   pub told : Option ℕ
 
@@ -75,15 +75,15 @@ abbrev pub all_by : Option Link → List Msu
 all_by None = []
 all_by (Some k) = held k
 
--- what a link keeps to send
+-- the messages that a link holds
 abbrev pub all_at : LinkSet → ℕ → List Msu
 all_at c l = all_by (slice_get c.links l)
 
--- and what it keeps more behind a call
+-- the messages that a call added to those
 abbrev pub more_at : ℕ → LinkSet → LinkSet → List Msu
 more_at l c e = drop (length (all_at c l)) (all_at e l)
 
--- the number that a message tells of a link
+-- the number in a changeover message about a link
 abbrev pub number_of : ℕ → Option Changeover → Option ℕ
 number_of l None = None
 number_of l (Some m) = if m.label.sls == l then number_in m.kind else None
@@ -94,7 +94,7 @@ if_for c (Some m) = if is_for c m then Some m else None
 
 -- ---- the calls of one set
 
--- whatever a terminal did
+-- any effect on a link
 abbrev pub Anything : Link → Link → Type 0
 Anything old new = Prim.Unit {0}
 
@@ -110,9 +110,9 @@ pub data OfOne (i : ℕ) : LinkSet → LinkSet → Type 0 where
   is_commanded : (c e : LinkSet) (command : Command) → ByCommand command i c e → OfOne i c e
   refuses_it : (c e : LinkSet) → Alone Anything i c e → OfOne i c e
 
--- Each call of a set by which a link's directions don't begin anew, and by which nothing that the
--- link keeps to send is handed out, given up or cleared: with the set behind it, and what it comes
--- to at that link. A call that is refused and changes nothing is none.
+-- The calls of a set that don't restart a link's directions, and don't retrieve, give up or clear
+-- what the link holds. Each has the set after it, and its effect at that link. A refused call that
+-- changes nothing is none of these.
 pub data Does (l : ℕ) : LinkSet → LinkSet → Deed → Type 0 where
   sends :
       (c : LinkSet) (m : Msu) → link_of c.table (selection_of m) ≡ Some l
@@ -166,7 +166,7 @@ pub data Does (l : ℕ) : LinkSet → LinkSet → Deed → Type 0 where
       })
   by_other : (c e : LinkSet) (i : ℕ) → (l ≡ i → ⊥) → OfOne i c e → Does l c e nothing
 
--- The other calls by which they don't begin anew: what the link keeps to send goes.
+-- The other calls without a restart: they empty the link's buffers.
 pub data Empties (l : ℕ) : LinkSet → LinkSet → Type 0 where
   retrieves :
       (c : LinkSet) (k : Link) → slice_get c.links l ≡ Some k
@@ -181,22 +181,22 @@ pub data Empties (l : ℕ) : LinkSet → LinkSet → Type 0 where
 -- ---- two sets
 
 pub record Joined : Type 0 where
-  -- the set that sends by the link, and the one that accepts
+  -- the set that sends by the link, and the set that accepts
   pub near : LinkSet
   pub far : LinkSet
-  -- units under way from the one to the other, and back, what arrives first at the front: those
-  -- that went out since its directions began anew
+  -- units under way from near to far, and back, sent since the directions restarted; the next to
+  -- arrive is first
   pub forth : List Unit
   pub back : List Unit
-  -- what the link kept near as its directions began anew, and what `send`, `send_by` and `divert`
-  -- gave it since
+  -- the messages that the link held near at the restart, and those from `send`, `send_by` and
+  -- `divert` since
   pub taken : List Msu
-  -- what far accepted by it since, in order
+  -- the messages that far accepted by it since, in order
   pub delivered : List Msu
-  -- the number that far told of it since
+  -- the number that far reported about it since
   pub told : Option ℕ
 
--- Its directions began anew, and no message was sent since; none was accepted.
+-- The directions restarted, and no message was sent since; below, none was accepted.
 pub record SendsAnew (h : TransceiverState) : Type 0 where
   pub sender : h.sender ≡ refreshed h.sender
   pub spare : h.spare ≡ 0
@@ -209,22 +209,22 @@ abbrev pub counted_in : Option Changing → Option ℕ
 counted_in None = None
 counted_in (Some c) = if is_out c then None else count_in c.answer
 
--- whether a number that is heard in a changeover comes to count
+-- whether a number heard in a changeover would count
 abbrev pub takes_number : Option Changing → Bool
 takes_number None = false
 takes_number (Some c) = counts_in c
 
--- Of how many messages that are kept it counts in a retrieval that they are accepted: none without
--- a number, and while messages are handed out.
+-- How many held messages count as accepted in a retrieval: none without a number, and none once
+-- messages are retrieved.
 abbrev pub counted_of : Option Link → Option ℕ
 counted_of None = None
 counted_of (Some k) = counted_in k.availability.changing
 
--- such a count of the link at a place
+-- the count of the link at a place
 abbrev pub counted_at : LinkSet → ℕ → Option ℕ
 counted_at c l = counted_of (slice_get c.links l)
 
--- A number that is heard is the one that far told.
+-- A number that is heard is the one that far reported.
 abbrev pub IsTold : Option ℕ → Option ℕ → Type 0
 IsTold None told = Prim.Unit {0}
 IsTold (Some n) told = told ≡ Some n
@@ -233,10 +233,10 @@ abbrev pub told_behind : Option ℕ → Option ℕ → Option ℕ
 told_behind None told = told
 told_behind (Some n) told = Some n
 
--- What two sets and the lines of a link come to, call by call. The lines may lose units and delay
--- them, and never change their order; nothing is asked of units that don't go through the stores:
--- those that bear a status, and all while none are taken. As its directions begin anew no number
--- counts near; of those that are heard near none comes to count but the one that far told.
+-- The states of two sets and of a link's lines, call by call. Lines may lose and delay units, but
+-- keep their order. Units that don't go through the stores are free: LSSUs, and all units while
+-- none are taken. When the directions restart, no number counts near. Of the numbers heard near,
+-- only the one that far reported comes to count.
 pub data Fares (l : ℕ) : Joined → Type 0 where
   begins :
       (c d : LinkSet) (h g : TransceiverState)
@@ -276,8 +276,8 @@ pub data Fares (l : ℕ) : Joined → Type 0 where
       (x : Joined) (e : LinkSet)
       → Fares l x → Empties l x.far e → Fares l (record x { far = e })
 
--- What a set comes to whatever units come by the link, until its directions begin anew, and the
--- messages that it accepts by it.
+-- A set after any units received by the link, until its directions restart, and the messages that
+-- it accepts by it.
 pub data Goes (l : ℕ) : LinkSet → LinkSet → List Msu → Type 0 where
   stays : (d : LinkSet) → Goes l d d []
   does :
@@ -287,12 +287,12 @@ pub data Goes (l : ℕ) : LinkSet → LinkSet → List Msu → Type 0 where
       (d e f : LinkSet) (accepted : List Msu)
       → Goes l d e accepted → Empties l e f → Goes l d f accepted
 
--- What far accepts by the link until its directions begin anew, followed by what near hands out
--- with the number that far told, is what the link kept as that life began, followed by what `send`
--- and `divert` gave it in it, messages that are bound to it left out: each once, in order. The
--- number is told while far is held, and may be heard at any time behind; where no other counts then
--- in the changeover that goes on near, or begins by that message, it counts. What far accepted is a
--- beginning of that at each moment.
+-- What far accepts by the link until its directions restart, then what near retrieves with the
+-- number that far reported, is what the link held at the beginning of that life, then what `send`
+-- and `divert` gave it, without bound messages: each once, in order. The number is reported while
+-- far is held, and may be heard at any later time. It counts if no other one does in near's
+-- changeover, which goes on or begins by that message. At each moment, what far accepted is a
+-- beginning of what was given.
 pub record SetsComplete : Type 0 where
   pub complete :
       (l : ℕ) (x : Joined) (k : Link) (p : ℕ) (e : LinkSet) (later : List Msu)

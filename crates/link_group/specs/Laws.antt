@@ -1,4 +1,4 @@
--- What holds over every list of calls.
+-- Laws over every list of calls.
 use Rattle.std.specs.Prelude.{◌≡◌, ◌-◌, ◌^◌, ℕ, min, List, [], Option, Some, None, slice_get}
 use Rattle.std.specs.List.{count_by}
 use Rattle.resend_store.specs.declared.messages.Msu.{Msu}
@@ -14,11 +14,11 @@ abbrev pub held_by : Option Link → List Msu
 held_by None = []
 held_by (Some k) = messages k
 
--- what a link holds, those that are bound to it left out; nothing where it isn't there
+-- the messages that a link holds, without bound ones; none if there is no such link
 abbrev pub held_at : LinkSet → ℕ → List Msu
 held_at c l = held_by (slice_get c.links l)
 
--- what it handed out and isn't diverted yet
+-- the messages in a link's hand: retrieved and not yet diverted
 abbrev pub hand_at : LinkSet → ℕ → List Msu
 hand_at c l = hand_by (slice_get c.links l)
 
@@ -31,26 +31,26 @@ places_of c accepted gone = record {
   link = link_of c.table;
 }
 
--- Each message that was accepted stands in one place, or has left, in order for each selection.
--- What left as octets were heard is what their units acknowledged, as that link's terminal says of
--- them; what left otherwise is what the far side told of, or unsure.
+-- Each accepted message is in exactly one place, or has left, in order for each selection. Messages
+-- that left when octets were received are those that the units acknowledged, as the terminal's
+-- contract says. The others that left are those that the far side reported, or unsure.
 abbrev pub EachInOnePlace : Type 0
 EachInOnePlace =
     (c : LinkSet) (accepted : List Msu) (gone : List Gone)
     → Reached c accepted gone → OnePlace (places_of c accepted gone)
 
--- of how many of those that have left it was never known whether they arrived
+-- how many of those that left are unsure: it was never known whether they arrived
 abbrev pub unsure_in : List Gone → ℕ
 unsure_in gone = count_by (λ g. g.unsure) gone
 
--- That is what the set's count of unsure messages says, up to its greatest value.
+-- The set's count of unsure messages is this number, up to its greatest value.
 abbrev pub UnsureAreCounted : Type 0
 UnsureAreCounted =
     (c : LinkSet) (accepted : List Msu) (gone : List Gone)
     → Reached c accepted gone → c.unsure ≡ min (2 ^ 64 - 1) (unsure_in gone)
 
--- Both of one set: there is a list of calls that leads to it, with what `send` took in it and what
--- of that has left, and the rest stands in its one place; and how many are unsure.
+-- Both laws of one set. A list of calls leads to it, with what `send` took and which of these left.
+-- The rest are each in their one place, and the unsure ones are counted.
 pub record Accounted (c : LinkSet) : Type 0 where
   pub accepted : List Msu
   pub gone : List Gone

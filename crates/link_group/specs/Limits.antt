@@ -1,4 +1,4 @@
--- Numbers of a link set.
+-- Limits of a link set.
 use Rattle.std.specs.Prelude.{ℕ}
 
 -- a link's number has the 4 bits of a selection

@@ -1,4 +1,4 @@
--- What a set does by one of its terminals, and what it makes of a link that comes into service.
+-- What a set does with one of its terminals, and with a link that comes into service.
 use Rattle.std.specs.Prelude.{◌≡◌, ℕ, ◌+◌, ◌-◌, ◌^◌, min, ◌≤◌, Bool, List, length, map, slice_get}
 use Rattle.std.specs.List.{list_any}
 use Rattle.link_group.specs.declared.link.Link.{Link}
@@ -13,7 +13,7 @@ use Rattle.link_group.specs.Doing.{AtLink, asked, came_first, came_by, admits_at
 
 -- ---- a link comes into service
 
--- As a link is in service, not held, and admitted for the first time, the table is made anew.
+-- The table is remade if the link is in service, not held, and admitted for the first time.
 unfoldable pub seen : ℕ → LinkSet → LinkSet
 seen l c =
     record c {
@@ -30,8 +30,8 @@ all_seen c =
 
 -- ---- level 3 admits a link
 
--- It is admitted, or is no longer; as it is in service, not held, and admitted for the first time
--- the table is made anew.
+-- The link is admitted, or no longer. The table is remade if it is in service, not held, and
+-- admitted for the first time.
 unfoldable pub after_admission : LinkSet → ℕ → Bool → LinkSet
 after_admission c l way =
     record c {
@@ -42,14 +42,14 @@ after_admission c l way =
 
 -- ---- a call of one terminal
 
--- a call of the terminal of the link at a place, and what is made of a link that comes into service
--- by it
+-- a call of the terminal of the link at a place, and the effect if the link comes into service by
+-- it
 pub record ByLink (did : Link → Link → Type 0) (l : ℕ) (c d : LinkSet) : Type 0 where
   pub links : List Link
   pub at : AtLink did l c.links links
   pub set : d ≡ seen l (record c { links = links })
 
--- a call of the terminal of the link at a place, by which nothing else changed
+-- a call of the terminal of the link at a place, with no other change
 pub record Alone (did : Link → Link → Type 0) (l : ℕ) (c d : LinkSet) : Type 0 where
   pub links : List Link
   pub at : AtLink did l c.links links
@@ -57,9 +57,8 @@ pub record Alone (did : Link → Link → Type 0) (l : ℕ) (c d : LinkSet) : Ty
 
 -- ---- commands
 
--- A command to the terminal of the link at a place. What went as its text emptied the buffers
--- counts as unsure, but for messages that are bound to the link; the count stays at its greatest
--- value.
+-- A command to the terminal of the link at a place. Messages cleared by its text count as unsure,
+-- except those bound to the link; the count stops at its greatest value.
 pub record ByCommand (command : Command) (l : ℕ) (c d : LinkSet) : Type 0 where
   pub links : List Link
   pub at : AtLink (Commanded command) l c.links links
@@ -70,7 +69,7 @@ pub record ByCommand (command : Command) (l : ℕ) (c d : LinkSet) : Type 0 wher
         unsure = min (2 ^ 64 - 1) (c.unsure + length (cleared_at command (slice_get c.links l)));
       })
 
--- Why a command was refused, and what came of it. Nothing changed, but that the journal of a
+-- Why a command was refused, and the set then. Nothing changed, except that the journal of a
 -- terminal that refused it may have room now.
 abbrev pub IsCommandError : Command → ℕ → LinkSet → LinkSet → CommandError → Type 0
 IsCommandError command l c d error.NoLink = (length c.links ≤ l) × (d ≡ c)

@@ -1,4 +1,4 @@
--- How retrieved messages go to links (Q.704, diversion).
+-- Diversion of retrieved messages to links (Q.704).
 use Rattle.std.specs.Prelude.{ℕ, ◌+◌, ◌==◌, ◌&&◌, ◌||◌, zero, suc, nat_lt, Bool, true, false, not}
 use Rattle.std.specs.Prelude.{if◌then◌else◌, List, [], ◌∷◌, ◌++◌, length, Option, Some, None}
 use Rattle.std.specs.Prelude.{is_some, slice_get, slice_set}
@@ -27,11 +27,11 @@ abbrev pub retrieval_of : Option Link → Option (List ℕ)
 retrieval_of None = None
 retrieval_of (Some k) = retrieval_by k.availability.changing
 
--- It handed out its messages, and they are not all diverted yet.
+-- Its messages are retrieved, and not all diverted yet.
 abbrev pub is_out_at : Option Link → Bool
 is_out_at o = is_some (retrieval_of o)
 
--- those that are not diverted yet
+-- the messages not diverted yet
 abbrev pub hand_by : Option Link → List Msu
 hand_by None = []
 hand_by (Some k) = k.hand
@@ -40,26 +40,26 @@ abbrev pub count_if : Bool → ℕ → Option ℕ
 count_if true n = Some n
 count_if false n = None
 
--- how many these are
+-- how many messages aren't diverted yet
 abbrev pub hand_count : Option Link → Option ℕ
 hand_count o = count_if (is_out_at o) (length (hand_by o))
 
--- They are taken out of its hand.
+-- The messages are taken from its hand.
 abbrev pub without_hand : Link → Link
 without_hand k = with_hand [] k
 
--- It has an outage of a processor, or has none, as is asked.
+-- The link has a processor outage, or has none, as requested.
 abbrev pub is_so_out : Bool → Link → Bool
 is_so_out outage k = if outage then has_outage k else not (has_outage k)
 
--- No changeover goes on there, and it hasn't failed, unless those that failed are asked for too.
+-- No changeover goes on there, and it hasn't failed, unless failed links are allowed.
 abbrev pub is_still : Bool → Link → Bool
 is_still failed k = not (is_changing k) && (failed || not k.availability.failed)
 
 abbrev pub is_open : Bool → Bool → Link → Bool
 is_open failed outage k = shares k && (is_so_out outage k && is_still failed k)
 
--- the places of those that may, from a place on
+-- the places of the links that pass a test, from a place on
 unfoldable pub places_from : (Link → Bool) → ℕ → List Link → List ℕ
 places_from may n [] = []
 places_from may n (k ∷ ks) =
@@ -72,17 +72,17 @@ abbrev pub first_some : List ℕ → List ℕ → List ℕ
 first_some [] others = others
 first_some (l ∷ ls) others = l ∷ ls
 
--- The links that selections may have: those without an outage, or where there are none, those with
--- one (Q.704, 3.2.4).
+-- The links that selections may have: those without an outage, or else those with one (Q.704,
+-- 3.2.4).
 unfoldable pub able_links : Bool → List Link → List ℕ
 able_links failed ks = first_some (open_links failed false ks) (open_links failed true ks)
 
--- Of the links with an outage, or of those without, those that never failed; where there are none,
--- those that failed and whose changeover is over.
+-- Of the links with an outage, or of those without: the ones that never failed, or else failed ones
+-- whose changeover is over.
 unfoldable pub others : Bool → List Link → List ℕ
 others outage ks = first_some (open_links false outage ks) (open_links true outage ks)
 
--- The links that selections get as one may have some for the first time.
+-- The links for a table that is remade.
 unfoldable pub anew_links : List Link → List ℕ
 anew_links ks = first_some (others false ks) (others true ks)
 
@@ -90,17 +90,16 @@ abbrev pub own_place : ℕ → Bool → Option Link → List ℕ
 own_place l outage None = []
 own_place l outage (Some k) = if shares k && is_so_out outage k then l ∷ [] else []
 
--- Of the links with an outage, or of those without, those that take what a link handed out: others
--- that never failed; where there are none, others whose changeover doesn't go on; and where there
--- are none of these either, itself.
+-- Of the links with an outage, or of those without, the ones that may take a link's retrieved
+-- messages: others that never failed, else others whose changeover is over, else the link itself.
 unfoldable pub way : ℕ → Bool → List Link → List ℕ
 way l outage ks = first_some (others outage ks) (own_place l outage (slice_get ks l))
 
--- Those with an outage take it only where there are no others.
+-- Links with an outage may take them only if there are no others.
 unfoldable pub takers : ℕ → List Link → List ℕ
 takers l ks = first_some (way l false ks) (way l true ks)
 
--- Itself takes it.
+-- whether the link itself takes its messages
 abbrev pub is_own : ℕ → List ℕ → Bool
 is_own l [] = false
 is_own l (t ∷ ts) = t == l
@@ -112,7 +111,7 @@ abbrev pub on_by : Points → ℕ → Option Msu → Bool
 on_by p s None = false
 on_by p s (Some m) = is_unbound_on p s m
 
--- whether a link holds messages of a selection, those that are bound to it left out
+-- whether a link holds messages of a selection, without bound ones
 unfoldable pub holds : ℕ → Link → Bool
 holds s k = list_any (is_unbound_on k.points s) (held k)
 
@@ -128,7 +127,7 @@ term_takes ms t =
           t.processes.transceiver.sender { kept = t.processes.transceiver.sender.kept ++ ms };
     })
 
--- They stand behind all that it holds.
+-- The messages are put after all that the link holds.
 unfoldable pub takes_on : List Msu → Link → Link
 takes_on ms k = record k { terminal = term_takes ms k.terminal }
 
@@ -139,7 +138,7 @@ has_room n k = not (nat_lt MOST_KEPT (length (held k) + n))
 pub record Diversion : Type 0 where
   pub links : List Link
   pub table : List (Option ℕ)
-  -- what is not diverted yet
+  -- the messages not diverted yet
   pub rest : List Msu
 
 abbrev pub room_fault : ℕ → Link → Option DivertFault
@@ -156,7 +155,7 @@ abbrev pub move_fault_by : Diversion → ℕ → Option ℕ → Option DivertFau
 move_fault_by d n None = Some divert.NoLink
 move_fault_by d n (Some t) = take_fault n (slice_get d.links t)
 
--- why a selection doesn't go: no link may take it, or the one that does has no room for all of its
+-- why a selection isn't diverted: no link may take it, or that link has no room for all its
 -- messages
 unfoldable pub move_fault : List ℕ → ℕ → Diversion → Option DivertFault
 move_fault ls s d =
@@ -170,12 +169,12 @@ moved_by s d (Some t) = record {
   rest = off s d.rest;
 }
 
--- All messages of a selection go to its link among those that may take them, and that link is the
--- selection's from then on. A selection of which there are none stays as it is.
+-- All messages of a selection go to its link among those that may take them; the selection has that
+-- link from then on. A selection without messages stays.
 unfoldable pub moved : List ℕ → ℕ → Diversion → Diversion
 moved ls s d = if length (of s d.rest) == 0 then d else moved_by s d (pick ls s)
 
--- What a diversion has come to, and why it went no further.
+-- The state of a diversion, and why it stopped, if it did.
 pub record Diverted : Type 0 where
   pub at : Diversion
   pub fault : Option DivertFault
@@ -184,12 +183,12 @@ abbrev pub goes_on : (Diversion → Diverted) → Diversion → Diversion → Op
 goes_on rest old new None = rest new
 goes_on rest old new (Some fault) = record { at = old; fault = Some fault }
 
--- so many selections, from one on, in turn; the first that can't go ends it
+-- so many selections, from one on, in order; the first that can't be diverted stops it
 unfoldable pub moves : List ℕ → ℕ → ℕ → Diversion → Diverted
 moves ls zero s d = record { at = d; fault = None }
 moves ls (suc k) s d = goes_on (moves ls k (s + 1)) d (moved ls s d) (move_fault ls s d)
 
--- ---- the retrieval goes back to its own link, as a whole and in order
+-- ---- the messages go back to their own link, all of them, in order
 
 unfoldable pub back_fault : ℕ → Diversion → Option DivertFault
 back_fault l d =
@@ -207,8 +206,8 @@ unfoldable pub hands_over : List ℕ → ℕ → Diversion → Diverted
 hands_over ls l d =
     if is_own l ls then gives_back l d (back_fault l d) else moves ls SELECTIONS 0 d
 
--- As a changeover ends, each selection that is still the link's, and of which it holds nothing,
--- gets its link among those that may take it.
+-- When a changeover ends, each selection that still has the link, and of which the link holds
+-- nothing, gets its link among those that may take it.
 abbrev pub ends_on : List ℕ → ℕ → Option Link → Option ℕ → ℕ → Option ℕ
 ends_on ls l k None s = None
 ends_on ls l k (Some j) s = if (j == l) && not (holds_at s k) then pick ls s else Some j

@@ -14,7 +14,7 @@ use Rattle.link_group.specs.Moving.{able_links}
 abbrev pub IsUnused : Term → Type 0
 IsUnused t = (window_of t).kept ≡ []
 
--- It isn't held. What came into service before the set was made counts by what stands.
+-- It isn't held. If it came into service earlier, only its present state counts.
 abbrev pub fresh : Points → Term → Link
 fresh p t =
     record {
@@ -36,7 +36,7 @@ fresh p t =
 abbrev pub points : ℕ → ℕ → Points
 points own peer = record { own = own; peer = peer }
 
--- Links that are in service have the selections from the beginning.
+-- Links in service have the selections from the beginning.
 unfoldable pub new_set : ℕ → ℕ → List Term → LinkSet
 new_set own peer ts = record {
   own = own;

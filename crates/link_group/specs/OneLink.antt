@@ -1,4 +1,4 @@
--- One link of a set: its terminal, and what is marked there.
+-- One link of a set: its terminal, its marks and its hand.
 use Rattle.std.specs.Prelude.{ℕ, ◌+◌, ◌%◌, ◌==◌, ◌&&◌, ◌||◌, nat_le, min, Bool, true, false, not}
 use Rattle.std.specs.Prelude.{if◌then◌else◌, List, length, take}
 use Rattle.std.specs.Prelude.{drop, filter, Option, Some, None, is_some, Result, Ok, Err}
@@ -36,15 +36,15 @@ abbrev pub fault_of : {A E : Type 0} → Result A E → Option E
 fault_of (Ok x) = None
 fault_of (Err e) = Some e
 
--- what its terminal keeps to send, and how
+-- its terminal's window of messages to send
 abbrev pub window : Link → Window
 window k = window_of k.terminal
 
--- what it holds: the unacknowledged first, then the unsent
+-- the messages that it holds: the unacknowledged first, then the unsent
 abbrev pub held : Link → List Msu
 held k = (window k).kept
 
--- those that aren't bound to it
+-- the held messages that aren't bound to it
 abbrev pub messages : Link → List Msu
 messages k = unbound k.points (held k)
 
@@ -55,22 +55,22 @@ is_serving k = k.terminal.processes.transceiver.in_service
 abbrev pub hold_of : Link → Hold
 hold_of k = k.terminal.processes.transceiver.hold
 
--- It may take messages: it is in service, and not held.
+-- The link may take messages: it is in service, and not held.
 abbrev pub carries : Link → Bool
 carries k = is_serving k && not (is_held (hold_of k))
 
--- Selections and what other links hand out may be given to it: level 3 admits it too.
+-- The link may be given selections and other links' retrieved messages: level 3 admits it too.
 abbrev pub shares : Link → Bool
 shares k = carries k && k.availability.admitted
 
--- what says that the processor here is out: status 4 goes out (Q.703, 8)
+-- this side has a processor outage: status 4 is sent (Q.703, 8)
 abbrev pub is_outage : Option LineKind → Bool
 is_outage None = false
 is_outage (Some (kind.Status code)) = code == 4
 is_outage (Some kind.FillIn) = false
 is_outage (Some kind.Messages) = false
 
--- what says that messages may go out
+-- messages may be sent
 abbrev pub is_messages : Option LineKind → Bool
 is_messages None = false
 is_messages (Some (kind.Status code)) = false
@@ -86,11 +86,11 @@ is_far_out k = k.terminal.processes.transceiver.far_out
 abbrev pub is_own_out : Link → Bool
 is_own_out k = is_outage k.terminal.processes.transceiver.line
 
--- the processor there is out, or that here
+-- the far side or this side has a processor outage
 abbrev pub has_outage : Link → Bool
 has_outage k = is_far_out k || is_own_out k
 
--- the number of the last message that was accepted there
+-- the number of the last message that this side accepted
 abbrev pub accepted_at : Link → ℕ
 accepted_at k = k.terminal.processes.transceiver.receiver.last
 
@@ -114,15 +114,15 @@ with_hold hold k =
           (record k.terminal.processes.transceiver { hold = hold });
     }
 
--- Where a changeover goes on a link is held until both its directions begin anew behind the moment
--- when its messages are handed out, else until they begin anew.
+-- During a changeover, a link is held until both directions restart after its messages are
+-- retrieved. Otherwise it is held until they restart.
 abbrev pub hold_by : Option Changing → Hold
 hold_by None = hold.UntilAnew
 hold_by (Some c) = if is_out c then hold.UntilAnew else hold.Kept
 
--- ---- a message for it
+-- ---- a message to send
 
--- K2 in changeover, K1 out of service, held or not admitted, E1 where as many wait as may
+-- K2 in changeover, K1 out of service, held or not admitted, E1 if the most messages wait
 unfoldable pub put_fault : Link → Option SendError
 put_fault k =
     if is_changing k then Some send.Waiting
@@ -134,18 +134,17 @@ put_fault k =
 unfoldable pub puts : Msu → Link → Link
 puts m k = with_window (with_put (window k) m) k
 
--- ---- a message that is bound to it
+-- ---- a message bound to the link
 
--- K1 out of service or held, E1 where it holds as many as it may
+-- K1 out of service or held, E1 if it holds the most messages
 unfoldable pub bind_fault : Link → Option BindError
 bind_fault k =
     if carries k then (if nat_le MOST_KEPT (length (held k)) then Some bind.Full else None)
     else Some bind.NoLink
 
--- ---- its messages for a changeover
+-- ---- its messages in a changeover
 
--- How many of the messages that are kept a number acknowledges: none is known where that would be
--- more than are sent.
+-- How many of the held messages a number acknowledges; unknown if that is more than were sent.
 abbrev pub count_of : Window → ℕ → Option ℕ
 count_of w fsn = if nat_le (count_by w fsn) w.sent then Some (count_by w fsn) else None
 
@@ -153,13 +152,13 @@ abbrev pub count_told : Window → Option ℕ → Option ℕ
 count_told w None = None
 count_told w (Some fsn) = count_of w fsn
 
--- where the far side didn't tell how many it accepted it isn't known which of those that were sent
--- have arrived
+-- unless the far side reported how many it accepted, it isn't known which of the sent messages
+-- arrived
 abbrev pub unsure_by : ℕ → Option ℕ → Option RetrieveError
 unsure_by sent (Some n) = None
 unsure_by sent None = if sent == 0 then None else Some (retrieve.Unsure sent)
 
--- how many are sent of those that aren't bound to it
+-- how many messages not bound to it are unacknowledged
 unfoldable pub unknown : Link → ℕ
 unknown k = length (unbound k.points (unacknowledged (window k)))
 
@@ -167,18 +166,18 @@ abbrev pub bound_by : Points → Option Msu → Bool
 bound_by p None = false
 bound_by p (Some m) = is_bound p m
 
--- of the first so many that it holds, those that are bound to it
+-- the bound messages among the first so many that it holds
 abbrev pub bound_among : Link → ℕ → List Msu
 bound_among k n = filter (is_bound k.points) (take n (held k))
 
--- K2 while its retrieval is out, and before an answer for as long as is waited; then K4
+-- K2 while its messages are retrieved, and while an answer is awaited; then K4
 unfoldable pub retrieve_fault_in : Link → Changing → Option RetrieveError
 retrieve_fault_in k c =
     if is_out c then Some retrieve.Waiting
     else (if is_waiting c then Some retrieve.Waiting
     else unsure_by (unknown k) (count_in c.answer))
 
--- K1 where no changeover goes on
+-- K1 if no changeover goes on
 abbrev pub retrieve_fault_by : Link → Option Changing → Option RetrieveError
 retrieve_fault_by k None = Some retrieve.NoLink
 retrieve_fault_by k (Some c) = retrieve_fault_in k c
@@ -190,27 +189,27 @@ abbrev pub accepted_in : Option Changing → Option ℕ
 accepted_in None = None
 accepted_in (Some c) = count_in c.answer
 
--- how many of the messages that are kept the far side accepted, where it told that
+-- how many of the held messages the far side accepted, if it reported that
 unfoldable pub accepted_of : Link → Option ℕ
 accepted_of k = accepted_in k.availability.changing
 
--- What stands behind so many accepted ones; where it isn't known how many are, what wasn't sent
--- since both directions last began anew.
+-- The messages after so many accepted ones; if that isn't known, those not sent since both
+-- directions last restarted.
 abbrev pub lacking : Window → Option ℕ → List Msu
 lacking w (Some n) = drop n w.kept
 lacking w None = waiting w
 
--- Those that are bound to it are left out.
+-- Without the bound messages.
 abbrev pub handed_by : Link → Option ℕ → List Msu
 handed_by k n = unbound k.points (lacking (window k) n)
 
--- the number of the last of so many accepted ones that are sent
+-- the number of the last of so many accepted messages, as far as they were sent
 abbrev pub number_behind : Window → Option ℕ → Option ℕ
 number_behind w None = None
 number_behind w (Some n) = Some ((last_acknowledged w + min n w.sent) % 128)
 
--- Nothing is kept then, the numbers go on behind what is acknowledged, and where messages were out
--- its actors are told that none is any more.
+-- The buffers are empty then, and the numbers continue after the acknowledged ones. If messages
+-- were unacknowledged, the actors are told that none is.
 abbrev pub emptied_behind : Option ℕ → Term → Term
 emptied_behind n t =
     with_processes t (handed_out (number_behind (window_of t) n) t.processes)
@@ -218,16 +217,15 @@ emptied_behind n t =
 abbrev pub with_hand : List Msu → Link → Link
 with_hand ms k = record k { hand = ms }
 
--- Messages are handed out, by how many are accepted, or where that isn't known the unsent; of what
--- is handed out it is kept how many there are of each selection. The link is held no longer than
--- until its directions begin anew.
+-- Messages are retrieved, by how many are accepted, or the unsent ones if that isn't known. Their
+-- counts per selection are kept. The link is held only until its directions restart.
 unfoldable pub hands_out : Option ℕ → Link → Link
 hands_out n k =
     with_hand (handed_by k n)
     (with_availability (with_retrieval (counts_of (handed_by k n)) k.availability)
     (with_hold hold.UntilAnew (record k { terminal = emptied_behind n k.terminal })))
 
--- K2 unless K4 would be answered. K1 where no changeover goes on.
+-- K2 unless a retrieval would be K4; K1 if no changeover goes on.
 abbrev pub abandon_by : Option RetrieveError → Option AbandonError
 abandon_by None = Some abandon.Waiting
 abandon_by (Some retrieve.NoLink) = Some abandon.NoLink
@@ -238,7 +236,7 @@ abandon_by (Some retrieve.NoMemory) = Some abandon.Waiting
 unfoldable pub abandon_fault : Link → Option AbandonError
 abandon_fault k = abandon_by (retrieve_fault k)
 
--- why messages weren't handed out, want of memory apart
+-- why messages weren't retrieved, except for NoMemory
 abbrev pub but_memory : RetrieveError → Option RetrieveError
 but_memory retrieve.NoLink = Some retrieve.NoLink
 but_memory retrieve.Waiting = Some retrieve.Waiting

@@ -1,5 +1,4 @@
--- What a set comes to over a list of calls, the messages that were accepted, and those that have
--- left.
+-- The states of a set over any list of calls, with the messages accepted and those that left.
 use Rattle.std.specs.Prelude.{◌≡◌, ℕ, ◌<◌, Bool, true, false, List, [], ◌∷◌}
 use Rattle.std.specs.Prelude.{◌++◌, All, map, take, Option, Some, None, slice_get}
 use Rattle.resend_store.specs.declared.messages.Msu.{Msu}
@@ -27,7 +26,7 @@ use Rattle.link_group.specs.Lines.{ByLink, ByCommand, Alone, after_admission}
 use Rattle.link_group.specs.Ticks.{with_room, after_ticks, NoRoom}
 use Rattle.link_group.specs.New.{new_set}
 
--- a message that has left, acknowledged or, where it was never known, unsure
+-- a message that left: acknowledged, or unsure if it was never known whether it arrived
 pub record Gone : Type 0 where
   pub message : Msu
   pub unsure : Bool
@@ -45,7 +44,7 @@ abbrev pub first_of : Option ℕ → List Msu → List Msu
 first_of None ms = []
 first_of (Some n) ms = take n ms
 
--- those that the far side told of
+-- the messages that the far side reported as accepted
 abbrev pub told_front : Option Link → List Msu
 told_front None = []
 told_front (Some k) = unbound k.points (first_of (accepted_of k) (held k))
@@ -54,15 +53,15 @@ abbrev pub unacknowledged_at : Option Link → List Msu
 unacknowledged_at None = []
 unacknowledged_at (Some k) = unbound k.points (unacknowledged (window k))
 
--- Each call is what its contract says of the set before and behind it. A call that is refused and
--- changes nothing is none.
+-- Each call is what its contract says of the set before and after it. A refused call that changes
+-- nothing is none of these.
 pub data Reached : LinkSet → List Msu → List Gone → Type 0 where
   opens :
       (own peer : ℕ) (ts : List Term) → All IsUnused ts → Reached (new_set own peer ts) [] []
   sends : (c : LinkSet) (accepted : List Msu) (gone : List Gone) (m : Msu)
       → Reached c accepted gone → send_fault c m ≡ None → selection_of m < SELECTIONS
       → Reached (sent c m) (accepted ++ m ∷ []) gone
-  -- a message that is bound to a link is none of those that were accepted
+  -- a message bound to a link isn't one of the accepted ones
   binds : (c : LinkSet) (accepted : List Msu) (gone : List Gone) (l : ℕ) (m : Msu)
       → Reached c accepted gone → bind_fault_at c l ≡ None → is_bound (points_of c) m ≡ true
       → Reached (bound_at c l m) accepted gone
@@ -101,14 +100,14 @@ pub data Reached : LinkSet → List Msu → List Gone → Type 0 where
       (c d : LinkSet) (accepted : List Msu) (gone : List Gone) (l : ℕ) (command : Command)
       → Reached c accepted gone → ByCommand command l c d
       → Reached d accepted (gone ++ unsure (cleared_at command (slice_get c.links l)))
-  -- the terminal refuses it, and may have made room
+  -- the terminal refuses the command, and may have made room
   refuses :
       (c d : LinkSet) (accepted : List Msu) (gone : List Gone) (l : ℕ)
       (command : Command) (refusal : Refusal)
       → Reached c accepted gone → Alone (Refused command refusal) l c d → Reached d accepted gone
   ticks : (c : LinkSet) (accepted : List Msu) (gone : List Gone) (n : ℕ)
       → Reached c accepted gone → Reached (after_ticks n c) accepted gone
-  -- a tick is refused once there is room on each link, or for want of memory
+  -- a tick is refused after room was made on each link, or when memory runs out
   makes_room : (c : LinkSet) (accepted : List Msu) (gone : List Gone)
       → Reached c accepted gone → Reached (record c { links = with_room c.links }) accepted gone
   lacks_room : (c d : LinkSet) (accepted : List Msu) (gone : List Gone)
@@ -116,8 +115,8 @@ pub data Reached : LinkSet → List Msu → List Gone → Type 0 where
   admits : (c : LinkSet) (accepted : List Msu) (gone : List Gone) (l : ℕ) (way : Bool)
       → Reached c accepted gone → Reached (after_admission c l way) accepted gone
 
--- A set that is what a list of calls from a new one makes of it, with what was accepted and what
--- has left.
+-- A list of calls leads from a new set to this one, with these messages accepted and these that
+-- left.
 pub record WasReached (c : LinkSet) : Type 0 where
   pub accepted : List Msu
   pub gone : List Gone

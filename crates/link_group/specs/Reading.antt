@@ -1,4 +1,4 @@
--- What a set tells of one link.
+-- Reading one link of a set.
 use Rattle.std.specs.Prelude.{ℕ, length, Option, Some, None, slice_get}
 use Rattle.actor_machine.specs.Ledger.{Ledger}
 use Rattle.link_term.specs.Term.{Term}

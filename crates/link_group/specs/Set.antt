@@ -13,13 +13,13 @@ use Rattle.link_group.specs.OneLink.{put_fault, puts, bind_fault}
 use Rattle.link_group.specs.Links.{change, fault_at}
 
 pub record LinkSet : Type 0 where
-  -- the codes of this point and of the other
+  -- the point codes of this point and of the other
   pub own : ℕ
   pub peer : ℕ
   pub links : List Link
   -- the link of each selection
   pub table : List (Option ℕ)
-  -- how many messages it was never known of whether they arrived
+  -- how many messages are unsure: it was never known whether they arrived
   pub unsure : ℕ
 
 -- ---- a message to send
@@ -31,7 +31,7 @@ send_fault_by ks (Some l) = fault_at send.NoLink put_fault (slice_get ks l)
 abbrev pub points_of : LinkSet → Points
 points_of c = record { own = c.own; peer = c.peer }
 
--- K5 where it is bound to a link; K1 where its selection has no link, else what that link answers
+-- K5 if it is bound to a link; K1 if its selection has no link; else that link's answer
 unfoldable pub send_fault : LinkSet → Msu → Option SendError
 send_fault c m =
     if is_bound (points_of c) m then Some send.Bound
@@ -41,15 +41,15 @@ abbrev pub change_by : List Link → Option ℕ → (Link → Link) → List Lin
 change_by ks None f = ks
 change_by ks (Some l) f = change ks l f
 
--- It waits behind all others with the link of its selection.
+-- It is put last on the link of its selection.
 unfoldable pub sent : LinkSet → Msu → LinkSet
 sent c m = record c { links = change_by c.links (link_of c.table (selection_of m)) (puts m) }
 
--- ---- a message that is bound to a link
+-- ---- a message bound to a link
 
 unfoldable pub bind_fault_at : LinkSet → ℕ → Option BindError
 bind_fault_at c l = fault_at bind.NoLink bind_fault (slice_get c.links l)
 
--- It waits there behind all others.
+-- It is put last on that link.
 unfoldable pub bound_at : LinkSet → ℕ → Msu → LinkSet
 bound_at c l m = record c { links = change c.links l (puts m) }

@@ -1,4 +1,4 @@
--- What level 3 sees of a link.
+-- The state of a link, as level 3 sees it.
 use Rattle.std.specs.Prelude.{ℕ, ◌&&◌, not, Option, Some, None}
 use Rattle.link_transceiver.specs.TransceiverState.{is_held}
 use Rattle.group_changeover.specs.declared.availability.Answer.{Answer}

@@ -1,4 +1,4 @@
--- The link that a selection gets.
+-- The links of selections.
 use Rattle.std.specs.Prelude.{ℕ, ◌==◌, ◌||◌, zero, suc, Bool, false, if◌then◌else◌, List, Option}
 use Rattle.std.specs.Prelude.{Some, None, slice_get}
 use Rattle.std.specs.List.{list_any}
@@ -18,19 +18,19 @@ changing_at ks (Some l) = changing_by (slice_get ks l)
 unfoldable pub held_by_any : ℕ → List Link → Bool
 held_by_any s ks = list_any (holds s) ks
 
--- the link that it gets, if it gets one, else the one that it has
+-- the new link, if there is one, otherwise the old one
 abbrev pub or_kept : Option ℕ → Option ℕ → Option ℕ
 or_kept None was = was
 or_kept (Some l) was = Some l
 
--- a selection keeps its link where that is in changeover, or any link holds messages of it; else it
--- gets the one that it has among these, if there are any
+-- a selection keeps its link if that is in changeover or any link holds its messages; otherwise it
+-- gets its link among these, if there are any
 abbrev pub anew_on : List Link → List (Option ℕ) → List ℕ → ℕ → Option ℕ
 anew_on ks ts ls s =
     if changing_at ks (link_of ts s) then link_of ts s
     else (if held_by_any s ks then link_of ts s else or_kept (pick ls s) (link_of ts s))
 
--- whether a selection would move of which its link holds messages
+-- whether a selection would move whose link holds messages of it
 abbrev pub stands_in_way : List Link → ℕ → Option ℕ → Option ℕ → Bool
 stands_in_way ks s None new = false
 stands_in_way ks s (Some l) None = holds_at s (slice_get ks l)
@@ -39,7 +39,7 @@ stands_in_way ks s (Some l) (Some t) = if t == l then false else holds_at s (sli
 unfoldable pub in_way : List Link → List (Option ℕ) → List ℕ → ℕ → Bool
 in_way ks ts ls s = stands_in_way ks s (link_of ts s) (pick ls s)
 
--- whether a test gives true for a number below another
+-- whether a test is true for some number below another
 unfoldable pub any_below : (ℕ → Bool) → ℕ → Bool
 any_below f zero = false
 any_below f (suc n) = any_below f n || f n

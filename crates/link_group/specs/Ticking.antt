@@ -14,15 +14,15 @@ use Rattle.link_group.specs.declared.link.Link.{Link}
 
 -- ---- room
 
--- Room is made in its journal, where it is needed.
+-- Room is made in a link's journal, if needed.
 abbrev pub roomy : Link → Link
 roomy k = record k { terminal = with_processes k.terminal (tidied k.terminal.processes) }
 
--- its journal has room enough
+-- a link's journal has enough room
 abbrev pub HasRoom : Link → Type 0
 HasRoom k = is_low k.terminal.processes ≡ false
 
--- There was no memory for a link that needed it: room was made at those before it, and nothing else
+-- Memory ran out for a link that needed it. Room was made at the links before it, and nothing else
 -- changed.
 pub record LacksRoom (old new : List Link) : Type 0 where
   pub front : ℕ
@@ -42,9 +42,9 @@ unfoldable pub first_refusal : ℕ → List Link → Option Refusal
 first_refusal n [] = None
 first_refusal n (k ∷ ks) = first_some (tick_refusal n k.terminal.processes) (first_refusal n ks)
 
--- ---- they pass
+-- ---- ticks pass
 
--- They pass at its terminal, and a changeover that goes on there has gone on for longer.
+-- Ticks pass at a link's terminal, and a changeover there has gone on for longer.
 abbrev pub passed : ℕ → Link → Link
 passed n k =
     record k {
@@ -60,10 +60,10 @@ abbrev pub due_in : Answer → ℕ
 due_in (Stuck x) = 0
 due_in (Says r) = due_by r
 
--- how many timers are due by them
+-- how many timers the ticks make due
 abbrev pub due_at : ℕ → Link → ℕ
 due_at n k = due_in (ask k.terminal.processes.book (Advance n)).answer
 
--- on all links, up to the greatest number
+-- how many timers are due on all links, up to the greatest number
 unfoldable pub all_due : ℕ → List Link → ℕ
 all_due n ks = min (2 ^ 64 - 1) (sum_by (due_at n) ks)

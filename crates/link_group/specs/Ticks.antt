@@ -11,23 +11,21 @@ use Rattle.link_group.specs.Lines.{all_seen}
 abbrev pub with_room : List Link → List Link
 with_room ks = map roomy ks
 
--- why ticks can't pass once room was made on each link: the refusal of the first link that has one
+-- why ticks can't pass after room was made on each link: the first link's refusal, if there is one
 abbrev pub tick_fault : ℕ → LinkSet → Option Refusal
 tick_fault n c = first_refusal n (with_room c.links)
 
--- They pass on all links; as one may have selections for the first time by them, the table is made
--- anew.
+-- Ticks pass on all links. The table is remade if one may then have selections for the first time.
 unfoldable pub after_ticks : ℕ → LinkSet → LinkSet
 after_ticks n c = all_seen (record c { links = map (passed n) (with_room c.links) })
 
--- There was no memory to make room on a link: those before it have room now, and nothing else
--- changed.
+-- Memory ran out to make room on a link. Those before it have room now, and nothing else changed.
 pub record NoRoom (c d : LinkSet) : Type 0 where
   pub links : List Link
   pub lacks : LacksRoom c.links links
   pub set : d ≡ record c { links = links }
 
--- Why they didn't pass. Room was made on all links, or on those before one that lacks it; nothing
+-- Why ticks didn't pass. Room was made on all links, or on those before one that lacks it; nothing
 -- else changed.
 abbrev pub IsTickError : ℕ → LinkSet → LinkSet → CallError → Type 0
 IsTickError n c d (call.Refused refusal) =

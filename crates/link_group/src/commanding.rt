@@ -15,9 +15,9 @@ use thiserror::Error;
 pub enum CommandError {
     /// There is no such link.
     NoLink,
-    /// It is Start, and the messages of a changeover aren't handed out yet.
+    /// The command is Start, and the messages of a changeover aren't retrieved yet.
     Waiting,
-    /// The terminal's refusal.
+    /// The terminal refuses the command.
     Refused(Refusal),
     /// There is no memory to make room in the terminal's journal.
     NoMemory,
@@ -56,7 +56,7 @@ fn is_start(command: Command) -> bool
 }
 
 impl Link {
-    /// Whether a command has to wait until messages are handed out.
+    /// Whether a command has to wait until messages are retrieved.
     fn bars(&self, command: Command) -> bool
         ensures { result ≡ is_barred command self.now }
     {
@@ -69,7 +69,7 @@ impl Link {
         }
     }
 
-    /// Whether it is started anew by a command that its terminal takes.
+    /// Whether a command that its terminal accepts restarts the link.
     fn starts_anew(&self, command: Command) -> bool
         ensures { result ≡ starts_anew command self.now }
     {
@@ -79,7 +79,7 @@ impl Link {
         !self.terminal.in_service()
     }
 
-    /// It is started anew, where that is so.
+    /// Marks the link as restarted, if so.
     fn mark(&mut self, anew: bool)
         ensures { self.new ≡ with_availability (marked anew self.old.availability) self.old }
     {
@@ -88,7 +88,7 @@ impl Link {
         }
     }
 
-    /// Its buffers are emptied, where its text asked for that. How many messages went that aren't bound to it.
+    /// Clears the buffers if the text requested it. Returns how many messages not bound to the link went.
     #[tactic(auto, using(crate::proofs::Renewing::unbound_among))]
     fn clear(&mut self) -> usize
         ensures count { result ≡ length (unbound self.old.points (cleared_of self.old.terminal)) }
@@ -102,12 +102,12 @@ impl Link {
         cleared - bound
     }
 
-    /// A command to its terminal, behind which the buffers are emptied where the text asked for that. How many messages went by it that aren't bound
-    /// to the link.
+    /// Gives the terminal a command, then clears the buffers if requested. Returns how many unbound messages went.
     ///
     /// # Errors
     ///
-    /// `K2 Waiting` for Start in a changeover whose messages aren't handed out yet: nothing changes. Else those of `Terminal::command`.
+    /// `K2 Waiting` for Start in a changeover whose messages aren't retrieved yet: nothing changes. Otherwise those of
+    /// `Terminal::command`.
     pub(crate) fn command(&mut self, command: Command) -> Result<usize, CommandError>
         ensures did { Commands command (fault_of result) self.old self.new }
         ensures cleared { IfOk result (λ count. count ≡ length (cleared_by command self.old)) }

@@ -1,4 +1,4 @@
-//! What a link does by its terminal.
+//! What a link does with its terminal.
 ghost use Rattle.std.specs.List.{list_any};
 ghost use Rattle.std.specs.Prelude.{◌≡◌, ◌||◌, map, ◌<◌, ◌≤◌, length, true, IfOk, OnErr};
 ghost use Rattle.link_term.specs.Machine.{is_low};
@@ -13,7 +13,7 @@ use std::alloc::AllocError;
 use su_octets::Unit;
 
 impl Link {
-    /// Whether it may have selections for the first time: it is in service, not held, and admitted.
+    /// Whether the link may have selections (in service, not held, admitted) for the first time. It is marked so.
     fn take_part(&mut self) -> bool
         ensures first { result ≡ came_first self.old }
         ensures link { self.new ≡ marked_served self.old }
@@ -24,7 +24,7 @@ impl Link {
         first
     }
 
-    /// How many of the messages that it holds the far side told of.
+    /// How many of the held messages the far side reported as accepted.
     fn told(&self) -> usize
         ensures { result ≡ how_many (accepted_of self.now) }
     {
@@ -34,7 +34,7 @@ impl Link {
         }
     }
 
-    /// The messages that are bound to it and wait leave.
+    /// Drops the waiting messages that are bound to the link.
     fn leaves_out(&mut self)
         ensures { self.new ≡ leaves_out self.old }
     {
@@ -44,7 +44,7 @@ impl Link {
         self.availability = self.availability.fewer(gone);
     }
 
-    /// They leave where its directions began anew since that was last asked.
+    /// Drops them if the link's directions restarted since this was last checked.
     fn renew(&mut self)
         ensures { self.new ≡ anew self.old }
     {
@@ -53,8 +53,8 @@ impl Link {
         }
     }
 
-    /// Looks whether its directions began anew, and whether it came into service, since that was last asked. Whether it may have selections for the
-    /// first time.
+    /// Checks whether the link's directions restarted, and whether it came into service, since the last check. Returns
+    /// whether it may have selections for the first time.
     pub(crate) fn see(&mut self) -> bool
         ensures first { result ≡ came_first self.old }
         ensures link { self.new ≡ asked self.old }
@@ -66,7 +66,7 @@ impl Link {
         self.take_part()
     }
 
-    /// Level 3 admits it, or does no longer. Whether it may have selections for the first time.
+    /// Sets whether level 3 admits the link. Returns whether the link may have selections for the first time.
     pub(crate) fn admit(&mut self, way: bool) -> bool
         ensures first { result ≡ admits_first way self.old }
         ensures link { self.new ≡ admits_at way self.old }
@@ -107,7 +107,7 @@ impl Link {
     }
 }
 
-/// Drops the message at a place that waits, where it is bound to a link.
+/// Drops the waiting message at a place, if it is bound to a link.
 fn drop_bound_at(terminal: &mut Terminal, points: Points, place: usize)
     requires waits { (window_of terminal.old).sent ≤ place }
     requires there { place < length (window_of terminal.old).kept }
@@ -122,7 +122,7 @@ fn drop_bound_at(terminal: &mut Terminal, points: Points, place: usize)
     }
 }
 
-/// Drops the messages that wait and are bound to a link.
+/// Drops the waiting messages that are bound to a link.
 fn drop_bound(terminal: &mut Terminal, points: Points)
     ensures { terminal.new ≡ without_bound points terminal.old }
 {
@@ -134,7 +134,7 @@ fn drop_bound(terminal: &mut Terminal, points: Points)
     }
 }
 
-/// Whether a link may have selections for the first time, or one before it.
+/// Checks a link. Returns whether it, or one before it, may have selections for the first time.
 fn see_more(link: &mut Link, before: bool) -> bool
     ensures first { result ≡ before || came_first link.old }
     ensures link { link.new ≡ asked link.old }
@@ -143,7 +143,7 @@ fn see_more(link: &mut Link, before: bool) -> bool
     before || first
 }
 
-/// Whether any link may have selections for the first time.
+/// Checks all links. Returns whether any may have selections for the first time.
 pub(crate) fn see_all(links: &mut [Link]) -> bool
     ensures first { result ≡ list_any came_first links.old }
     ensures links { links.new ≡ map asked links.old }

@@ -1,4 +1,4 @@
-//! Diversion of what a link handed out.
+//! Diversion of a link's retrieved messages.
 ghost use Rattle.std.specs.Prelude.{◌≡◌, ◌≤◌, All, length, ◌<◌, slice_get, map, Some, None, IfSome, OnSome, IfNone, is_some};
 ghost use Rattle.resend_store.specs.Messages.{IsMessage};
 ghost use Rattle.link_group.specs.Limits.{MOST_LINKS};
@@ -17,23 +17,23 @@ use group_changeover::{DivertFault, Table, counts_of, pick};
 use link_term::Msu;
 use std::collections::VecDeque;
 
-/// Why the messages of a link weren't diverted, or not all of them.
+/// Why a link's messages weren't diverted, or not all of them.
 #[derive(Clone, Copy, Debug, PartialEq, Eq)]
 pub enum DivertError {
     /// There is no such link.
     NoLink,
-    /// None of its messages are handed out.
+    /// None of its messages are retrieved.
     Waiting,
-    /// Some are not diverted yet.
+    /// Some messages aren't diverted yet.
     Left {
-        /// Why the first selection that is left doesn't go.
+        /// Why the first remaining selection isn't diverted.
         fault: DivertFault,
-        /// How many messages are left.
+        /// How many messages remain.
         left: usize,
     },
 }
 
-/// Diverts messages that were taken out of the hand of a link, and ends its changeover where all of them went; its hand has what is left.
+/// Diverts messages taken from a link's hand; the rest go back. If none is left, its changeover ends.
 #[tactic(auto, unfolding(crate::specs::Diverting::diverted))]
 fn divert_from(
     links: &mut [Link],
@@ -63,18 +63,18 @@ fn divert_from(
 }
 
 impl Group {
-    /// Diverts what a link handed out (Q.704, diversion of traffic): of one selection after another, from 0 up, all go in order to the link that the
-    /// selection has among the others that may take them; `send` takes the selection's messages there from then on. May take them: a link that is
-    /// in service, not held, admitted and not in changeover. Those that never failed do so; where there are none, those that failed; and where
-    /// there are none of these either, all go back to their own link, if that is in service, not held and admitted. So it is among the links
-    /// without an outage of a processor, here or there, and where these give none, among those with one (Q.704, 3.2.4). Where all have gone, the
-    /// changeover ends: selections that are still that link's, and of which it holds nothing, get a link among those then. It never answers that memory is wanting.
+    /// Diverts a link's retrieved messages (Q.704, diversion of traffic), selection by selection from 0 up, in order,
+    /// to the selection's link among those that may take them. `send` uses that link from then on. A link may take them
+    /// if it is in service, not held, admitted and not in changeover: links that never failed, else links that failed,
+    /// else the link itself if in service, not held and admitted. Those with a processor outage at either side count
+    /// only if there are no others (Q.704, 3.2.4). When all went, the changeover ends: the link's other selections
+    /// without held messages get a link among those. It needs no memory.
     ///
     /// # Errors
     ///
-    /// `K1 NoLink` where the link isn't there, `K2 Waiting` where its messages aren't handed out: nothing changes. Then, with how many messages are
-    /// left: `K1 NoLink` where no link may take them, their own neither; `E1 Full` where the link of a selection would hold more than 1,151: none of that
-    /// selection went, nor of those behind it (of messages that are to go back, none at all). What is left the link hands out still.
+    /// `K1 NoLink` if there is no such link, `K2 Waiting` if its messages aren't retrieved: nothing changes. Else, with
+    /// how many remain: `K1 NoLink` if no link may take them; `E1 Full` if a selection's link would hold more than
+    /// 1,151. Then neither that selection nor later ones went (if all go back, none). The rest stay retrieved.
     #[tactic(auto, unfolding(crate::specs::Diverting::divert_fault, crate::specs::Diverting::after_divert))]
     pub fn divert(&mut self, link: usize) -> Result<(), DivertError>
         ensures fault { fault_of result ≡ divert_fault self.old link }
@@ -92,7 +92,7 @@ impl Group {
     }
 }
 
-/// The link that a selection has as the changeover of a link ends.
+/// A selection's link after the changeover of a link.
 fn end_on(links: &[Link], table: &Table, able: &[usize], at: usize, selection: u8) -> Option<usize>
     ensures { result ≡ ends_on able.now at (slice_get links.now at) (link_of table.now.links selection) selection }
 {
@@ -108,7 +108,7 @@ fn end_on(links: &[Link], table: &Table, able: &[usize], at: usize, selection: u
     pick(able, selection)
 }
 
-/// The table as the changeover of a link ends.
+/// The table after the changeover of a link.
 fn end_table(links: &[Link], table: &Table, able: &[usize], at: usize) -> Table
     ensures { result.links ≡ map (λ s. ends_on able.now at (slice_get links.now at) (link_of table.now.links s) s) selections }
 {
@@ -134,7 +134,7 @@ fn end_table(links: &[Link], table: &Table, able: &[usize], at: usize) -> Table
     }
 }
 
-/// The changeover of the link at a place ends.
+/// Ends the changeover of the link at a place.
 #[tactic(auto, unfolding(crate::specs::Links::change))]
 fn end_at(links: &mut [Link], at: usize)
     ensures { links.new ≡ change links.old at ends_at }
@@ -145,7 +145,7 @@ fn end_at(links: &mut [Link], at: usize)
 }
 
 impl Link {
-    /// Takes out the messages that it handed out, if it did in a changeover that goes on.
+    /// Takes out the link's hand, if its messages are retrieved in a changeover that goes on.
     fn take_hand(&mut self) -> Option<VecDeque<Msu>>
         ensures messages { IfSome result (λ messages. messages.items ≡ self.old.hand) }
         ensures whole { IfSome result (λ messages. All IsMessage messages.items) }
@@ -159,7 +159,7 @@ impl Link {
         }
     }
 
-    /// How many messages it handed out that are not diverted yet, if it did.
+    /// How many of its retrieved messages aren't diverted yet; none if they aren't retrieved.
     pub(crate) fn handed(&self) -> Option<usize>
         ensures { result ≡ hand_count (Some self.now) }
     {
@@ -169,7 +169,7 @@ impl Link {
         }
     }
 
-    /// So much is left of them.
+    /// Puts the remaining messages back into the hand.
     fn keep(&mut self, messages: VecDeque<Msu>)
         requires { All IsMessage messages.items }
         ensures { self.new ≡ keeps_at messages.items self.old }
@@ -179,7 +179,7 @@ impl Link {
     }
 }
 
-/// Takes out the messages that the link at a place handed out, if it did.
+/// Takes out the hand of the link at a place, if its messages are retrieved.
 #[tactic(auto, unfolding(crate::specs::Links::change))]
 fn take_hand(links: &mut [Link], at: usize) -> Option<VecDeque<Msu>>
     ensures messages { IfSome result (λ messages. messages.items ≡ hand_by (slice_get links.old at)) }
@@ -195,7 +195,7 @@ fn take_hand(links: &mut [Link], at: usize) -> Option<VecDeque<Msu>>
     }
 }
 
-/// So much is left of what the link at a place handed out.
+/// Puts the remaining messages back into the hand of the link at a place.
 #[tactic(auto, unfolding(crate::specs::Links::change))]
 fn hand_back(links: &mut [Link], at: usize, messages: VecDeque<Msu>)
     requires { All IsMessage messages.items }

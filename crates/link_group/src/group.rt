@@ -1,4 +1,4 @@
-//! The set.
+//! The link set.
 ghost use Rattle.std.specs.Prelude.{◌≡◌, length};
 ghost use Rattle.group_changeover.specs.Sharing.{link_of};
 ghost use Rattle.link_group.specs.Laws.{Accounted};
@@ -9,7 +9,7 @@ use arrayvec::ArrayVec;
 use group_changeover::Table;
 use std::marker::Model;
 
-/// The octets of a message of changeover, as a signalling information field.
+/// The octets of a changeover message, as a signalling information field.
 pub type Sif = ArrayVec<u8, 6>;
 
 /// The links between two signalling points, 1 to 16.
@@ -41,11 +41,11 @@ impl Model for Group {
 }
 
 impl Group {
-    /// What holds of every set. There is a list of calls that leads to it from a new one. Each message that [`Group::send`] took in these has left,
-    /// acknowledged or unsure, or stands in one place: with the link of its selection, or among those that this link handed out, in the order in
-    /// which `send` took them; nothing of a selection stands elsewhere, and a link that handed out messages holds none. `unsure` is how many of
-    /// those that have left are unsure, up to its greatest value. [`each_message_stands_in_one_place`] says so of every such list, so of the calls
-    /// that were made, each by its own contract. The call costs nothing.
+    /// The invariant of every set: a list of calls leads to it from a new one. Each message that [`Group::send`] took
+    /// in them has left, acknowledged or unsure, or is in exactly one place, in the order of `send`: on its selection's
+    /// link or in that link's hand. A link with messages in its hand holds none. `unsure` is how many of those that
+    /// left are unsure, up to its greatest value. [`each_message_stands_in_one_place`] says so of every such list, so
+    /// also of the calls made. Calling it costs nothing.
     pub fn law(&self)
         ensures { ∥ Accounted self.now ∥₁ }
     {
@@ -54,7 +54,7 @@ impl Group {
         let _inside = self.unsure;
     }
 
-    /// Of how many messages it isn't known whether they arrived; it stays at its greatest value.
+    /// How many messages may have been lost (it isn't known whether they arrived). Stops at the greatest value.
     pub fn unsure(&self) -> u64
         ensures { result ≡ self.now.unsure }
     {

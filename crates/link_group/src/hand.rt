@@ -1,4 +1,4 @@
-//! Messages that a link handed out.
+//! Retrieved messages of a link.
 ghost use Rattle.std.specs.Prelude.{◌≡◌, [], All, length};
 ghost use Rattle.resend_store.specs.Messages.{IsMessage};
 
@@ -8,7 +8,7 @@ use std::collections::VecDeque;
 use std::marker::Model;
 use std::mem;
 
-/// The messages that a link handed out and that are not diverted yet, in order (Q.704, retrieval).
+/// A link's hand: the messages that it retrieved and that aren't diverted yet, in order (Q.704, retrieval).
 #[derive(Drop)]
 pub struct Hand {
     messages: VecDeque<Msu>,
@@ -27,7 +27,7 @@ impl Model for Hand {
 }
 
 impl Hand {
-    /// None.
+    /// An empty hand.
     pub(crate) fn empty(alloc: Global) -> Hand
         ensures { result ≡ [] }
     {
@@ -36,7 +36,7 @@ impl Hand {
         }
     }
 
-    /// These messages.
+    /// A hand with these messages.
     pub(crate) fn of(messages: VecDeque<Msu>) -> Hand
         requires { All IsMessage messages.items }
         ensures { result ≡ messages.items }
@@ -44,14 +44,14 @@ impl Hand {
         Hand { messages }
     }
 
-    /// How many there are.
+    /// How many messages there are.
     pub fn len(&self) -> usize
         ensures { result ≡ length self.now }
     {
         self.messages.len()
     }
 
-    /// Takes all out.
+    /// Takes all messages out.
     pub(crate) fn take(&mut self) -> VecDeque<Msu>
         ensures messages { result.items ≡ self.old }
         ensures whole { All IsMessage result.items }

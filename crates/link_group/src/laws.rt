@@ -1,4 +1,4 @@
-//! Laws of link sets. The calls cost nothing.
+//! Laws of link sets. Calling one costs nothing.
 ghost use Rattle.link_group.specs.Along.{TerminalsFare};
 ghost use Rattle.link_group.specs.Ends.{EndsComplete, EndsHeed};
 ghost use Rattle.link_group.specs.Joined.{SetsComplete};
@@ -7,9 +7,9 @@ ghost use Rattle.link_group.specs.Laws.{EachInOnePlace, UnsureAreCounted};
 use group_changeover::steps_keep_places;
 use link_processes::unacknowledged_messages_stay;
 
-/// Over every list of calls of a set and of its terminals: of each selection what was accepted is what has left, acknowledged or unsure, and
-/// then, in order, what stands in the one place that the selection has; nothing of it stands elsewhere, and a link whose messages are retrieved
-/// holds none.
+/// Over every list of calls of a set and of its terminals, the accepted messages of each selection have left,
+/// acknowledged or unsure, or are, in order after those, in the selection's one place. None of them is anywhere else,
+/// and a link with retrieved messages holds none.
 pub fn each_message_stands_in_one_place()
     ensures { EachInOnePlace }
 {
@@ -17,36 +17,36 @@ pub fn each_message_stands_in_one_place()
     unacknowledged_messages_stay();
 }
 
-/// Over every list of calls of a set and of its terminals: `unsure` is how many of the messages that have left are unsure, up to its greatest
-/// value.
+/// Over every list of calls of a set and of its terminals, `unsure` is how many of the messages that left are unsure,
+/// up to its greatest value.
 pub fn unsure_messages_are_counted()
     ensures { UnsureAreCounted }
 {}
 
-/// Between the two ends of a link, over lines that may lose units and delay them and never change their order, from a beginning of both its directions
-/// on: what the far end accepted, and then what is retrieved with the number that it told once it was held, is what came near, each once and in
-/// order, whenever that number is heard, and whatever is acknowledged behind that. Neither end begins anew between, and near isn't cleared.
+/// Over one life of a link (between restarts of both directions), with lines that lose or delay units in order: what
+/// the far end accepted, then what is retrieved with the number that it reported while held, is what the near end got,
+/// once each and in order, whenever the number is heard and whatever is acknowledged later. Near isn't cleared.
 pub fn retrieval_completes_each_life()
     ensures { EndsComplete }
 {}
 
-/// What the actors of an end tell it, but for a new beginning of both directions, that a report is taken there, that level 3 holds it, and that the far
-/// end's own messages leave: all that belongs to such a life.
+/// A life also allows any signal of an end's actors except a restart of both directions, reports, holds by level 3, and
+/// the removal of the far end's own messages.
 pub fn ends_heed_all_else()
     ensures { EndsHeed }
 {}
 
-/// Each step of the terminals at the two ends belongs to such a life, as long as the directions don't begin anew in it: an event of the actors, a unit
-/// that goes out, and octets, of whose units those that go through the stores are under way, some of them lost.
+/// Each step of the terminals at both ends belongs to a life while the directions don't restart: an event of the
+/// actors, a sent unit, and octets whose units that go through the stores are under way, some lost.
 pub fn terminals_fare_so()
     ensures { TerminalsFare }
 {}
 
-/// Two sets that the lines of a link join, call by call, over one life of that link, from a beginning of both its directions on: what the far set
-/// accepts by it until they begin anew, and then what the near one hands out with the number that the far one told while it held the link, is what
-/// the link kept as that life began, and then what `send` and `divert` gave it, messages that are bound to it left out: each once, in order. The near
-/// end neither begins anew nor is cleared before its messages are handed out. The lines may lose units and delay them, and never change their order;
-/// nothing is asked of units that don't go through the stores: those that bear a status, and all while none are taken.
+/// Two sets joined by a link's lines, call by call, over one life of that link. The messages that the far set accepts
+/// by it, then those that the near set retrieves with the number that the far set reported while holding the link, are
+/// those that the link held as that life began, then those from `send` and `divert`, without bound ones: each once, in
+/// order. The near end neither restarts nor is cleared before the retrieval. Lines may lose and delay units, but keep
+/// their order. Units that don't go through the stores are free: LSSUs, and all units while none are taken.
 pub fn sets_complete_each_life()
     ensures { SetsComplete }
 {}

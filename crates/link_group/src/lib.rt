@@ -1,5 +1,5 @@
-//! A set of links between two signalling points (Q.704): messages are shared out among the links by the selection of their label, and when a
-//! link fails its messages go to the others, in order, but for those of which the far side tells that it has them.
+//! A set of links between two signalling points (Q.704). Messages are shared among the links by selection (SLS). When a
+//! link fails, its messages go to the others, in order, except those that the far side reports as accepted.
 #![tactic(auto)]
 
 mod commanding;

@@ -1,4 +1,4 @@
-//! What a set does by one of its terminals.
+//! What a set does with one of its terminals.
 ghost use Rattle.std.specs.Prelude.{◌≡◌, ◌↔◌, ◌≤◌, ◌<◌, length, true, slice_get, IfOk, IfErr, OnOk, OnErr, Err};
 ghost use Rattle.link_group.specs.Lines.{ByLink, ByCommand, after_admission, IsCommandError};
 ghost use Rattle.link_group.specs.Placing.{table_if};
@@ -14,7 +14,7 @@ use group_changeover::{LineError, LinkError, Table};
 use link_term::{Command, Report};
 use su_octets::Unit;
 
-/// Looks whether a link came into service: as it may have selections for the first time, the table is made anew.
+/// Checks whether a link came into service. The table is remade if it may have selections for the first time.
 #[tactic(auto, unfolding(crate::specs::Links::change))]
 fn see(links: &mut [Link], table: &mut Table, at: usize)
     requires few { length links.old ≤ MOST_LINKS }
@@ -26,7 +26,7 @@ fn see(links: &mut [Link], table: &mut Table, at: usize)
     place_anew(links, table, first);
 }
 
-/// Level 3 admits a link, or does no longer: as it may have selections for the first time, the table is made anew.
+/// Sets whether level 3 admits a link. The table is remade if it may have selections for the first time.
 #[tactic(auto, unfolding(crate::specs::Links::change))]
 fn admit(links: &mut [Link], table: &mut Table, at: usize, way: bool)
     requires few { length links.old ≤ MOST_LINKS }
@@ -39,12 +39,12 @@ fn admit(links: &mut [Link], table: &mut Table, at: usize, way: bool)
 }
 
 impl Group {
-    /// Level 3 admits a link to selections and to what other links hand out, or does no longer; all are admitted at first. What it has stays. As it
-    /// is in service, not held, and admitted for the first time, the table is made anew.
+    /// Sets whether level 3 admits a link to selections and other links' retrieved messages; at first all are. The link
+    /// keeps what it has. The table is remade if it is in service, not held and admitted for the first time.
     ///
     /// # Errors
     ///
-    /// `K1 NoLink` where it isn't there: nothing changes.
+    /// `K1 NoLink` if there is no such link: nothing changes.
     #[tactic(auto, unfolding(crate::specs::Lines::after_admission))]
     pub fn admit(&mut self, link: usize, way: bool) -> Result<(), LinkError>
         ensures ok { OnOk result (self.new ≡ after_admission self.old link way) }
@@ -62,7 +62,7 @@ impl Group {
     ///
     /// # Errors
     ///
-    /// `K1 NoLink` where it isn't there: nothing changes.
+    /// `K1 NoLink` if there is no such link: nothing changes.
     pub fn line_in(&mut self, link: usize, octets: &[u8]) -> Result<usize, LinkError>
         ensures ok { IfOk result (λ taken. ByLink (Listened octets.now taken) link self.old self.new) }
         ensures fault { (result ≡ Err LinkError.NoLink) ↔ (length self.old.links ≤ link) }
@@ -80,7 +80,7 @@ impl Group {
     ///
     /// # Errors
     ///
-    /// `K1 NoLink` where it isn't there, then want of memory: nothing changes.
+    /// `K1 NoLink` if there is no such link, or `NoMemory`: nothing changes.
     pub fn line_out(&mut self, link: usize, units: usize) -> Result<Vec<u8>, LineError>
         ensures ok { IfOk result (λ octets. ByLink (Spoken units octets.items) link self.old self.new) }
         ensures fault { (result ≡ Err LineError.NoLink) ↔ (length self.old.links ≤ link) }
@@ -102,7 +102,7 @@ impl Group {
     ///
     /// # Errors
     ///
-    /// `K1 NoLink` where it isn't there, then want of memory to make room in its journal: nothing changes.
+    /// `K1 NoLink` if there is no such link, or `NoMemory` to make room in its journal: nothing changes.
     pub fn unit_out(&mut self, link: usize) -> Result<Option<Unit>, LineError>
         ensures ok { IfOk result (λ unit. ByLink (Sent unit) link self.old self.new) }
         ensures fault { (result ≡ Err LineError.NoLink) ↔ (length self.old.links ≤ link) }
@@ -125,7 +125,7 @@ impl Group {
     ///
     /// # Errors
     ///
-    /// `K1 NoLink` where it isn't there: nothing changes.
+    /// `K1 NoLink` if there is no such link: nothing changes.
     pub fn report(&mut self, link: usize) -> Result<Option<Report>, LinkError>
         ensures ok { IfOk result (λ report. ByLink (Reported report) link self.old self.new) }
         ensures fault { (result ≡ Err LinkError.NoLink) ↔ (length self.old.links ≤ link) }
@@ -139,13 +139,13 @@ impl Group {
         Ok(report)
     }
 
-    /// `Terminal::command` of a link, behind which its buffers are emptied where its text asked for that (Q.703, figure 13). What goes then, but for
-    /// messages that are bound to the link, counts as unsure.
+    /// `Terminal::command` of a link, after which its buffers are cleared if its text requested that (Q.703, figure
+    /// 13). The cleared messages count as unsure, except those bound to the link.
     ///
     /// # Errors
     ///
-    /// `K1 NoLink` where it isn't there, `K2 Waiting` for Start from the beginning of its changeover until its messages are handed out: nothing
-    /// changes. Else those of `Terminal::command`: nothing changes but that there may be room in its journal.
+    /// `K1 NoLink` if there is no such link, `K2 Waiting` for Start until its changeover's messages are retrieved:
+    /// nothing changes. Else as `Terminal::command`: nothing changes except room in its journal.
     pub fn command(&mut self, link: usize, command: Command) -> Result<(), CommandError>
         ensures none { (result ≡ Err CommandError.NoLink) ↔ (length self.old.links ≤ link) }
         ensures ok { OnOk result (ByCommand command link self.old self.new) }

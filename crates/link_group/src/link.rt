@@ -16,14 +16,14 @@ use link_term::{Hold, LineKind, Msu, Terminal};
 use std::alloc::AllocError;
 use std::collections::VecDeque;
 
-/// A terminal, and what is marked there.
+/// A link: its terminal, its marks and its hand.
 #[derive(Drop)]
 pub struct Link {
-    /// The points between which it lies.
+    /// The points that the link connects.
     pub points: Points,
     pub terminal: Terminal,
     pub availability: Availability,
-    /// What it handed out in its changeover and isn't diverted yet.
+    /// The messages retrieved in its changeover and not diverted yet.
     pub hand: Hand,
 }
 
@@ -39,7 +39,7 @@ fn drop_one(messages: &mut VecDeque<Msu>)
     }
 }
 
-/// Drops so many messages from the front, or all where they are fewer.
+/// Drops so many messages from the front, or all if there are fewer.
 fn drop_front(messages: &mut VecDeque<Msu>, count: usize)
     requires { All IsMessage messages.old.items }
     ensures items { messages.new.items ≡ drop count messages.old.items }
@@ -50,7 +50,7 @@ fn drop_front(messages: &mut VecDeque<Msu>, count: usize)
     }
 }
 
-/// Takes out of a terminal what stands behind so many accepted messages.
+/// Takes the messages after so many accepted ones out of a terminal.
 fn take_behind(terminal: &mut Terminal, accepted: usize) -> Result<VecDeque<Msu>, AllocError>
     ensures messages { IfOk result (λ messages. messages.items ≡ lacking (window_of terminal.old) (Some accepted)) }
     ensures whole { IfOk result (λ messages. All IsMessage messages.items) }
@@ -69,7 +69,7 @@ fn take_behind(terminal: &mut Terminal, accepted: usize) -> Result<VecDeque<Msu>
     }
 }
 
-/// The same, or where it isn't known how many were accepted what wasn't sent since both directions last began anew.
+/// As `take_behind`; without a number, takes the messages not sent since both directions last restarted.
 fn take_out(terminal: &mut Terminal, accepted: Option<usize>) -> Result<VecDeque<Msu>, AllocError>
     ensures messages { IfOk result (λ messages. messages.items ≡ lacking (window_of terminal.old) accepted) }
     ensures whole { IfOk result (λ messages. All IsMessage messages.items) }
@@ -85,7 +85,7 @@ fn take_out(terminal: &mut Terminal, accepted: Option<usize>) -> Result<VecDeque
     }
 }
 
-/// How long a link is held.
+/// How long a link is held, by its changeover.
 fn hold_by(changing: Option<Changing>) -> Hold
     ensures { result ≡ hold_by changing }
 {
@@ -96,21 +96,21 @@ fn hold_by(changing: Option<Changing>) -> Hold
 }
 
 impl Link {
-    /// Whether it may take messages: it is in service, and not held.
+    /// Whether the link may take messages: it is in service, and not held.
     pub fn carries(&self) -> bool
         ensures { result ≡ carries self.now }
     {
         self.terminal.in_service() && !self.terminal.holding().is_held()
     }
 
-    /// Whether selections, and what other links hand out, may be given to it: level 3 admits it too.
+    /// Whether the link may be given selections and other links' retrieved messages: level 3 admits it too.
     pub(crate) fn shares(&self) -> bool
         ensures { result ≡ shares self.now }
     {
         self.carries() && self.availability.admitted
     }
 
-    /// Whether the processor here is out: status 4 goes out.
+    /// Whether this side has a processor outage: status 4 is sent.
     pub fn is_own_out(&self) -> bool
         ensures { result ≡ is_own_out self.now }
     {
@@ -120,7 +120,7 @@ impl Link {
         }
     }
 
-    /// Whether its actors say that messages may go out.
+    /// Whether its actors allow messages to be sent.
     pub fn gives_messages(&self) -> bool
         ensures { result ≡ gives_messages self.now }
     {
@@ -130,7 +130,7 @@ impl Link {
         }
     }
 
-    /// Whether the processor there is out, or that here.
+    /// Whether the far side or this side has a processor outage.
     pub(crate) fn has_outage(&self) -> bool
         ensures { result ≡ has_outage self.now }
     {
@@ -157,7 +157,7 @@ impl Link {
         }
     }
 
-    /// Takes a message that is bound to it.
+    /// Takes a message that is bound to the link.
     #[tactic(auto, unfolding(crate::specs::OneLink::bind_fault, crate::specs::OneLink::puts))]
     pub(crate) fn bind(&mut self, msu: Msu) -> Result<(), BindError>
         requires { 2 ≤ length msu.sif.items }
@@ -174,7 +174,7 @@ impl Link {
         }
     }
 
-    /// Whether the message that it holds at a place is bound to it.
+    /// Whether the held message at a place is bound to the link.
     fn is_bound_at(&self, place: usize) -> bool
         ensures { result ≡ bound_by self.now.points (slice_get (held self.now) place) }
     {
@@ -184,7 +184,7 @@ impl Link {
         }
     }
 
-    /// 1 where that is so, else 0.
+    /// 1 if the held message at a place is bound to the link, otherwise 0.
     #[tactic(auto, using(crate::proofs::Renewing::one_more, crate::proofs::Renewing::none_more))]
     fn one_bound(&self, place: usize) -> usize
         ensures more { length (bound_among self.now (place + 1)) ≡ length (bound_among self.now place) + result }
@@ -193,7 +193,7 @@ impl Link {
         if self.is_bound_at(place) { 1 } else { 0 }
     }
 
-    /// How many of the first so many messages that it holds are bound to it.
+    /// How many of the first so many held messages are bound to the link.
     pub(crate) fn bound_among(&self, count: usize) -> usize
         ensures value { result ≡ length (bound_among self.now count) }
         ensures within { result ≤ count }
@@ -205,7 +205,7 @@ impl Link {
         bound
     }
 
-    /// How many are sent of those that aren't bound to it.
+    /// How many messages not bound to the link are unacknowledged.
     #[tactic(auto, using(crate::proofs::Renewing::unknown_is))]
     pub(crate) fn unknown(&self) -> usize
         ensures { result ≡ unknown self.now }
@@ -215,7 +215,7 @@ impl Link {
         sent - self.bound_among(sent)
     }
 
-    /// How many of the messages that are kept a number acknowledges, where they are no more than are sent.
+    /// How many of the held messages a number acknowledges; none if that is more than were sent.
     fn count_of(&self, fsn: u8) -> Option<usize>
         ensures { result ≡ count_of (window self.now) fsn }
     {
@@ -227,7 +227,7 @@ impl Link {
         }
     }
 
-    /// How many of them a message acknowledges.
+    /// How many of the held messages a changeover message acknowledges.
     fn count_heard(&self, kind: Kind) -> Option<usize>
         ensures { result ≡ count_heard kind self.now }
     {
@@ -237,7 +237,7 @@ impl Link {
         }
     }
 
-    /// Why it isn't known which of those that were sent have arrived.
+    /// Why it isn't known which of the sent messages arrived, if it isn't.
     fn unsure(&self, changing: Changing) -> Option<RetrieveError>
         ensures { result ≡ unsure_by (unknown self.now) (count_in changing.answer) }
     {
@@ -252,7 +252,7 @@ impl Link {
         }
     }
 
-    /// Why its messages aren't handed out, if they aren't.
+    /// Why its messages can't be retrieved, if they can't.
     #[tactic(auto, unfolding(crate::specs::OneLink::retrieve_fault, crate::specs::OneLink::retrieve_fault_in))]
     fn retrieve_fault(&self) -> Option<RetrieveError>
         ensures { result ≡ retrieve_fault self.now }
@@ -269,7 +269,7 @@ impl Link {
         self.unsure(changing)
     }
 
-    /// How many of the messages that are kept the far side accepted, where it told that.
+    /// How many of the held messages the far side accepted, if it reported that.
     #[tactic(auto, unfolding(crate::specs::OneLink::accepted_of))]
     pub(crate) fn accepted(&self) -> Option<usize>
         ensures { result ≡ accepted_of self.now }
@@ -280,7 +280,7 @@ impl Link {
         }
     }
 
-    /// Hands out its messages. How many there are.
+    /// Retrieves the link's messages into its hand. Returns how many there are.
     #[tactic(auto, unfolding(crate::specs::OneLink::hands_out))]
     fn hand_out(&mut self, accepted: Option<usize>) -> Result<usize, AllocError>
         ensures count { IfOk result (λ count. count ≡ length (handed_by self.old accepted)) }
@@ -300,7 +300,7 @@ impl Link {
         }
     }
 
-    /// Hands out what the far side may lack. How many messages that are.
+    /// Retrieves the messages that the far side may lack. Returns how many there are.
     pub(crate) fn retrieve(&mut self) -> Result<usize, RetrieveError>
         ensures fault { retrieve_refusal result ≡ retrieve_fault self.old }
         ensures count { IfOk result (λ count. count ≡ length (handed_by self.old (accepted_of self.old))) }
@@ -317,8 +317,8 @@ impl Link {
         }
     }
 
-    /// Hands out what wasn't sent since both directions last began anew, where it isn't known what has arrived of the rest. How many
-    /// messages that are.
+    /// Retrieves the messages not sent since both directions last restarted, if it isn't known which others arrived.
+    /// Returns how many there are.
     #[tactic(auto, unfolding(crate::specs::OneLink::abandon_fault))]
     pub(crate) fn abandon(&mut self) -> Result<usize, AbandonError>
         ensures fault { abandon_refusal result ≡ abandon_fault self.old }
@@ -336,7 +336,7 @@ impl Link {
         }
     }
 
-    /// Its changeover begins, unless it goes on; it is held from then on. What is to be said of it to the other point.
+    /// Begins the link's changeover, unless one goes on, and holds the link. Returns the order for the other point.
     pub(crate) fn fail(&mut self) -> Result<Kind, FailError>
         ensures fault { fault_of result ≡ fail_fault_of self.old }
         ensures order { IfOk result (λ kind. kind ≡ order_of self.old) }
@@ -353,7 +353,7 @@ impl Link {
         Ok(kind)
     }
 
-    /// The other point says something of it. What is answered.
+    /// Takes a changeover message about the link from the other point. Returns the answer, if there is one.
     pub(crate) fn hear(&mut self, kind: Kind) -> Option<Kind>
         ensures reply { result ≡ replies kind self.old }
         ensures whole { IfSome result IsKind }

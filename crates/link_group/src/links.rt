@@ -1,4 +1,4 @@
-//! The links of a set, of which a call changes one.
+//! The links of a set; a call changes one of them.
 ghost use Rattle.std.specs.Prelude.{◌≡◌, ◌<◌, ◌≤◌, length, slice_get, IfSome, IfOk, OnOk, OnErr, Some, None};
 ghost use Rattle.group_changeover.specs.Changeovers.{IsKind};
 ghost use Rattle.link_group.specs.OneLink.{fault_of, put_fault, puts, bind_fault, accepted_of, retrieve_fault, retrieve_refusal, abandon_fault, abandon_refusal};
@@ -15,8 +15,8 @@ use link_term::Msu;
 ///
 /// # Errors
 ///
-/// `K1 NoLink` where there is no such link, or it isn't in changeover and is out of service, held or not admitted, `K2 Waiting` where it is in
-/// changeover, `E1 Full` where 1,024 messages wait. Nothing changes then.
+/// `K1 NoLink` if there is no such link, or if it isn't in changeover and is out of service, held or not admitted; `K2
+/// Waiting` if it is in changeover; `E1 Full` if 1,024 messages wait. Then nothing changes.
 #[tactic(auto, unfolding(crate::specs::Links::change))]
 pub(crate) fn put_at(links: &mut [Link], at: usize, msu: Msu) -> Result<(), SendError>
     requires { 2 ≤ length msu.sif.items }
@@ -35,7 +35,7 @@ pub(crate) fn put_at(links: &mut [Link], at: usize, msu: Msu) -> Result<(), Send
 ///
 /// # Errors
 ///
-/// `K1 NoLink` where there is no such link, or it is out of service or held, `E1 Full` where it holds 1,151 messages. Nothing changes then.
+/// `K1 NoLink` if the link is missing, out of service or held, `E1 Full` if it holds 1,151. Then nothing changes.
 #[tactic(auto, unfolding(crate::specs::Links::change))]
 pub(crate) fn bind_at(links: &mut [Link], at: usize, msu: Msu) -> Result<(), BindError>
     requires { 2 ≤ length msu.sif.items }
@@ -50,11 +50,11 @@ pub(crate) fn bind_at(links: &mut [Link], at: usize, msu: Msu) -> Result<(), Bin
     }
 }
 
-/// The changeover of a link begins.
+/// Begins the changeover of a link.
 ///
 /// # Errors
 ///
-/// `K1 NoLink` where there is no such link, `K2 Waiting` where its changeover goes on. Nothing changes then.
+/// `K1 NoLink` if there is no such link, `K2 Waiting` if its changeover goes on. Then nothing changes.
 #[tactic(auto, unfolding(crate::specs::Links::change))]
 pub(crate) fn fail_at(links: &mut [Link], at: usize) -> Result<Kind, FailError>
     ensures fault { fault_of result ≡ fault_at FailError.NoLink fail_fault_of (slice_get links.old at) }
@@ -71,7 +71,7 @@ pub(crate) fn fail_at(links: &mut [Link], at: usize) -> Result<Kind, FailError>
     }
 }
 
-/// What a message of the other point is to the link at a place, if it is there.
+/// How a changeover message from the other point counts at the link at a place, if it exists.
 pub(crate) fn heard_at(links: &[Link], at: usize, kind: Kind) -> Hearing
     ensures { result ≡ heard_at kind (slice_get links.now at) }
 {
@@ -81,7 +81,7 @@ pub(crate) fn heard_at(links: &[Link], at: usize, kind: Kind) -> Hearing
     }
 }
 
-/// The other point says something of a link. What is answered.
+/// Takes a changeover message about a link from the other point. Returns the answer, if there is one.
 #[tactic(auto, unfolding(crate::specs::Links::change))]
 pub(crate) fn hear_at(links: &mut [Link], at: usize, kind: Kind) -> Option<Kind>
     ensures reply { result ≡ replies_at kind (slice_get links.old at) }
@@ -95,12 +95,12 @@ pub(crate) fn hear_at(links: &mut [Link], at: usize, kind: Kind) -> Option<Kind>
     }
 }
 
-/// Hands out the messages of a link. How many there are.
+/// Retrieves the messages of a link. Returns how many there are.
 ///
 /// # Errors
 ///
-/// `K1 NoLink` where there is no such link or no changeover goes on there, `K2 Waiting` where they are out or an answer may still come, `K4 Unsure`
-/// with the number of those of which nothing is known, and then want of memory. Nothing changes then.
+/// `K1 NoLink` if there is no such link or no changeover goes on there, `K2 Waiting` if they are retrieved or an answer
+/// may still come, `K4 Unsure` with how many may be lost, else `NoMemory`. Then nothing changes.
 #[tactic(auto, unfolding(crate::specs::Links::change))]
 pub(crate) fn retrieve_at(links: &mut [Link], at: usize) -> Result<usize, RetrieveError>
     ensures fault { retrieve_refusal result ≡ fault_at RetrieveError.NoLink retrieve_fault (slice_get links.old at) }
@@ -115,12 +115,12 @@ pub(crate) fn retrieve_at(links: &mut [Link], at: usize) -> Result<usize, Retrie
     }
 }
 
-/// Hands out the unsent messages of a link. How many there are, and how many were sent.
+/// Retrieves the unsent messages of a link. Returns how many there are, and how many were sent.
 ///
 /// # Errors
 ///
-/// `K1 NoLink` where there is no such link or no changeover goes on there, `K2 Waiting` where [`retrieve_at`] isn't refused as unsure, and then want
-/// of memory. Nothing changes then.
+/// `K1 NoLink` if there is no such link or no changeover goes on there, `K2 Waiting` if [`retrieve_at`] isn't refused
+/// as unsure, else `NoMemory`. Then nothing changes.
 #[tactic(auto, unfolding(crate::specs::Links::change))]
 pub(crate) fn abandon_at(links: &mut [Link], at: usize) -> Result<(usize, usize), AbandonError>
     ensures fault { abandon_refusal result ≡ fault_at AbandonError.NoLink abandon_fault (slice_get links.old at) }

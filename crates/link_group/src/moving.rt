@@ -14,7 +14,7 @@ use link_term::{Msu, Terminal};
 use resend_store::MAX_KEPT;
 use std::collections::VecDeque;
 
-/// A message goes to a terminal that has room for it.
+/// Puts a message into a terminal that has room for it.
 #[tactic(auto, unfolding(crate::specs::Moving::term_takes))]
 fn give(terminal: &mut Terminal, msu: Msu)
     requires room { length terminal.old.processes.transceiver.sender.kept < MOST_KEPT }
@@ -24,7 +24,7 @@ fn give(terminal: &mut Terminal, msu: Msu)
     let _taken = terminal.put_diverted(msu).is_ok();
 }
 
-/// Turns the oldest message: one of a selection goes to the terminal, another one behind all others.
+/// Moves the oldest message: into the terminal if it has this selection, otherwise to the end of the list.
 fn turn_one(terminal: &mut Terminal, selection: u8, messages: &mut VecDeque<Msu>)
     requires room { length (of selection messages.old.items) + length terminal.old.processes.transceiver.sender.kept ≤ MOST_KEPT }
     requires whole { All IsMessage messages.old.items }
@@ -44,7 +44,7 @@ fn turn_one(terminal: &mut Terminal, selection: u8, messages: &mut VecDeque<Msu>
     }
 }
 
-/// Puts the messages of a selection behind those of a terminal, for which there is room. The others stay, in order.
+/// Puts the messages of a selection last in a terminal that has room. The others stay, in order.
 fn divert_selection(terminal: &mut Terminal, selection: u8, messages: &mut VecDeque<Msu>)
     requires room { length (of selection messages.old.items) + length terminal.old.processes.transceiver.sender.kept ≤ MOST_KEPT }
     requires whole { All IsMessage messages.old.items }
@@ -58,7 +58,7 @@ fn divert_selection(terminal: &mut Terminal, selection: u8, messages: &mut VecDe
     }
 }
 
-/// Puts all messages behind those of a terminal, for which there is room.
+/// Puts all messages last in a terminal that has room.
 fn retrieval_back(terminal: &mut Terminal, messages: &mut VecDeque<Msu>)
     requires room { length messages.old.items + length terminal.old.processes.transceiver.sender.kept ≤ MOST_KEPT }
     requires whole { All IsMessage messages.old.items }
@@ -70,7 +70,7 @@ fn retrieval_back(terminal: &mut Terminal, messages: &mut VecDeque<Msu>)
     }
 }
 
-/// Puts the messages of a selection, so many, behind those of a link that has room for all of them.
+/// Puts the messages of a selection, so many, last in a link, if it has room for all of them.
 #[tactic(auto, unfolding(crate::specs::Moving::takes_on))]
 fn take_on(
     link: &mut Link,
@@ -94,7 +94,7 @@ fn take_on(
     Ok(())
 }
 
-/// The same of the link at a place.
+/// As `take_on`, for the link at a place.
 #[tactic(auto, unfolding(crate::specs::Links::change))]
 fn take_on_at(
     links: &mut [Link],
@@ -147,7 +147,7 @@ fn share_one(
     Ok(())
 }
 
-/// Diverts the messages of one selection after another.
+/// Diverts the messages of all selections, one after another.
 fn share_all(
     links: &mut [Link],
     table: &mut Table,
@@ -168,7 +168,7 @@ fn share_all(
     Ok(())
 }
 
-/// Puts all messages behind those of a link that has room for them.
+/// Puts all messages last in a link, if it has room for them.
 #[tactic(auto, unfolding(crate::specs::Moving::takes_on))]
 fn take_back(link: &mut Link, messages: &mut VecDeque<Msu>) -> Result<(), DivertFault>
     requires { All IsMessage messages.old.items }
@@ -185,7 +185,7 @@ fn take_back(link: &mut Link, messages: &mut VecDeque<Msu>) -> Result<(), Divert
     Ok(())
 }
 
-/// Gives the retrieved messages back to their own link, where there are any.
+/// Puts the retrieved messages, if there are any, back into their own link.
 #[tactic(auto, unfolding(crate::specs::Moving::back_fault, crate::specs::Moving::back, crate::specs::Links::change))]
 fn give_back(
     links: &mut [Link],
@@ -220,11 +220,11 @@ fn is_own(able: &[usize], at: usize) -> bool
     }
 }
 
-/// Diverts a retrieval to the links that take it, or gives it back where that is its own.
+/// Diverts retrieved messages to the links that may take them, or back if that is their own link.
 ///
 /// # Errors
 ///
-/// `K1 NoLink` where none takes it, `E1 Full` where the link of a selection would hold more than 1,151: what didn't go stays in `messages`.
+/// `K1 NoLink` if no link may take them, `E1 Full` if a link would hold more than 1,151. The rest stay in `messages`.
 #[tactic(auto, unfolding(crate::specs::Moving::hands_over))]
 pub(crate) fn divert_all(
     links: &mut [Link],

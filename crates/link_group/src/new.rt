@@ -13,12 +13,12 @@ use link_term::{Hold, Terminal};
 use std::alloc::Global;
 
 impl Group {
-    /// The set of these links, by number, between this point and the other, both with codes below 16,384. There is one link at least and 16 at
-    /// most, and none holds a message.
+    /// The set of these links, by number, between this point and the other, both with codes below 16,384. There are 1
+    /// to 16 links, and none holds a message.
     ///
     /// # Errors
     ///
-    /// The terminals, where there is no memory.
+    /// If memory runs out. The terminals are returned.
     #[tactic(auto, unfolding(crate::specs::New::new_set))]
     pub fn new(
         alloc: Global,
@@ -73,7 +73,7 @@ fn fresh(alloc: Global, points: Points, mut terminal: Terminal) -> Link
     }
 }
 
-/// Links over terminals, for which there is room.
+/// Links over terminals. There must be room for them.
 pub(crate) fn all_fresh(
     alloc: Global,
     points: Points,

@@ -1,4 +1,4 @@
-//! Which links may take messages, and which hold some of a selection.
+//! Which links may take messages, and which hold messages of a selection.
 ghost use Rattle.std.specs.Prelude.{◌≡◌, ◌+◌, ◌<◌, ◌≤◌, ◌++◌, ◌∷◌, [], if◌then◌else◌, length, slice_get};
 ghost use Rattle.arrayvec.specs.ArrayVec.{array_vec_len};
 ghost use Rattle.group_changeover.specs.Sharing.{selection_of};
@@ -11,7 +11,7 @@ use crate::link::Link;
 use arrayvec::ArrayVec;
 use group_changeover::selection_of;
 
-/// Whether a link has an outage of a processor, or has none, as is asked.
+/// Whether a link has a processor outage, or has none, as requested.
 fn is_so_out(link: &Link, outage: bool) -> bool
     ensures { result ≡ is_so_out outage link.now }
 {
@@ -22,21 +22,21 @@ fn is_so_out(link: &Link, outage: bool) -> bool
     }
 }
 
-/// Whether a link isn't in changeover and hasn't failed, unless those that failed are asked for too.
+/// Whether a link isn't in changeover and, unless failed links are allowed, hasn't failed.
 fn is_still(link: &Link, failed: bool) -> bool
     ensures { result ≡ is_still failed link.now }
 {
     !link.availability.is_changing() && (failed || !link.availability.failed)
 }
 
-/// Whether a link is one of those that are asked for.
+/// Whether a link carries traffic, and is of the requested kind.
 pub(crate) fn is_open(link: &Link, failed: bool, outage: bool) -> bool
     ensures { result ≡ is_open failed outage link.now }
 {
     link.shares() && is_so_out(link, outage) && is_still(link, failed)
 }
 
-/// Puts the number of a link behind those of others that may, if it may.
+/// Appends the number of a link if it may take messages.
 fn note(able: &mut ArrayVec<usize, 16>, at: usize, may: bool)
     requires { array_vec_len able.old < MOST_LINKS }
     ensures items { able.new.items ≡ able.old.items ++ (if may then at ∷ [] else []) }
@@ -47,7 +47,7 @@ fn note(able: &mut ArrayVec<usize, 16>, at: usize, may: bool)
     }
 }
 
-/// The numbers of the links that may.
+/// The numbers of the links of the requested kind.
 fn open_links(links: &[Link], failed: bool, outage: bool) -> ArrayVec<usize, 16>
     requires { length links.now ≤ MOST_LINKS }
     ensures { result.items ≡ open_links failed outage links.now }
@@ -59,8 +59,8 @@ fn open_links(links: &[Link], failed: bool, outage: bool) -> ArrayVec<usize, 16>
     able
 }
 
-/// The numbers of the links that selections may have: in service, not held and admitted, and none that failed, unless those are asked for too.
-/// Those with an outage of a processor only where there are no others.
+/// The numbers of the links that selections may have: in service, not held, admitted, and not failed unless failed
+/// links are allowed. Links with a processor outage are used only if there are no others.
 #[tactic(auto, unfolding(crate::specs::Moving::able_links))]
 pub(crate) fn able_links(links: &[Link], failed: bool) -> ArrayVec<usize, 16>
     requires { length links.now ≤ MOST_LINKS }
@@ -74,7 +74,7 @@ pub(crate) fn able_links(links: &[Link], failed: bool) -> ArrayVec<usize, 16>
     }
 }
 
-/// The numbers of the links, with an outage or without, that never failed, else of those that failed and aren't in changeover.
+/// The numbers of the links, with an outage or without, that never failed, else of failed ones not in changeover.
 #[tactic(auto, unfolding(crate::specs::Moving::others))]
 fn others(links: &[Link], outage: bool) -> ArrayVec<usize, 16>
     requires { length links.now ≤ MOST_LINKS }
@@ -88,7 +88,7 @@ fn others(links: &[Link], outage: bool) -> ArrayVec<usize, 16>
     }
 }
 
-/// The numbers of the links that selections get as one may have some for the first time: those with an outage only where there are no others.
+/// The numbers of the links for a table that is remade: those with an outage only if there are no others.
 #[tactic(auto, unfolding(crate::specs::Moving::anew_links))]
 pub(crate) fn anew_links(links: &[Link]) -> ArrayVec<usize, 16>
     requires { length links.now ≤ MOST_LINKS }
@@ -102,7 +102,7 @@ pub(crate) fn anew_links(links: &[Link]) -> ArrayVec<usize, 16>
     }
 }
 
-/// The number of a link itself, if it may.
+/// The number of the link itself, if it may take messages.
 fn own_place(links: &[Link], at: usize, outage: bool) -> ArrayVec<usize, 16>
     ensures { result.items ≡ own_place at outage (slice_get links.now at) }
 {
@@ -114,8 +114,8 @@ fn own_place(links: &[Link], at: usize, outage: bool) -> ArrayVec<usize, 16>
     able
 }
 
-/// The numbers of the links that take what a link handed out, with an outage or without: others that never failed, else others that aren't in
-/// changeover, else itself.
+/// The numbers of the links, with an outage or without, that may take a link's retrieved messages: others that never
+/// failed, else others that aren't in changeover, else the link itself.
 #[tactic(auto, unfolding(crate::specs::Moving::way))]
 fn way(links: &[Link], at: usize, outage: bool) -> ArrayVec<usize, 16>
     requires { length links.now ≤ MOST_LINKS }
@@ -129,7 +129,7 @@ fn way(links: &[Link], at: usize, outage: bool) -> ArrayVec<usize, 16>
     }
 }
 
-/// The numbers of the links that take what a link handed out: those with an outage only where there are no others.
+/// The numbers of the links that may take a link's retrieved messages: those with an outage only without others.
 #[tactic(auto, unfolding(crate::specs::Moving::takers))]
 pub(crate) fn takers(links: &[Link], at: usize) -> ArrayVec<usize, 16>
     requires { length links.now ≤ MOST_LINKS }
@@ -143,7 +143,7 @@ pub(crate) fn takers(links: &[Link], at: usize) -> ArrayVec<usize, 16>
     }
 }
 
-/// Whether the message that a link holds at a place isn't bound to it and has a selection.
+/// Whether the held message at a place has this selection and isn't bound to the link.
 fn is_on(link: &Link, place: usize, selection: u8) -> bool
     ensures { result ≡ on_by link.now.points selection (slice_get (held link.now) place) }
 {
@@ -166,7 +166,7 @@ pub(crate) fn holds(link: &Link, selection: u8) -> bool
     false
 }
 
-/// Whether the link at a place does, if there is one.
+/// Whether the link at a place, if it exists, holds messages of a selection.
 pub(crate) fn holds_at(links: &[Link], at: usize, selection: u8) -> bool
     ensures { result ≡ holds_at selection (slice_get links.now at) }
 {
@@ -176,7 +176,7 @@ pub(crate) fn holds_at(links: &[Link], at: usize, selection: u8) -> bool
     }
 }
 
-/// Whether any link does.
+/// Whether any link holds messages of a selection.
 #[tactic(auto, unfolding(crate::specs::Tables::held_by_any))]
 pub(crate) fn held_by_any(links: &[Link], selection: u8) -> bool
     ensures { result ≡ held_by_any selection links.now }

@@ -1,4 +1,4 @@
-//! Selections get links.
+//! Giving links to selections.
 ghost use Rattle.std.specs.Prelude.{◌≡◌, ◌≤◌, length, false, OnOk, OnErr};
 ghost use Rattle.link_group.specs.Limits.{MOST_LINKS};
 ghost use Rattle.group_changeover.specs.Sharing.{selections};
@@ -12,8 +12,8 @@ use crate::open::{able_links, anew_links};
 use crate::tables::{any_changing, any_in_way, forgive_all, table_anew, table_of};
 use group_changeover::{RebalanceError, Table};
 
-/// Makes the table anew, as a link may have selections for the first time, for all selections but those whose link is in changeover, and those of
-/// which any link holds messages.
+/// Remakes the table if a link may have selections for the first time. Selections whose link is in changeover, or of
+/// which any link holds messages, keep their link.
 #[tactic(auto, unfolding(crate::specs::Placing::table_anew))]
 pub(crate) fn place_anew(links: &[Link], table: &mut Table, first: bool)
     requires { length links.now ≤ MOST_LINKS }
@@ -26,12 +26,12 @@ pub(crate) fn place_anew(links: &[Link], table: &mut Table, first: bool)
 }
 
 impl Group {
-    /// Shares all selections out among the links that are in service, not held and admitted, those that failed too; those with an outage of a
-    /// processor, here or there, only where there are no others.
+    /// Shares all selections among the links that are in service, not held and admitted, even failed ones; those with a
+    /// processor outage only if there are no others.
     ///
     /// # Errors
     ///
-    /// `K2 Waiting` while a changeover goes on, `K3 NotEmpty` where a selection would move of which its link holds messages. Nothing changes then.
+    /// `K2 Waiting` in a changeover, `K3 NotEmpty` if a link holds messages of a selection that moves. Nothing changes.
     #[tactic(auto, unfolding(crate::specs::Placing::rebalance_fault, crate::specs::Placing::rebalanced))]
     pub fn rebalance(&mut self) -> Result<(), RebalanceError>
         ensures fault { fault_of result ≡ rebalance_fault self.old }

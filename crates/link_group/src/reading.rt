@@ -1,4 +1,4 @@
-//! What a set tells of its links.
+//! Reading a set's links.
 ghost use Rattle.std.specs.Prelude.{◌≡◌, slice_get};
 ghost use Rattle.std.specs.Option.{option_copied};
 ghost use Rattle.link_group.specs.OneLink.{held};
@@ -13,7 +13,7 @@ use link_processes::Book;
 use link_term::{Msu, Terminal};
 
 impl Group {
-    /// How many messages a link holds, if it is there.
+    /// How many messages a link holds, if it exists.
     pub fn held(&self, link: usize) -> Option<usize>
         ensures { result ≡ read_at held_count (slice_get self.now.links link) }
     {
@@ -23,7 +23,7 @@ impl Group {
         }
     }
 
-    /// How many of them are sent and not acknowledged.
+    /// How many of a link's messages are sent and unacknowledged, if it exists.
     pub fn sent(&self, link: usize) -> Option<usize>
         ensures { result ≡ read_at sent_count (slice_get self.now.links link) }
     {
@@ -33,7 +33,7 @@ impl Group {
         }
     }
 
-    /// The message that a link holds at a place, the oldest at 0.
+    /// The message that a link holds at a place; the oldest is at 0.
     pub fn held_at(&self, link: usize, place: usize) -> Option<&Msu>
         ensures { option_copied result ≡ message_at place (slice_get self.now.links link) }
     {
@@ -53,7 +53,7 @@ impl Group {
         }
     }
 
-    /// How many messages a link handed out in its changeover that are not diverted yet, if it did hand them out: that may be none.
+    /// How many of a link's retrieved messages aren't diverted yet (perhaps 0); none if they aren't retrieved.
     pub fn hand(&self, link: usize) -> Option<usize>
         ensures { result ≡ hand_count (slice_get self.now.links link) }
     {
@@ -63,8 +63,8 @@ impl Group {
         }
     }
 
-    /// How many of these there are of each selection, as they were counted when the link handed them out, and anew when a diversion left some
-    /// ([`Group::retrieve`], [`Group::abandon`], [`Group::divert`]).
+    /// How many of these there are of each selection, counted when the link retrieved them and again when a diversion
+    /// left some ([`Group::retrieve`], [`Group::abandon`], [`Group::divert`]).
     pub fn hand_counts(&self, link: usize) -> Option<Counts>
         ensures { result ≡ retrieval_of (slice_get self.now.links link) }
     {
@@ -77,7 +77,7 @@ impl Group {
         }
     }
 
-    /// The terminal of a link, if it is there.
+    /// The terminal of a link, if it exists.
     pub fn terminal(&self, link: usize) -> Option<&Terminal>
         ensures { option_copied result ≡ read_at terminal_of (slice_get self.now.links link) }
     {
@@ -87,7 +87,7 @@ impl Group {
         }
     }
 
-    /// The actors of a link, with their journal, if it is there.
+    /// The actors of a link, with their journal, if it exists.
     pub fn book(&self, link: usize) -> Option<&Book>
         ensures { option_copied result ≡ read_at book_of (slice_get self.now.links link) }
     {

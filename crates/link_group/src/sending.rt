@@ -1,4 +1,4 @@
-//! Messages to send, and messages of a changeover.
+//! Messages to send, and messages of changeover.
 ghost use Rattle.std.specs.Prelude.{◌≡◌, true, Option, Some, length, OnOk, OnErr, IfOk, IfSome, ◌<◌};
 ghost use Rattle.group_changeover.specs.Limits.{SELECTIONS};
 ghost use Rattle.group_changeover.specs.Sharing.{selection_of};
@@ -20,25 +20,25 @@ use group_changeover::{
 };
 use link_term::Msu;
 
-/// What a message that came was, and the answer to send.
+/// How a received changeover message counted, and the answer to send.
 #[derive(Clone, Copy, Debug, PartialEq, Eq)]
 pub struct Answered {
-    /// What it was.
+    /// How the message counted.
     pub hearing: Hearing,
     /// The answer, to an order.
     pub reply: Option<Changeover>,
 }
 
-/// What octets that came were, and the field of the answer to send.
+/// How received octets counted, and the field of the answer to send.
 #[derive(Debug, Drop)]
 pub struct Heard {
-    /// What they were.
+    /// How the octets counted.
     pub hearing: Hearing,
     /// The answer, to an order.
     pub reply: Option<Sif>,
 }
 
-/// A message of changeover from one point to another.
+/// A changeover message from one point to another.
 fn message(own: u16, peer: u16, link: usize, kind: Kind) -> Changeover
     requires own { own < POINT_CODES }
     requires peer { peer < POINT_CODES }
@@ -67,13 +67,13 @@ fn sif_of(reply: Option<Changeover>) -> Option<Sif>
 }
 
 impl Group {
-    /// Takes a message to send, whose field begins with this label. It waits behind all others with the link of its selection.
+    /// Takes a message to send whose SIF begins with this label, and puts it last on the link of its selection.
     ///
     /// # Errors
     ///
-    /// `K5 Bound` where it is bound to a link: [`Group::send_by`] takes it. `K1 NoLink` where its selection has no link, or that link isn't in
-    /// changeover and is out of service, held or not admitted, `K2 Waiting` where that link is in changeover, `E1 Full` where as many wait there as
-    /// may. Nothing changes then.
+    /// `K5 Bound` if it is bound to a link: [`Group::send_by`] takes it. `K1 NoLink` if its selection has no link, or
+    /// that link isn't in changeover and is out of service, held or not admitted; `K2 Waiting` if that link is in
+    /// changeover; `E1 Full` if the most messages wait there. Then nothing changes.
     #[tactic(auto, using(crate::proofs::Fields::long_enough), unfolding(crate::specs::Set::send_fault, crate::specs::Set::sent))]
     pub fn send(&mut self, label: Label, msu: Msu) -> Result<(), SendError>
         requires { label_in msu.sif.items ≡ Some label }
@@ -92,9 +92,9 @@ impl Group {
         }
     }
 
-    /// Whether a message is bound to a link, and goes from this point to the other: one of the four of changeover, a changeback declaration or its
-    /// acknowledgement, traffic restart allowed (service indicator 0; Q.704, 15.4 to 15.6), or a test of the link or its acknowledgement (service
-    /// indicator 1; Q.707).
+    /// Whether a message from this point to the other is bound to a link: one of the four of changeover, a changeback
+    /// declaration or its acknowledgement, traffic restart allowed (service indicator 0; Q.704, 15.4 to 15.6), or a
+    /// test of the link or its acknowledgement (service indicator 1; Q.707).
     pub fn is_bound(&self, msu: &Msu) -> bool
         ensures { result ≡ is_bound (points_of self.now) msu.now }
     {
@@ -105,12 +105,12 @@ impl Group {
         points.is_bound(msu)
     }
 
-    /// Takes a message that is bound to a link. It waits there behind all others, and leaves by an acknowledgement, as the link's directions begin
-    /// anew, or as its messages are retrieved or given up; no other link gets it.
+    /// Takes a message that is bound to a link, and puts it last there. It leaves by an acknowledgement, by a restart
+    /// of the link's directions, or when messages are retrieved or given up. No other link gets it.
     ///
     /// # Errors
     ///
-    /// `K1 NoLink` where the link isn't there, is out of service or held, `E1 Full` where it holds 1,151 messages. Nothing changes then.
+    /// `K1 NoLink` if the link is missing, out of service or held, `E1 Full` if it holds 1,151. Then nothing changes.
     #[tactic(auto, using(crate::proofs::Fields::long_bound), unfolding(crate::specs::Set::bind_fault_at, crate::specs::Set::bound_at))]
     pub fn send_by(&mut self, link: usize, msu: Msu) -> Result<(), BindError>
         requires { is_bound (points_of self.old) msu ≡ true }
@@ -121,11 +121,11 @@ impl Group {
         bind_at(self.links.as_mut_slice(), link, msu)
     }
 
-    /// A link fails: its changeover begins. The order to send for it, by another link (Q.704, changeover).
+    /// Begins the changeover of a failed link. Returns the order to send for it by another link (Q.704, changeover).
     ///
     /// # Errors
     ///
-    /// `K1 NoLink` where it isn't there, `K2 Waiting` where its changeover goes on. Nothing changes then.
+    /// `K1 NoLink` if there is no such link, `K2 Waiting` if its changeover goes on. Then nothing changes.
     #[tactic(auto, unfolding(crate::specs::Changing::fail_fault, crate::specs::Changing::after_failure))]
     pub fn begin_changeover(&mut self, link: usize) -> Result<Changeover, FailError>
         ensures fault { fault_of result ≡ fail_fault self.old link }
@@ -138,11 +138,11 @@ impl Group {
         Ok(message(self.own, self.peer, link, kind))
     }
 
-    /// The same, with the field of that order.
+    /// As [`Group::begin_changeover`], with the field of that order.
     ///
     /// # Errors
     ///
-    /// Those of [`Group::begin_changeover`]. Nothing changes then.
+    /// Those of [`Group::begin_changeover`]. Then nothing changes.
     pub fn fail(&mut self, link: usize) -> Result<Sif, FailError>
         ensures fault { fault_of result ≡ fail_fault self.old link }
         ensures order { IfOk result (λ sif. Says sif.items (order_at self.old link)) }
@@ -153,14 +153,14 @@ impl Group {
         Ok(order.octets())
     }
 
-    /// Whether a message is for this point, from the other.
+    /// Whether a message is from the other point to this one.
     fn is_for(&self, message: Changeover) -> bool
         ensures { result ≡ is_for self.now message }
     {
         message.label.dpc == self.own && message.label.opc == self.peer
     }
 
-    /// What a message is to this set.
+    /// How a changeover message counts in this set.
     fn hearing(&self, message: Changeover) -> Hearing
         ensures { result ≡ hearing_of self.now (Some message) }
     {
@@ -171,7 +171,7 @@ impl Group {
         heard_at(self.links.as_slice(), link, message.kind)
     }
 
-    /// What a message leads to, and what is answered.
+    /// Takes a changeover message. Returns the answer, if there is one.
     fn answer(&mut self, heard: Changeover) -> Option<Changeover>
         requires { IsLabel heard.label }
         ensures set { self.new ≡ after_message self.old (Some heard) }
@@ -188,8 +188,8 @@ impl Group {
         }
     }
 
-    /// Takes a message of changeover that came, and tells what it was, with the answer to send, if any. One that isn't from the other point to this
-    /// one, or is about a link that isn't there, changes nothing and gets no answer.
+    /// Takes a received changeover message. Returns how it counted, and the answer to send, if any. A message not from
+    /// the other point to this one, or about a link that doesn't exist, changes nothing and gets no answer.
     pub fn hear(&mut self, message: Changeover) -> Answered
         requires { IsLabel message.label }
         ensures set { self.new ≡ after_message self.old (Some message) }
@@ -202,8 +202,8 @@ impl Group {
         Answered { hearing, reply }
     }
 
-    /// The same of the field of a message that came, with that of the answer. Octets that aren't just a message of changeover change nothing and get
-    /// no answer.
+    /// As `hear`, for the field of a received message, with the field of the answer. Octets that aren't exactly a
+    /// changeover message change nothing and get no answer.
     pub fn changeover_message(&mut self, sif: &[u8]) -> Heard
         ensures set { (m : Option PlainChangeover) → IsRead sif.now m → self.new ≡ after_message self.old m }
         ensures hearing { (m : Option PlainChangeover) → IsRead sif.now m → result.hearing ≡ hearing_of self.old m }
@@ -224,16 +224,16 @@ impl Group {
         }
     }
 
-    /// Hands out the messages of a link in changeover that the far side may lack, for [`Group::divert`], and answers how many there are:
-    /// those behind the ones that it told that it accepted, the unacknowledged ones first, and where it told no number, those that weren't
-    /// sent since both directions last began anew (Q.704, retrieval). The first number that it told counts, for the messages of which it
-    /// spoke as it was heard; one that would acknowledge more than was sent then is none.
+    /// Retrieves, for [`Group::divert`], the messages of a link in changeover that the far side may lack, and returns
+    /// how many there are (Q.704, retrieval): those after the ones that it reported as accepted, the unacknowledged
+    /// first; without a number, those not sent since both directions last restarted. The first number reported counts,
+    /// resolved as it was heard; one that would acknowledge more than was sent then counts as none.
     ///
     /// # Errors
     ///
-    /// `K1 NoLink` where it isn't there or no changeover goes on, `K2 Waiting` where they are handed out already, or nothing was told and fewer
-    /// than 1,400 ticks have passed since the changeover began, `K4 Unsure` and their count where messages were sent and it isn't known which
-    /// of them arrived; then want of memory. Nothing changes then.
+    /// `K1 NoLink` if there is no such link or no changeover goes on there, `K2 Waiting` if they are retrieved already,
+    /// or there is no answer and fewer than 1,400 ticks passed since the changeover began, `K4 Unsure` and their count
+    /// if messages were sent and it isn't known which of them arrived; else `NoMemory`. Then nothing changes.
     #[tactic(auto, unfolding(crate::specs::Changing::retrieve_fault_at, crate::specs::Changing::after_retrieve, crate::specs::Changing::messages_for))]
     pub fn retrieve(&mut self, link: usize) -> Result<usize, RetrieveError>
         ensures fault { retrieve_refusal result ≡ retrieve_fault_at self.old link }
@@ -244,12 +244,12 @@ impl Group {
         retrieve_at(self.links.as_mut_slice(), link)
     }
 
-    /// Gives up the messages of a link in changeover that were sent: they count as unsure. Hands out those that weren't sent since both
-    /// directions last began anew, and answers how many there are.
+    /// Gives up the sent messages of a link in changeover: they count as unsure. Retrieves those not sent since both
+    /// directions last restarted, and returns how many there are.
     ///
     /// # Errors
     ///
-    /// `K1 NoLink` as for `retrieve`, `K2 Waiting` where that isn't refused as unsure; then want of memory. Nothing changes then.
+    /// `K1 NoLink` as `retrieve`, `K2 Waiting` if that isn't refused as unsure, else `NoMemory`. Then nothing changes.
     #[tactic(auto, unfolding(crate::specs::Changing::abandon_fault_at, crate::specs::Changing::after_abandon, crate::specs::Changing::unsent_at))]
     pub fn abandon(&mut self, link: usize) -> Result<usize, AbandonError>
         ensures fault { abandon_refusal result ≡ abandon_fault_at self.old link }

@@ -1,4 +1,4 @@
-//! What a link is, as level 3 sees it.
+//! The state of a link, as level 3 sees it.
 ghost use Rattle.std.specs.Prelude.{◌≡◌, slice_get};
 ghost use Rattle.group_changeover.specs.Saying.{count_in};
 ghost use Rattle.link_group.specs.Links.{read_at};
@@ -8,28 +8,28 @@ use crate::group::Group;
 use crate::link::Link;
 use group_changeover::{Answer, Changing};
 
-/// What a link is.
+/// The state of a link.
 #[derive(Clone, Copy, Debug, PartialEq, Eq)]
 pub struct LinkState {
-    /// It is in service, by what was told last.
+    /// The link is in service, as last reported.
     pub in_service: bool,
-    /// Its changeover began, and nothing was rebalanced since.
+    /// Its changeover began, and the set wasn't rebalanced since.
     pub failed: bool,
-    /// It gives no message for the line and accepts none (Q.704, changeover).
+    /// The link sends and accepts no message (Q.704, changeover).
     pub held: bool,
-    /// It is in changeover, since so many ticks.
+    /// How many ticks ago its changeover began, if one goes on.
     pub changeover: Option<u64>,
-    /// What the far side told in that: how many of the messages that are kept it accepted, or that this isn't known.
+    /// The far side's answer in the changeover: how many of the held messages it accepted, or that this isn't known.
     pub answer: Option<Answer>,
-    /// It was started while it was out of service, and hasn't come into service since.
+    /// The link was started while out of service, and hasn't come into service since.
     pub anew: bool,
-    /// The far side's processor is out.
+    /// The far side has a processor outage.
     pub far_out: bool,
-    /// This side's processor is out.
+    /// This side has a processor outage.
     pub own_out: bool,
-    /// Messages may go out on the line: its actors say so, and it isn't held.
+    /// Messages may be sent on the line: its actors say so, and it isn't held.
     pub carrying: bool,
-    /// Level 3 admits it to selections and to what other links hand out.
+    /// Level 3 admits it to selections and to other links' retrieved messages.
     pub admitted: bool,
 }
 
@@ -71,7 +71,7 @@ fn state_of(link: &Link) -> LinkState
 }
 
 impl Group {
-    /// What a link is, if it is there.
+    /// The state of a link, if it exists.
     pub fn state(&self, link: usize) -> Option<LinkState>
         ensures { result ≡ read_at state_of (slice_get self.now.links link) }
     {

@@ -1,4 +1,4 @@
-//! The links that selections get.
+//! The table of selections and their links.
 ghost use Rattle.std.specs.Prelude.{◌≡◌, ◌<◌, false, map};
 ghost use Rattle.std.specs.List.{list_any};
 ghost use Rattle.group_changeover.specs.Limits.{SELECTIONS};
@@ -36,7 +36,7 @@ pub(crate) fn table_of(able: &[usize]) -> Table
     }
 }
 
-/// The link that a selection has in a table made anew.
+/// The link of a selection in a table that is remade.
 fn anew_on(links: &[Link], table: &Table, able: &[usize], selection: u8) -> Option<usize>
     ensures { result ≡ anew_on links.now table.now.links able.now selection }
 {
@@ -53,7 +53,7 @@ fn anew_on(links: &[Link], table: &Table, able: &[usize], selection: u8) -> Opti
     }
 }
 
-/// The table made anew.
+/// The table that is remade.
 pub(crate) fn table_anew(links: &[Link], table: &Table, able: &[usize]) -> Table
     ensures { result.links ≡ map (anew_on links.now table.now.links able.now) selections }
 {
@@ -91,7 +91,7 @@ pub(crate) fn any_changing(links: &[Link]) -> bool
     false
 }
 
-/// Whether a selection would move of which its link holds messages.
+/// Whether a selection would move whose link holds messages of it.
 #[tactic(auto, unfolding(crate::specs::Tables::in_way))]
 fn in_way(links: &[Link], table: &Table, able: &[usize], selection: u8) -> bool
     ensures { result ≡ in_way links.now table.now.links able.now selection }
@@ -109,7 +109,7 @@ fn in_way(links: &[Link], table: &Table, able: &[usize], selection: u8) -> bool
     }
 }
 
-/// Whether any would.
+/// Whether any selection would move whose link holds messages of it.
 pub(crate) fn any_in_way(links: &[Link], table: &Table, able: &[usize]) -> bool
     ensures { result ≡ any_below (in_way links.now table.now.links able.now) SELECTIONS }
 {
@@ -121,14 +121,14 @@ pub(crate) fn any_in_way(links: &[Link], table: &Table, able: &[usize]) -> bool
     false
 }
 
-/// A link no longer counts as one that failed.
+/// Clears the mark of a link that it failed.
 fn forgive(link: &mut Link)
     ensures { link.new ≡ forgiven link.old }
 {
     link.availability.failed = false;
 }
 
-/// No link counts as one that failed.
+/// Clears the mark of all links that they failed.
 pub(crate) fn forgive_all(links: &mut [Link])
     ensures { links.new ≡ map forgiven links.old }
 {

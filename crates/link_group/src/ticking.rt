@@ -1,4 +1,4 @@
-//! Ticks at the links of a set.
+//! Ticks at a set's links.
 ghost use Rattle.std.specs.Prelude.{◌≡◌, All, map, false, true, None, OnOk, OnErr};
 ghost use Rattle.link_term.specs.Machine.{is_low, tick_refusal};
 ghost use Rattle.link_group.specs.Ticking.{roomy, HasRoom, LacksRoom, first_refusal, passed, due_at, all_due};
@@ -7,7 +7,7 @@ use crate::link::Link;
 use actor_machine::Refusal;
 use std::alloc::AllocError;
 
-/// Makes room in the journal of a link, where it is needed.
+/// Makes room in the journal of a link, if needed.
 fn make_room(link: &mut Link) -> Result<(), AllocError>
     ensures ok { OnOk result (link.new ≡ roomy link.old) }
     ensures err { OnErr result (link.new ≡ link.old) }
@@ -16,11 +16,11 @@ fn make_room(link: &mut Link) -> Result<(), AllocError>
     link.terminal.make_room()
 }
 
-/// Makes room in the journals of all links, where it is needed.
+/// Makes room in the journals of all links, if needed.
 ///
 /// # Errors
 ///
-/// Where that needs memory and there is none: the links before that one have room.
+/// If memory runs out at a link. The links before it have room then.
 pub(crate) fn make_room_all(links: &mut [Link]) -> Result<(), AllocError>
     ensures ok { OnOk result (links.new ≡ map roomy links.old) }
     ensures err { OnErr result (LacksRoom links.old links.new) }
@@ -41,7 +41,7 @@ fn refusal_of(link: &Link, ticks: u64) -> Option<Refusal>
     link.terminal.advance_refusal(ticks)
 }
 
-/// Why so many ticks can't pass: that of the first link at which they can't.
+/// Why so many ticks can't pass: the refusal of the first link that has one.
 pub(crate) fn tick_refusal(links: &[Link], ticks: u64) -> Option<Refusal>
     ensures { result ≡ first_refusal ticks links.now }
 {
@@ -54,7 +54,7 @@ pub(crate) fn tick_refusal(links: &[Link], ticks: u64) -> Option<Refusal>
     None
 }
 
-/// Lets ticks pass at a link that has room for them. How many timers were due.
+/// Lets ticks pass at a link that has room for them. Returns how many timers were due.
 fn pass(link: &mut Link, ticks: u64) -> usize
     requires room { is_low link.old.terminal.processes ≡ false }
     requires may { tick_refusal ticks link.old.terminal.processes ≡ None }
@@ -68,7 +68,7 @@ fn pass(link: &mut Link, ticks: u64) -> usize
     }
 }
 
-/// Lets ticks pass at all links, where room was made, and at none of which they can't pass. How many timers were due.
+/// Lets ticks pass at all links, which have room and refuse none. Returns how many timers were due.
 pub(crate) fn pass_all(links: &mut [Link], ticks: u64) -> usize
     requires room { All HasRoom links.old }
     requires may { first_refusal ticks links.old ≡ None }

@@ -15,7 +15,7 @@ use crate::ticking::{make_room_all, pass_all, tick_refusal};
 use group_changeover::Table;
 use link_term::CallError;
 
-/// Looks which links came into service: as one may have selections for the first time, the table is made anew.
+/// Checks which links came into service. The table is remade if one may have selections for the first time.
 fn see_each(links: &mut [Link], table: &mut Table)
     requires { length links.old ≤ MOST_LINKS }
     ensures links { links.new ≡ map asked links.old }
@@ -26,14 +26,14 @@ fn see_each(links: &mut [Link], table: &mut Table)
 }
 
 impl Group {
-    /// Lets so many ticks pass on all links, one a millisecond, or on none. How many timers were due on all of them. Each changeover that goes on
-    /// has waited for so many ticks more.
+    /// Lets so many ticks pass on all links, one per millisecond, or on none. Returns how many timers were due on all
+    /// of them. Each changeover that goes on has waited for so many more ticks.
     ///
     /// # Errors
     ///
-    /// Room is made on each link first, as before a command: `NoMemory` where that needs memory and there is none, and the links before that one
-    /// have room. Then the refusal of the first link that has one (`W1 TooFar`, `W2 ClockFull`, `B8 JournalFull`); all have room. Nothing else
-    /// changed in either case.
+    /// Room is made on each link first, as before a command: `NoMemory` if memory runs out at a link, and the links
+    /// before it have room. Then the refusal of the first link that has one (`W1 TooFar`, `W2 ClockFull`, `B8
+    /// JournalFull`); all have room. Nothing else changes in either case.
     #[tactic(auto, unfolding(crate::specs::Ticks::after_ticks))]
     pub fn tick(&mut self, ticks: u64) -> Result<usize, CallError>
         ensures due { IfOk result (λ due. due ≡ all_due ticks (with_room self.old.links)) }
