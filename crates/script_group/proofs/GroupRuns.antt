@@ -1,4 +1,4 @@
--- A run, one command more, and the units that go out on a link.
+-- A run with one more command, and the units sent on a link.
 use Rattle.std.proofs.Common.{◌≡◌, ℕ, suc, ◌+◌, ◌-◌, ◌<◌, ◌≤◌, Bool, true, false, List, [], ◌∷◌, ◌++◌, length, map, take, drop, get_or, append_assoc, append-nil, Option, None, Some, refl, sym, ap, subst, arith, ◌∙◌}
 use Rattle.std.specs.Prelude.{codes, is_some}
 use Rattle.std.specs.List.{flat_map}
@@ -24,9 +24,9 @@ use Rattle.script_group.specs.GroupAnswers.{Playing, NO_LINK, GoOut, none_goes, 
 use Rattle.script_group.specs.GroupAnswers as answers
 use Rattle.script_group.specs.GroupRuns.{Goes, begins, prints, holds, IsGroupRun, HasGone, HasGoneOut, HasGivenOut, IsGroupMissedBy, IsGroupMissed}
 
--- ---- units that go out
+-- ---- sent units
 
--- so many units went out on a link and were printed, and whatever goes out next goes out behind them
+-- `k` units were sent on a link and printed, and further units follow them.
 pub record HasGoneSoFar (l k : ℕ) (old new last next : Option (List ℕ)) (c now : LinkSet) : Type 0 where
   pub lines : List (List ℕ)
   pub printed : HasPrinted old new last next lines
@@ -46,7 +46,7 @@ none_gone l old last c =
       others = λ n more d out. let number : n ≡ 0 + n = omega arith in out_same l n (0 + n) c d more more number refl out;
     }
 
--- one unit more
+-- One more unit.
 one_more_by : (l k : ℕ) (old now next last mid after : Option (List ℕ)) (c d e : LinkSet) (unit : Option units.Unit) → true ≡ is_some unit
     → ByLink (Sent unit) l d e → HasPrinted now next mid after (unit_line unit ∷ []) → HasGoneSoFar l k old now last mid c d
     → HasGoneSoFar l (k + 1) old next last after c e
@@ -66,7 +66,7 @@ pub one_more_gone : (l k : ℕ) (old now next last mid after : Option (List ℕ)
 one_more_gone l k old now next last mid after c d e went on gone so_far =
     one_more_by l k old now next last mid after c d e gone.unit (sym on ∙ gone.some) gone.sent gone.printed so_far
 
--- none goes out
+-- No unit is sent.
 silent_by : (l k asked : ℕ) (old now next last mid after : Option (List ℕ)) (c d e : LinkSet) (unit : Option units.Unit) → k < asked
     → false ≡ is_some unit → ByLink (Sent unit) l d e → HasPrinted now next mid after (unit_line unit ∷ []) → HasGoneSoFar l k old now last mid c d
     → HasGoneOut l asked old next last after c e
@@ -86,7 +86,7 @@ pub silent_now : (l k asked : ℕ) (old now next last mid after : Option (List �
 silent_now l k asked old now next last mid after c d e went less off gone so_far =
     silent_by l k asked old now next last mid after c d e gone.unit less (sym off ∙ gone.some) gone.sent gone.printed so_far
 
--- all that were asked for went out
+-- All requested units were sent.
 pub all_gone : (l k asked : ℕ) (old now last mid : Option (List ℕ)) (c d : LinkSet) → k ≤ asked → asked ≤ k → HasGoneSoFar l k old now last mid c d
     → HasGoneOut l asked old now last mid c d
 all_gone l k asked old now last mid c d most least so_far =
@@ -97,7 +97,7 @@ all_gone l k asked old now last mid c d most least so_far =
       printed = so_far.printed;
     }
 
--- of a link that is there, or isn't
+-- For a link that exists, and for one that doesn't.
 pub given_there : (l n : ℕ) (old new last next : Option (List ℕ)) (c d : LinkSet) → l < length c.links → HasGoneOut l n old new last next c d
     → HasGivenOut l n old new last next c d
 given_there l n old new last next c d there gone = record { lines = gone.lines; out = answers.out_goes gone.lines d there gone.out; printed = gone.printed }
@@ -110,11 +110,11 @@ given_nowhere l n old new last next c text past is latest_is written =
 
 -- ---- runs
 
--- nothing was obeyed yet
+-- Nothing was obeyed yet.
 pub run_begins : (t : Playing) (now : Option (List ℕ)) → IsGroupRun t [] now now t None
 run_begins t now = record { lines = []; goes = begins; written = Appends-nil now }
 
--- an expectation that holds
+-- An expectation that holds.
 pub run_held : (t : Playing) (before : List PlainGroupSaid) (said : PlainGroupSaid) (text : List ℕ) (first written : Option (List ℕ)) (now : Playing)
     (last : Option (List ℕ)) → said.command ≡ expected text → last ≡ Some text
     → IsGroupRun t before first written now last → IsGroupRun t (before ++ said ∷ []) first written now last
@@ -123,7 +123,7 @@ run_held t before said text first written now last is same run =
     let Q : Option (List ℕ) → Type 0 = λ l. Goes t (before ++ said ∷ []) run.lines now l in
     record { lines = run.lines; goes = subst Q (sym same) (holds said is (subst P same run.goes)); written = run.written }
 
--- a command that printed its lines
+-- A command that printed its lines.
 pub run_printed : (t : Playing) (before : List PlainGroupSaid) (said : PlainGroupSaid) (lines : List (List ℕ)) (first old new : Option (List ℕ)) (now next : Playing)
     (last after : Option (List ℕ)) → Obeys said.command now lines next → HasPrinted old new last after lines
     → IsGroupRun t before first old now last → IsGroupRun t (before ++ said ∷ []) first new next after
@@ -138,7 +138,7 @@ run_printed t before said lines first old new now next last after obeys printed 
           (Appends-trans first old new (flat_map line_of run.lines) (flat_map line_of lines) run.written printed.written);
     }
 
--- what is neither `out`, `on` nor an expectation prints one line
+-- A command other than `out`, `on` and `expect` prints one line.
 pub obeys_one : (c : GroupCommand) (t u : Playing) (text : List ℕ) → ((x : _) → c ≡ code.Expect x → ⊥) → ((x : _) → c ≡ code.On x → ⊥)
     → ((x : _) → c ≡ code.Out x → ⊥) → Answers (plain_group_command c) t text u → Obeys (plain_group_command c) t (text ∷ []) u
 obeys_one (code.Order o) t u text no_expect no_on no_out answers = record { text = text; one = refl; answers = answers }
@@ -166,7 +166,7 @@ pub obeys_on : (c : GroupCommand) (l : ℕ) (t u : Playing) → c ≡ code.On l 
 obeys_on c l t u is makes =
     let P : GroupCommand → Type 0 = λ d. Obeys (plain_group_command d) t [] u in subst P (sym is) (record { none = refl; makes = makes })
 
--- one command more of a list
+-- One more command of a list.
 pub run_more : (t : Playing) (before : List PlainGroupSaid) (items : List GroupSaid) (i : ℕ) (x : GroupSaid) (first written : Option (List ℕ)) (now : Playing)
     (last : Option (List ℕ)) → i < length items → x ≡ get_or items i x
     → IsGroupRun t ((before ++ map plain_group_said (take i items)) ++ plain_group_said x ∷ []) first written now last
@@ -179,7 +179,7 @@ run_more t before items i x first written now last within is run =
     ∙ ap (λ commands. before ++ commands) (sym (map-append plain_group_said (take i items) (x ∷ [])) ∙ ap (map plain_group_said) (sym taken)))
     run
 
--- an expectation that fails behind the commands that were obeyed
+-- An expectation that fails after commands that were obeyed.
 pub run_missed : (t : Playing) (before : List PlainGroupSaid) (items : List GroupSaid) (i : ℕ) (x : GroupSaid) (first old new : Option (List ℕ)) (now : Playing)
     (last : Option (List ℕ)) → i < length items → x ≡ get_or items i x → IsGroupRun t (before ++ map plain_group_said (take i items)) first old now last
     → IsGroupMissedBy (plain_group_said x) last old new → IsGroupMissed (before ++ map plain_group_said items) first new t

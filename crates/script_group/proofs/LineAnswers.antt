@@ -1,4 +1,4 @@
--- What comes in on a link of a set.
+-- Octets received on a link of a set.
 use Rattle.std.proofs.Common.{◌≡◌, ℕ, ◌+◌, ◌<◌, ◌≤◌, List, [], ◌∷◌, length, drop, Option, None, Some, Bool, true, false, if◌then◌else◌, refl, sym, ap, subst, arith, ◌∙◌}
 use Rattle.std.specs.Prelude.{codes, is_some, slice_get, slice_set}
 use Rattle.std.proofs.lemmas.List.{length-drop, drop-drop}
@@ -20,7 +20,7 @@ abbrev reports_by : Option Link → ℕ
 reports_by None = 0
 reports_by (Some k) = reports k.terminal.processes.transceiver
 
--- how many reports of a link wait
+-- The number of pending reports of a link.
 abbrev pub reports_at : ℕ → LinkSet → ℕ
 reports_at l c = reports_by (slice_get c.links l)
 
@@ -35,7 +35,7 @@ seen_links : (l : ℕ) (c : LinkSet) → (seen l c).links ≡ change c.links l a
 unfolding seen
 seen_links l c = refl
 
--- the link behind a call by its terminal
+-- The link after a call by its terminal.
 link_behind : (did : Link → Link → Type 0) (l : ℕ) (c d : LinkSet) (by_link : ByLink did l c d) → slice_get d.links l ≡ Some (asked by_link.at.after)
 link_behind did l c d by_link =
     let there : slice_get by_link.links l ≡ Some by_link.at.after =
@@ -43,7 +43,7 @@ link_behind did l c d by_link =
     ap (λ (x : LinkSet). slice_get x.links l) by_link.set
     ∙ (ap (λ ks. slice_get ks l) (seen_links l (record c { links = by_link.links })) ∙ change_there asked by_link.links l by_link.at.after there)
 
--- what is asked of a link behind a call leaves its reports
+-- Updating a link after a call leaves its reports unchanged.
 asked_case : (k : Link) (b : Bool) → reports (asked_of (if b then leaves_out (unbegun k) else unbegun k)).terminal.processes.transceiver ≡ reports k.terminal.processes.transceiver
 asked_case k true = refl
 asked_case k false = refl
@@ -61,12 +61,12 @@ fewer_left l c d r by_link =
     let after : reports_at l d ≡ reports j.terminal.processes.transceiver = ap reports_by (link_behind (Reported (Some r)) l c d by_link) ∙ reports_asked j in
     omega (arith, less, before, after)
 
--- by what was handed out
+-- By the report taken out, if there was one.
 pub reported_by : (l : ℕ) (c d : LinkSet) (o : Option Report) (b : Bool) → b ≡ is_some o → ByLink (Reported o) l c d → HasReported l c d b
 reported_by l c d None b is by_link = let P : Bool → Type 0 = λ x. HasReported l c d x in subst P (sym is) (was_none by_link)
 reported_by l c d (Some r) b is by_link = let P : Bool → Type 0 = λ x. HasReported l c d x in subst P (sym is) (was_one r by_link)
 
--- one was taken out
+-- One report was taken out.
 pub fewer_after : (l : ℕ) (c d : LinkSet) (one : Bool) → one ≡ true → HasReported l c d one → reports_at l d < reports_at l c
 fewer_after l c d true is (was_one r by_link) = fewer_left l c d r by_link
 fewer_after l c d false is (was_none by_link) = absurd (let e : false ≡ true = is in cc)
@@ -90,11 +90,11 @@ nothing_behind n xs long =
     empty_list [] none = refl
     empty_list (y ∷ ys) none = absurd (omega (arith, none))
 
--- nothing is left
+-- No octets remain.
 pub listens_end : (l : ℕ) (c : LinkSet) (octets : List ℕ) (from : ℕ) → length octets ≤ from → Listens l c (drop from octets) c
 listens_end l c octets from over = let P : List ℕ → Type 0 = λ xs. Listens l c xs c in subst P (sym (nothing_behind from octets over)) (answers.heard_all c)
 
--- a part of what is left
+-- A part of the remaining octets.
 pub listens_more : (l : ℕ) (c w d : LinkSet) (octets xs : List ℕ) (from n : ℕ) → xs ≡ drop from octets → TakesPart l xs n c w
     → Listens l w (drop (from + n) octets) d → Listens l c (drop from octets) d
 listens_more l c w d octets xs from n same takes others =

@@ -14,18 +14,18 @@ use Rattle.script_terminal.specs.link_term_types.opening.OpenError.TheVariants.{
 use Rattle.script_terminal.specs.TermRuns.{PrintsLacking, LacksName}
 use Rattle.script_group.specs.GroupRuns.{AreNew, LacksOne}
 
--- it holds no message
+-- The terminal holds no message.
 abbrev pub IsEmpty : Term → Type 0
 IsEmpty t = (window_of t).kept ≡ []
 
--- nor does one that is new
+-- A new terminal holds no message.
 unused : (d : Draft) (limits : RoundLimits) (mode : Mode) (t : Term) → IsOverWithin d limits mode t → IsEmpty t
 unused d limits mode t new = ap (λ s. s.sender.kept) new.transceiver
 
 pub all_unused : (d : Draft) (limits : RoundLimits) (head : GroupHead) (ts : List Term) → AreNew d limits head ts → All IsEmpty ts
 all_unused d limits head ts new = All-weaker (IsOverWithin d limits head.mode) IsEmpty (unused d limits head.mode) ts new.are_new
 
--- so many so far
+-- `n` new terminals so far.
 pub record AreSoFar (d : Draft) (limits : RoundLimits) (mode : Mode) (n : ℕ) (ts : List Term) : Type 0 where
   pub number : length ts ≡ n
   pub are_new : All (IsOverWithin d limits mode) ts

@@ -1,4 +1,4 @@
--- Messages that are handed out and diverted.
+-- Messages that are retrieved and diverted.
 use Rattle.std.proofs.Common.{◌≡◌, ℕ, List, length, Option, None, Err, sym, ap, subst, ◌∙◌}
 use Rattle.link_group.specs.Set.{LinkSet}
 use Rattle.link_group.specs.Changing.{retrieve_fault_at, after_retrieve, messages_for, abandon_fault_at, after_abandon, unsent_at}
@@ -11,7 +11,7 @@ use Rattle.link_group.specs.group_changeover_types.errors.AbandonError.TheVarian
 use Rattle.script_group.specs.GroupAnswers.{count_line, Retrieves, Abandons, divert_line, Diverts, IsRetrieveLine, IsAbandonLine}
 use Rattle.script_group.specs.GroupAnswers as answers
 
--- ---- handed out
+-- ---- retrieved
 
 retrieves_at : (l : ℕ) (c d w : LinkSet) (text said : List ℕ) → text ≡ said → d ≡ w → Retrieves l c said w → Retrieves l c text d
 retrieves_at l c d w text said is makes was =

@@ -1,4 +1,4 @@
--- What each command of a link set's script makes of the set, and the lines that it prints.
+-- The effect of each command of a link set's script on the set, and the lines that it prints.
 use Rattle.std.specs.Prelude.{◌≡◌, ℕ, ◌<◌, ◌≤◌, zero, suc}
 use Rattle.std.specs.Prelude.{Bool, true, false, List, [], ◌∷◌, ◌++◌, length, drop, Option}
 use Rattle.std.specs.Prelude.{None, Some, slice_get, codes}
@@ -49,7 +49,7 @@ use Rattle.script_terminal.specs.TermAnswers.{command_of, IsMessageOf}
 use Rattle.script_terminal.specs.UnitLines.{IsLineOf}
 use Rattle.script_group.specs.Shown.{table_line, link_text}
 
--- Of a script that runs: the set, and the link that lines speak of.
+-- The state of a running script: the set, and the current link.
 pub record Playing : Type 0 where
   pub set : LinkSet
   pub on : ℕ
@@ -62,12 +62,12 @@ at c l = record { set = c; on = l }
 abbrev pub NO_LINK : List ℕ
 NO_LINK = codes "refused K1 NoLink"
 
--- `ok`, or a refusal
+-- `ok`, or the line of a refusal.
 abbrev pub said_by : {E : Type 0} → (E → List ℕ) → Option E → List ℕ
 said_by text None = codes "ok"
 said_by text (Some e) = codes "refused " ++ text e
 
--- what a call that isn't refused makes of a set; one that is refused changes nothing
+-- The effect of a call on a set; a refused call changes nothing.
 abbrev pub set_by : {E : Type 0} → Option E → LinkSet → LinkSet → LinkSet
 set_by None new old = new
 set_by (Some e) new old = old
@@ -80,8 +80,8 @@ count_line n = codes "ok " ++ decimal n
 
 -- ---- commands to the terminal of a link
 
--- The actors of the link's terminal are asked; Start waits while a changeover of the link hasn't
--- handed its messages out. Only room in the journal is made where they refuse.
+-- The order goes to the actors of the link's terminal. Start is refused (K2) until a changeover of
+-- the link has retrieved its messages. If the actors refuse, only room in the journal is made.
 pub data IsTold (e : Command) (l : ℕ) (c : LinkSet) : List ℕ → LinkSet → Type 0 where
   told_nowhere : length c.links ≤ l → IsTold e l c NO_LINK c
   told_waits :
@@ -91,7 +91,7 @@ pub data IsTold (e : Command) (l : ℕ) (c : LinkSet) : List ℕ → LinkSet →
       (r : Refusal) (d : LinkSet) → Alone (Refused e r) l c d → IsTold e l c (refused_text r) d
   told_taken : (d : LinkSet) → ByCommand e l c d → IsTold e l c (codes "ok") d
 
--- the line of a refused order; want of memory has none
+-- The line of a refused order; none if memory ran out.
 abbrev pub IsBarredLine : CommandError → List ℕ → Type 0
 IsBarredLine barring.NoLink text = text ≡ NO_LINK
 IsBarredLine barring.Waiting text = text ≡ codes "refused K2 Waiting"
@@ -100,20 +100,20 @@ IsBarredLine barring.NoMemory text = ⊥
 
 -- ---- octets of the line
 
--- whether a report of a link was taken out
+-- Whether a report of a link was taken out.
 pub data HasReported (l : ℕ) (c d : LinkSet) : Bool → Type 0 where
   was_one : (r : Report) → ByLink (Reported (Some r)) l c d → HasReported l c d true
   was_none : ByLink (Reported None) l c d → HasReported l c d false
 
--- all reports of a link are taken out, one after another
+-- All reports of a link are taken out, one after another.
 pub data GivesReports (l : ℕ) : LinkSet → LinkSet → Type 0 where
   last_given : (c d : LinkSet) → ByLink (Reported None) l c d → GivesReports l c d
   one_given :
       (c m d : LinkSet) (r : Report) → ByLink (Reported (Some r)) l c m → GivesReports l m d
       → GivesReports l c d
 
--- Octets of the line come in, part after part, and behind each part all reports are taken out. A
--- part has one octet at least; it has all that is left, or ends where the terminal takes no more.
+-- Octets of the line are received in parts, and all reports are taken out after each part. A part
+-- has at least one octet; it has all remaining ones, or ends when the terminal takes no more.
 pub data Listens (l : ℕ) : LinkSet → List ℕ → LinkSet → Type 0 where
   heard_all : (c : LinkSet) → Listens l c [] c
   heard_part :
@@ -121,7 +121,7 @@ pub data Listens (l : ℕ) : LinkSet → List ℕ → LinkSet → Type 0 where
       → ByLink (Listened octets taken) l c m → GivesReports l m w
       → Listens l w (drop taken octets) d → Listens l c octets d
 
--- a part, and the reports behind it
+-- A part, and the reports taken out after it.
 pub record TakesPart (l : ℕ) (octets : List ℕ) (taken : ℕ) (c d : LinkSet) : Type 0 where
   pub some : 0 < taken
   pub few : taken ≤ length octets
@@ -135,17 +135,17 @@ pub data TakesLine (l : ℕ) (octets : List ℕ) (c : LinkSet) : List ℕ → Li
       (d : LinkSet) → l < length c.links → Listens l c octets d
       → TakesLine l octets c (codes "ok") d
 
--- what comes in of a signal unit, whose octets without the check octets these are
+-- A signal unit is received, given its octets without check octets.
 pub record TakesUnit (l : ℕ) (octets : List ℕ) (c : LinkSet) (text : List ℕ) (d : LinkSet) :
     Type 0 where
   pub come : List ℕ
   pub are : IsLineOf octets come
   pub takes : TakesLine l come c text d
 
--- ---- units that go out
+-- ---- sent units
 
--- So many units are asked of a link, and each that goes out has a line. Where none goes out, the
--- line `silent` says so, and no more are asked for.
+-- Up to n units of a link are requested, and each one sent has a line. If there is none, the line
+-- `silent` says so, and no more are requested.
 pub data GoOut (l : ℕ) : ℕ → LinkSet → List (List ℕ) → LinkSet → Type 0 where
   none_goes : (c : LinkSet) → GoOut l zero c [] c
   silent : (n : ℕ) (c d : LinkSet) → ByLink (Sent None) l c d
@@ -154,7 +154,7 @@ pub data GoOut (l : ℕ) : ℕ → LinkSet → List (List ℕ) → LinkSet → T
       → ByLink (Sent (Some x)) l c m → GoOut l n m lines d
       → GoOut l (suc n) c (unit_text x ∷ lines) d
 
--- a refusal is one line, however many are asked for
+-- A refusal is one line, however many units are requested.
 pub data GivesOut (l n : ℕ) (c : LinkSet) : List (List ℕ) → LinkSet → Type 0 where
   out_nowhere : length c.links ≤ l → GivesOut l n c (NO_LINK ∷ []) c
   out_goes : (lines : List (List ℕ)) (d : LinkSet) → l < length c.links → GoOut l n c lines d
@@ -162,7 +162,7 @@ pub data GivesOut (l n : ℕ) (c : LinkSet) : List (List ℕ) → LinkSet → Ty
 
 -- ---- ticks
 
--- They pass on all links, or on none.
+-- The ticks pass on all links, or on none.
 pub data Passes (n : ℕ) (c : LinkSet) : List ℕ → LinkSet → Type 0 where
   passed : tick_fault n c ≡ None
       → Passes n c (codes "ok due " ++ decimal (all_due n (with_room c.links))) (after_ticks n c)
@@ -184,7 +184,7 @@ pub record IsBoundTo (octets : List ℕ) (l : ℕ) (c : LinkSet) (text : List �
   pub says : text ≡ said_by bind_error_text (bind_fault_at c l)
   pub makes : d ≡ set_by (bind_fault_at c l) (bound_at c l msu) c
 
--- a changeover begins, and the octets of the order for it are printed
+-- A changeover begins, and the octets of its order are printed.
 pub data Fails (l : ℕ) (c : LinkSet) : List ℕ → LinkSet → Type 0 where
   fails_refused :
       (e : FailError) → fail_fault c l ≡ Some e
@@ -193,17 +193,17 @@ pub data Fails (l : ℕ) (c : LinkSet) : List ℕ → LinkSet → Type 0 where
       (sif : List ℕ) → fail_fault c l ≡ None → AreOctets sif → Says sif (order_at c l)
       → Fails l c (octets_line sif) (after_failure c l)
 
--- the octets of an answer, if there is one
+-- The octets of an answer, if there is one.
 abbrev pub IsReplied : Option Changeover → List ℕ → Type 0
 IsReplied None text = text ≡ codes "ok"
 IsReplied (Some m) text = (sif : List ℕ) × AreOctets sif × Says sif m × (text ≡ octets_line sif)
 
--- what came is read, and what it is the message of, if any, is taken
+-- The received octets are read, and the set takes the message that they form, if any.
 pub record IsHeard (octets : List ℕ) (c : LinkSet) (text : List ℕ) (d : LinkSet) : Type 0 where
   pub makes : (m : Option Changeover) → IsRead octets m → d ≡ after_message c m
   pub says : (m : Option Changeover) → IsRead octets m → IsReplied (reply_to c m) text
 
--- the lines of refusals; want of memory has none
+-- The lines of refusals; none if memory ran out.
 abbrev pub IsRetrieveLine : RetrieveError → List ℕ → Type 0
 IsRetrieveLine e text = (but_memory e ≡ Some e) × (text ≡ codes "refused " ++ retrieve_error_text e)
 
@@ -214,7 +214,7 @@ IsAbandonLine abandoning.NoLink text =
 IsAbandonLine abandoning.Waiting text =
     text ≡ codes "refused " ++ abandon_error_text abandoning.Waiting
 
--- messages are handed out
+-- Messages are retrieved.
 pub data Retrieves (l : ℕ) (c : LinkSet) : List ℕ → LinkSet → Type 0 where
   retrieves_refused :
       (e : RetrieveError) → retrieve_fault_at c l ≡ Some e
@@ -229,7 +229,7 @@ pub data Abandons (l : ℕ) (c : LinkSet) : List ℕ → LinkSet → Type 0 wher
   abandons_given : abandon_fault_at c l ≡ None
       → Abandons l c (count_line (length (unsent_at c l))) (after_abandon c l)
 
--- the line of what was diverted
+-- The line of a diversion.
 abbrev pub divert_line : Option DivertError → List ℕ
 divert_line None = codes "ok"
 divert_line (Some diverting.NoLink) = NO_LINK
@@ -237,12 +237,12 @@ divert_line (Some diverting.Waiting) = codes "refused K2 Waiting"
 divert_line (Some (diverting.Left e n)) =
     codes "refused " ++ divert_fault_text e ++ codes " left " ++ decimal n
 
--- what a link handed out is diverted, or as much of it as goes
+-- The messages retrieved from a link are diverted, or as many as possible.
 pub record Diverts (l : ℕ) (c : LinkSet) (text : List ℕ) (d : LinkSet) : Type 0 where
   pub says : text ≡ divert_line (divert_fault c l)
   pub makes : d ≡ after_divert c l
 
--- a link that is there is admitted, or is no longer
+-- A link that exists is admitted, or no longer.
 pub data Admits (way : Bool) (l : ℕ) (c : LinkSet) : List ℕ → LinkSet → Type 0 where
   admits_nowhere : length c.links ≤ l → Admits way l c NO_LINK c
   admits_one : l < length c.links → Admits way l c (codes "ok") (after_admission c l way)
@@ -251,7 +251,7 @@ pub record Rebalances (c : LinkSet) (text : List ℕ) (d : LinkSet) : Type 0 whe
   pub says : text ≡ said_by rebalance_error_text (rebalance_fault c)
   pub makes : d ≡ set_by (rebalance_fault c) (rebalanced c) c
 
--- ---- what is shown
+-- ---- lines that show the state
 
 abbrev pub held_line : Option Link → List ℕ
 held_line None = NO_LINK
@@ -273,13 +273,13 @@ value_at process variable (Some k) =
 
 -- ---- all commands
 
--- the set alone changes
+-- Only the set changes.
 pub record OnSet (P : List ℕ → LinkSet → Type 0) (p : Playing) (text : List ℕ) (q : Playing) :
     Type 0 where
   pub set : P text q.set
   pub on : q.on ≡ p.on
 
--- nothing changes
+-- Nothing changes.
 pub record Shows (shown : List ℕ) (p : Playing) (text : List ℕ) (q : Playing) : Type 0 where
   pub says : text ≡ shown
   pub same : q ≡ p
@@ -295,8 +295,8 @@ WordAnswers words.Held p text q = Shows (held_line (slice_get p.set.links p.on))
 WordAnswers words.Unsure p text q = Shows (decimal p.set.unsure) p text q
 WordAnswers words.Link p text q = Shows (link_line (slice_get p.set.links p.on)) p text q
 
--- What a command that prints one line makes of what there is, and that line. `out`, `on` and
--- `expect` are none of these: nothing is done for them here.
+-- The effect of a command that prints one line, and that line. `out`, `on` and `expect` are
+-- excluded here.
 abbrev pub Answers : PlainGroupCommand → Playing → List ℕ → Playing → Type 0
 Answers (commands.order o) p text q = OnSet (IsTold (command_of o) p.on p.set) p text q
 Answers (commands.unit octets) p text q = OnSet (TakesUnit p.on octets p.set) p text q
@@ -321,18 +321,18 @@ pub record AnswersOne (c : PlainGroupCommand) (p : Playing) (lines : List (List 
   pub one : lines ≡ text ∷ []
   pub answers : Answers c p text q
 
--- so many units are asked of the link
+-- Units of the current link are requested.
 pub record Outputs (n : ℕ) (p : Playing) (lines : List (List ℕ)) (q : Playing) : Type 0 where
   pub goes : GivesOut p.on n p.set lines q.set
   pub on : q.on ≡ p.on
 
--- the lines below speak of another link, which may or may not be there; nothing is printed
+-- Later lines refer to another link, which may or may not exist; nothing is printed.
 pub record TurnsTo (l : ℕ) (p : Playing) (lines : List (List ℕ)) (q : Playing) : Type 0 where
   pub none : lines ≡ []
   pub makes : q ≡ record p { on = l }
 
--- a command was obeyed: what it makes of what there is, and the lines that it prints; `expect` is
--- no command to a link set
+-- A command was obeyed: its effect on the state, and its lines. `expect` is no command to a link
+-- set.
 abbrev pub Obeys : PlainGroupCommand → Playing → List (List ℕ) → Playing → Type 0
 Obeys (commands.out n) p lines q = Outputs n p lines q
 Obeys (commands.on l) p lines q = TurnsTo l p lines q

@@ -1,4 +1,4 @@
--- What a run of a link set's script has printed, and what it made of the set.
+-- The output of a run of a link set's script, and its effect on the set.
 use Rattle.std.specs.Prelude.{◌≡◌, ℕ, Bool, is_some, List, [], ◌∷◌, ◌++◌, All, length, Option, None}
 use Rattle.std.specs.Prelude.{Some}
 use Rattle.std.specs.List.{flat_map}
@@ -25,41 +25,41 @@ use Rattle.script_terminal.specs.TermAnswers.{unit_line}
 use Rattle.script_group.specs.GroupAnswers.{Playing, at, GoOut, GivesOut, Obeys}
 use Rattle.script_group.specs.declared.player.GroupPlayer.{GroupPlayer}
 
--- ---- where a script begins
+-- ---- the beginning of a script
 
--- this end's point code in a script, and the other end's
+-- The point codes of this end and of the other end in a script.
 abbrev pub OWN_POINT : ℕ
 OWN_POINT = 1
 
 abbrev pub OTHER_POINT : ℕ
 OTHER_POINT = 2
 
--- lines speak of link 0
+-- The current link is link 0.
 abbrev pub begun : LinkSet → Playing
 begun c = record { set = c; on = 0 }
 
--- as many new terminals over a set of processes as a script's first line says, with its error
--- correction, and these limits of forced retransmission
+-- The number of new terminals over a process set that a script's first line states, with its error
+-- correction and these limits of forced retransmission.
 pub record AreNew (d : Draft) (limits : RoundLimits) (head : GroupHead) (terminals : List Term) :
     Type 0 where
   pub number : length terminals ≡ head.links
   pub are_new : All (IsOverWithin d limits head.mode) terminals
 
--- links with such terminals between this point and the other
+-- Links with such terminals, between this point and the other one.
 pub record IsNewSet (d : Draft) (limits : RoundLimits) (head : GroupHead) (c : LinkSet) :
     Type 0 where
   pub terminals : List Term
   pub new : AreNew d limits head terminals
   pub set : c ≡ new_set OWN_POINT OTHER_POINT terminals
 
--- the name is the first that the set of processes lacks of those that a terminal wants; want of
--- memory says nothing
+-- The name is the first one that the process set lacks of those that a terminal requires;
+-- `NoMemory` states nothing.
 abbrev pub LacksOne : Draft → OpenError → Type 0
 LacksOne d (NoName name) = IsFirstLacking d name wanted
 LacksOne d NoMemory = Unit {0}
 
--- P holds of the beginning of a script: links with so many terminals over a set of processes, all
--- new, with this error correction and these limits
+-- P holds of the beginning of a script: links with new terminals over a process set, as the first
+-- line states, with these limits.
 pub record IsOfNewSet (d : Draft) (limits : RoundLimits) (head : GroupHead)
     (P : Playing → Type 0) : Type 0 where
   pub terminals : List Term
@@ -68,9 +68,8 @@ pub record IsOfNewSet (d : Draft) (limits : RoundLimits) (head : GroupHead)
 
 -- ---- runs
 
--- A run: the commands that were obeyed, the lines that they printed, what there is now, and the
--- line printed last. `expect` prints nothing, and holds where the line before is the one that it
--- names.
+-- A run: the commands obeyed, their lines, the state now, and the line printed last. `expect`
+-- prints nothing and holds if the line before is its text.
 pub data Goes (first : Playing) :
     List PlainGroupSaid → List (List ℕ) → Playing → Option (List ℕ) → Type 0 where
   begins : Goes first [] [] first None
@@ -84,8 +83,7 @@ pub data Goes (first : Playing) :
       → said.command ≡ expected text → Goes first commands lines now (Some text)
       → Goes first (commands ++ said ∷ []) lines now (Some text)
 
--- these commands were obeyed, one after another, and what is written grew by their lines, each with
--- its end
+-- These commands were obeyed in order, and the output grew by their lines, each with its end.
 pub record IsGroupRun (first : Playing) (commands : List PlainGroupSaid) (old new : Option (List ℕ))
     (now : Playing) (last : Option (List ℕ)) :
     Type 0 where
@@ -99,8 +97,8 @@ playing_of p = at p.group p.on
 abbrev pub last_of : GroupPlayer → Option (List ℕ)
 last_of p = last_in p.printer
 
--- a command was obeyed: an expectation that holds, for which nothing happens, or another one, whose
--- lines were printed behind what was there
+-- A command was obeyed: an expectation that holds, which has no effect, or another command, whose
+-- lines were printed after the earlier output.
 pub data HasObeyed (c : PlainGroupCommand) (old new last next : Option (List ℕ)) (p q : Playing) :
     Type 0 where
   was_met : (text : List ℕ) → c ≡ expected text → last ≡ Some text → next ≡ last → new ≡ old
@@ -108,7 +106,7 @@ pub data HasObeyed (c : PlainGroupCommand) (old new last next : Option (List ℕ
   was_done : (lines : List (List ℕ)) → Obeys c p lines q → HasPrinted old new last next lines
       → HasObeyed c old new last next p q
 
--- a unit was asked of a link, and its line printed, or `silent`
+-- A link was asked for a unit, and its line or `silent` was printed.
 pub record HasGone (went : Bool) (l : ℕ) (old new last next : Option (List ℕ)) (c d : LinkSet) :
     Type 0 where
   pub unit : Option Unit_out
@@ -116,21 +114,21 @@ pub record HasGone (went : Bool) (l : ℕ) (old new last next : Option (List ℕ
   pub sent : ByLink (Sent unit) l c d
   pub printed : HasPrinted old new last next (unit_line unit ∷ [])
 
--- so many units were asked of a link that is there, and their lines printed
+-- An existing link was asked for `units` units, and their lines were printed.
 pub record HasGoneOut (l units : ℕ) (old new last next : Option (List ℕ)) (c d : LinkSet) :
     Type 0 where
   pub lines : List (List ℕ)
   pub out : GoOut l units c lines d
   pub printed : HasPrinted old new last next lines
 
--- the same of a link that may not be there
+-- As `HasGoneOut`, for a link that may not exist.
 pub record HasGivenOut (l units : ℕ) (old new last next : Option (List ℕ)) (c d : LinkSet) :
     Type 0 where
   pub lines : List (List ℕ)
   pub out : GivesOut l units c lines d
   pub printed : HasPrinted old new last next lines
 
--- the commands were obeyed, whatever there is now, and was printed last
+-- The commands were obeyed, with some final state and last line.
 pub record IsGroupWritten (commands : List PlainGroupSaid) (old new : Option (List ℕ))
     (first : Playing) : Type 0 where
   pub now : Playing
@@ -143,7 +141,7 @@ abbrev pub IsGroupMissedBy :
 IsGroupMissedBy said last old new =
     Misses said.line (λ text. said.command ≡ expected text) last old new
 
--- the commands up to an expectation were obeyed, and that fails; nothing else is written
+-- The commands up to an expectation were obeyed, and that fails; nothing else is written.
 pub record IsGroupMissed (commands : List PlainGroupSaid) (old new : Option (List ℕ))
     (first : Playing) : Type 0 where
   pub before : List PlainGroupSaid

@@ -1,4 +1,4 @@
--- How the table of a link set and what a link is are printed.
+-- How the table of a link set and the state of a link are printed.
 use Rattle.std.specs.Prelude.{ℕ, zero, suc, Bool, true, false, not, if◌then◌else◌, List, ◌++◌}
 use Rattle.std.specs.Prelude.{Option, None, Some, codes}
 use Rattle.std.specs.Fmt.{decimal}
@@ -9,11 +9,11 @@ abbrev pub entry_text : ℕ → Option ℕ → List ℕ
 entry_text s None = decimal s ++ codes " -"
 entry_text s (Some l) = decimal s ++ codes " " ++ decimal l
 
--- a selection and its link
+-- A selection and its link.
 abbrev pub entry_at : List (Option ℕ) → ℕ → List ℕ
 entry_at ts s = entry_text s (link_of ts s)
 
--- those from 0 to one
+-- The entries from selection 0 to this one.
 unfoldable pub entries_to : List (Option ℕ) → ℕ → List ℕ
 entries_to ts zero = entry_at ts zero
 entries_to ts (suc s) = entries_to ts s ++ codes ", " ++ entry_at ts (suc s)
@@ -34,7 +34,7 @@ abbrev pub service_text : Bool → List ℕ
 service_text true = codes "in service"
 service_text false = codes "out of service"
 
--- what a link is
+-- The state of a link, as it is printed.
 abbrev pub link_text : LinkState → List ℕ
 link_text s =
     told_if (not s.admitted) (codes ", not admitted")

@@ -1,4 +1,4 @@
-//! The line that is printed for a command.
+//! The line printed for a command.
 ghost use Rattle.std.specs.Prelude.{IfOk};
 ghost use Rattle.script_links.specs.GroupCommands.{plain_group_command};
 ghost use Rattle.script_group.specs.GroupAnswers.{at, WordAnswers, Answers};
@@ -11,7 +11,7 @@ use link_group::Group;
 use script_links::{GroupCommand, GroupWord};
 use std::alloc::{AllocError, Global};
 
-/// The line of a command that is one word.
+/// Obeys a command of one word, and returns its line.
 fn word_answer(
     alloc: Global,
     group: &mut Group,
@@ -33,7 +33,7 @@ fn word_answer(
     }
 }
 
-/// The line that a command prints, but for `out`, `on` and `expect`, for which there is none.
+/// Obeys a command other than `out`, `on` and `expect`, and returns its line.
 pub(crate) fn answer(
     alloc: Global,
     group: &mut Group,

@@ -1,4 +1,4 @@
-//! Calls of the set that are told or answered by one line.
+//! Calls of the set that are answered by one line.
 ghost use Rattle.std.specs.Prelude.{◌≡◌, Option, IfOk};
 ghost use Rattle.group_changeover.specs.declared.changeover.Changeover.{Changeover as PlainChangeover};
 ghost use Rattle.link_group.specs.Changing.{IsRead, IsReply, after_message, reply_to};
@@ -12,7 +12,7 @@ use script_links::Order;
 use script_terminal::{command_of, message, refused_line, text_line};
 use std::alloc::{AllocError, Global};
 
-/// The line of a refused order; none where memory is wanting.
+/// The line of a refused order; an error if memory ran out.
 fn barred(alloc: Global, error: CommandError) -> Result<Vec<u8>, AllocError>
     ensures { IfOk result (λ v. IsBarredLine error v.items) }
 {
@@ -24,7 +24,7 @@ fn barred(alloc: Global, error: CommandError) -> Result<Vec<u8>, AllocError>
     }
 }
 
-/// `command W`.
+/// Obeys `command W`.
 pub(crate) fn tell(
     alloc: Global,
     group: &mut Group,
@@ -39,7 +39,7 @@ pub(crate) fn tell(
     }
 }
 
-/// The line of refused ticks; none where memory is wanting.
+/// The line of refused ticks; an error if memory ran out.
 fn held_up(alloc: Global, error: CallError) -> Result<Vec<u8>, AllocError>
     ensures { IfOk result (λ v. IsRefusedLine error v.items) }
 {
@@ -49,7 +49,7 @@ fn held_up(alloc: Global, error: CallError) -> Result<Vec<u8>, AllocError>
     }
 }
 
-/// `tick N`.
+/// Obeys `tick N`.
 pub(crate) fn tick(alloc: Global, group: &mut Group, ticks: u32) -> Result<Vec<u8>, AllocError>
     ensures { IfOk result (λ v. Passes ticks group.old v.items group.new) }
 {
@@ -59,8 +59,8 @@ pub(crate) fn tick(alloc: Global, group: &mut Group, ticks: u32) -> Result<Vec<u
     }
 }
 
-/// `send HEX`. Octets that are no message with a label would be told as want of memory, but none comes here: a script with such a line is
-/// refused as it is read.
+/// Obeys `send HEX`. Octets that form no message with a label would count as out of memory, but never occur: a script
+/// with them is refused when it is read.
 pub(crate) fn send(alloc: Global, group: &mut Group, octets: &[u8]) -> Result<Vec<u8>, AllocError>
     ensures { IfOk result (λ v. IsSent octets.now group.old v.items group.new) }
 {
@@ -76,8 +76,8 @@ pub(crate) fn send(alloc: Global, group: &mut Group, octets: &[u8]) -> Result<Ve
     }
 }
 
-/// `bound HEX`. Octets that are no message of that kind would be told as want of memory, but none comes here: a script with such a line is refused
-/// as it is read.
+/// Obeys `bound HEX`. Octets that form no such message would count as out of memory, but never occur: a script with
+/// them is refused when it is read.
 pub(crate) fn bind(
     alloc: Global,
     group: &mut Group,
@@ -98,7 +98,7 @@ pub(crate) fn bind(
     }
 }
 
-/// `fail`.
+/// Obeys `fail`.
 pub(crate) fn fail(alloc: Global, group: &mut Group, link: usize) -> Result<Vec<u8>, AllocError>
     ensures { IfOk result (λ v. Fails link group.old v.items group.new) }
 {
@@ -111,7 +111,7 @@ pub(crate) fn fail(alloc: Global, group: &mut Group, link: usize) -> Result<Vec<
     }
 }
 
-/// The answer to octets of a message of changeover.
+/// Passes the octets of a changeover message to the set, and returns the answer, if there is one.
 fn reply_of(group: &mut Group, octets: &[u8]) -> Option<Sif>
     ensures set { (m : Option PlainChangeover) → IsRead octets.now m → group.new ≡ after_message group.old m }
     ensures reply { (m : Option PlainChangeover) → IsRead octets.now m → IsReply (reply_to group.old m) result }
@@ -119,7 +119,7 @@ fn reply_of(group: &mut Group, octets: &[u8]) -> Option<Sif>
     group.changeover_message(octets).reply
 }
 
-/// `message HEX`.
+/// Obeys `message HEX`.
 pub(crate) fn hear(alloc: Global, group: &mut Group, octets: &[u8]) -> Result<Vec<u8>, AllocError>
     ensures { IfOk result (λ v. IsHeard octets.now group.old v.items group.new) }
 {
@@ -132,7 +132,7 @@ pub(crate) fn hear(alloc: Global, group: &mut Group, octets: &[u8]) -> Result<Ve
     }
 }
 
-/// `admit yes` and `admit no`.
+/// Obeys `admit yes` or `admit no`.
 pub(crate) fn admit(
     alloc: Global,
     group: &mut Group,
@@ -147,7 +147,7 @@ pub(crate) fn admit(
     }
 }
 
-/// `rebalance`.
+/// Obeys `rebalance`.
 pub(crate) fn rebalance(alloc: Global, group: &mut Group) -> Result<Vec<u8>, AllocError>
     ensures { IfOk result (λ v. Rebalances group.old v.items group.new) }
 {

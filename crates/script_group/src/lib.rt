@@ -1,4 +1,4 @@
-//! A link set's script as it runs: what each command makes of the set, and the lines that are printed for it.
+//! Runs a link set's script: how each command changes the set, and the lines that it prints.
 #![tactic(auto)]
 
 mod answers;

@@ -1,4 +1,4 @@
-//! What comes in on a link.
+//! Octets received on a link.
 ghost use Rattle.std.specs.Prelude.{◌≡◌, ◌<◌, IfOk, OnOk, length};
 ghost use Rattle.script_group.specs.GroupAnswers.{HasReported, GivesReports, TakesPart, Listens, TakesLine, TakesUnit};
 
@@ -7,7 +7,7 @@ use link_group::{Group, LinkError};
 use script_terminal::line_of_unit;
 use std::alloc::{AllocError, Global};
 
-/// Takes a report of a link out. Whether there was one.
+/// Takes the next report of a link out. Returns whether there was one.
 fn drop_report(group: &mut Group, link: usize) -> Result<bool, LinkError>
     ensures { IfOk result (HasReported link group.old group.new) }
 {
@@ -17,7 +17,7 @@ fn drop_report(group: &mut Group, link: usize) -> Result<bool, LinkError>
     }
 }
 
-/// Takes all reports of a link out: a script doesn't print them.
+/// Takes all reports of a link out, since a script doesn't print them.
 fn drop_reports(group: &mut Group, link: usize) -> Result<(), LinkError>
     ensures { OnOk result (GivesReports link group.old group.new) }
 {
@@ -28,8 +28,8 @@ fn drop_reports(group: &mut Group, link: usize) -> Result<(), LinkError>
     }
 }
 
-/// Takes part of the octets of the line, and then all reports out. How many were taken. A link that isn't there would be told as want of
-/// memory, as where there is none, but none comes here.
+/// Has a link hear a part of the line octets, then takes all its reports out. Returns the number of octets heard. A
+/// link that doesn't exist would count as out of memory, but never occurs.
 fn take_part(group: &mut Group, link: usize, octets: &[u8]) -> Result<usize, AllocError>
     ensures { IfOk result (λ taken. TakesPart link octets.now taken group.old group.new) }
 {
@@ -42,7 +42,7 @@ fn take_part(group: &mut Group, link: usize, octets: &[u8]) -> Result<usize, All
     Ok(taken)
 }
 
-/// Takes octets of the line, all of them.
+/// Has a link hear all octets of the line.
 fn listen(group: &mut Group, link: usize, octets: &[u8]) -> Result<(), AllocError>
     ensures { OnOk result (Listens link group.old octets.now group.new) }
 {
@@ -53,7 +53,7 @@ fn listen(group: &mut Group, link: usize, octets: &[u8]) -> Result<(), AllocErro
     Ok(())
 }
 
-/// `line HEX`.
+/// Obeys `line HEX`.
 pub(crate) fn take_line(
     alloc: Global,
     group: &mut Group,
@@ -69,7 +69,7 @@ pub(crate) fn take_line(
     done(alloc)
 }
 
-/// `unit HEX`.
+/// Obeys `unit HEX`.
 pub(crate) fn take_unit(
     alloc: Global,
     group: &mut Group,

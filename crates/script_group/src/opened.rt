@@ -1,4 +1,4 @@
-//! A link set on which commands of a script are obeyed one at a time.
+//! A link set that obeys commands of a script one at a time.
 ghost use Rattle.std.specs.Prelude.{◌≡◌, [], None, IfOk, IfErr};
 ghost use Rattle.turn_code.specs.declared.draft.Draft.{Draft};
 ghost use Rattle.link_group.specs.Set.{LinkSet};
@@ -13,7 +13,7 @@ use script_terminal::{OpenError, Printer};
 use std::alloc::Global;
 use turn_check::Verified;
 
-/// A set of which nothing is printed yet.
+/// A set for which nothing is printed yet.
 fn player_of(group: Group) -> GroupPlayer
     ensures playing { playing_of result ≡ begun group }
     ensures last { last_of result ≡ None }
@@ -25,7 +25,7 @@ fn player_of(group: Group) -> GroupPlayer
     }
 }
 
-/// The links of a script's first line, as the script begins with them, with these limits of forced retransmission.
+/// The links that a script's first line states, with these limits of forced retransmission, as the script begins.
 pub fn open_group(
     alloc: Global,
     set: &Verified,

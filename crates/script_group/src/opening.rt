@@ -1,4 +1,4 @@
-//! The set in which a script begins.
+//! The link set in which a script begins.
 ghost use Rattle.std.specs.Prelude.{◌≡◌, ◌++◌, ◌∷◌, [], IfOk, IfErr, OnOk};
 ghost use Rattle.script_terminal.specs.Opening.{IsOverWithin};
 ghost use Rattle.script_terminal.specs.Term.{Term};
@@ -11,12 +11,12 @@ use script_terminal::OpenError;
 use std::alloc::Global;
 use turn_check::Verified;
 
-/// This end's point code, and the other end's.
+/// The point codes of this end and of the other end.
 const OWN_POINT: u16 = 1;
 
 const OTHER_POINT: u16 = 2;
 
-/// One terminal more over a set of processes.
+/// Appends a new terminal over a process set.
 fn push_terminal(
     alloc: Global,
     set: &Verified,
@@ -39,7 +39,7 @@ fn push_terminal(
     }
 }
 
-/// So many.
+/// New terminals over a process set, as many as the first line states.
 fn terminals(
     alloc: Global,
     set: &Verified,
@@ -59,7 +59,7 @@ fn terminals(
     Ok(terminals)
 }
 
-/// Links with so many new terminals over a set of processes, between this point and the other.
+/// A link set with new terminals over a process set, between this point and the other one.
 pub(crate) fn open_set(
     alloc: Global,
     set: &Verified,

@@ -1,4 +1,4 @@
-//! What goes out on a link.
+//! Units sent on a link.
 ghost use Rattle.std.specs.Prelude.{◌≡◌, ◌<◌, ◌∷◌, [], Option, List, ℕ, is_some, IfOk, OnOk, length};
 ghost use Rattle.link_group.specs.Lines.{ByLink};
 ghost use Rattle.link_group.specs.Doing.{Sent};
@@ -13,7 +13,7 @@ use std::alloc::{AllocError, Global};
 use std::io::{self, Write};
 use su_octets::Unit;
 
-/// The unit that goes out next. A link that isn't there would be told as want of memory, but none comes here.
+/// The next unit to send. A link that doesn't exist would count as out of memory, but never occurs.
 fn next_unit(group: &mut Group, link: usize) -> Result<Option<Unit>, AllocError>
     ensures { IfOk result (λ unit. ByLink (Sent unit) link group.old group.new) }
 {
@@ -23,7 +23,7 @@ fn next_unit(group: &mut Group, link: usize) -> Result<Option<Unit>, AllocError>
     }
 }
 
-/// Prints the unit that goes out next, or `silent`. Whether it was a unit.
+/// Prints the next unit sent, or `silent`. Returns whether it was a unit.
 fn print_unit<W: Write>(
     alloc: Global,
     group: &mut Group,
@@ -48,7 +48,7 @@ fn print_unit<W: Write>(
     }
 }
 
-/// Prints the units that go out next on a link that is there, so many; one line `silent` where none goes out.
+/// Prints the next `units` units sent on an existing link; if there is none, one line `silent`, which is the last.
 fn print_units<W: Write>(
     alloc: Global,
     group: &mut Group,
@@ -67,7 +67,7 @@ fn print_units<W: Write>(
     Ok(())
 }
 
-/// `out N`: a line for each unit that goes out, or one where the link isn't there.
+/// Obeys `out N`: prints a line for each unit sent, or one line if the link doesn't exist.
 pub(crate) fn give_out<W: Write>(
     alloc: Global,
     group: &mut Group,

@@ -1,4 +1,4 @@
-//! A link set's script as it runs.
+//! Running a link set's script.
 ghost use Rattle.std.specs.Prelude.{◌≡◌, ◌⊎◌, ◌++◌, ◌∷◌, [], List, ℕ, Option, map, IfOk, true, false};
 ghost use Rattle.script_links.specs.GroupCommands.{plain_group_command};
 ghost use Rattle.script_links.specs.GroupScripts.{PlainGroupSaid, plain_group_said};
@@ -13,7 +13,7 @@ use script_terminal::{HELD, MISSED, Printer, write_line};
 use std::alloc::Global;
 use std::io::{self, Write};
 
-/// A set, the link that lines speak of, and what is printed for it.
+/// A link set, the current link, and the printer of the lines.
 #[derive(Drop)]
 pub struct GroupPlayer {
     pub group: Group,
@@ -22,11 +22,11 @@ pub struct GroupPlayer {
 }
 
 impl GroupPlayer {
-    /// Does what a command says. Whether the run goes on: it doesn't behind `failed line N`.
+    /// Obeys a command. Returns whether the run goes on: it ends after `failed line N`.
     ///
     /// # Errors
     ///
-    /// Where a write fails, or memory is wanting.
+    /// If a write fails or memory runs out.
     pub fn obey<W: Write>(
         &mut self,
         alloc: Global,
@@ -73,11 +73,11 @@ impl GroupPlayer {
         }
     }
 
-    /// Does what the commands say, in order, up to an expectation that fails. Gives the exit status, 0 or 1 where one failed.
+    /// Obeys the commands in order, up to an expectation that fails. Returns the exit status: 0, or 1 if one failed.
     ///
     /// # Errors
     ///
-    /// Where a write fails, or memory is wanting.
+    /// If a write fails or memory runs out.
     pub(crate) fn run<W: Write>(
         &mut self,
         alloc: Global,

@@ -1,4 +1,4 @@
-//! Whole scripts of link sets.
+//! Complete scripts of link sets.
 ghost use Rattle.std.specs.Prelude.{◌≡◌, ◌⊎◌, ◌++◌, [], List, ℕ, Option, map};
 ghost use Rattle.script_links.specs.GroupScripts.{PlainGroupSaid, plain_group_said, IsFew};
 ghost use Rattle.script_terminal.specs.TermRuns.{LacksName};
@@ -14,7 +14,7 @@ use std::alloc::Global;
 use std::io::Write;
 use turn_check::Verified;
 
-/// Does what commands say, in order, up to an expectation that fails. Gives the exit status, 4 where memory or a write fails.
+/// Obeys commands in order, up to an expectation that fails. Returns the exit status: 4 if memory or a write fails.
 fn run_all<W: Write>(
     alloc: Global,
     player: &mut GroupPlayer,
@@ -35,7 +35,7 @@ fn run_all<W: Write>(
     }
 }
 
-/// Runs commands on a new set. Gives the exit status.
+/// Runs commands on a new set. Returns the exit status.
 fn play_set<W: Write>(alloc: Global, group: Group, commands: &[GroupSaid<'_>], writer: &mut W) -> u8
     ensures held { result ≡ 0 → IsGroupWritten (map plain_group_said commands.now) (W.contents writer.old) (W.contents writer.new) (begun group) }
     ensures missed { result ≡ 1 → IsGroupMissed (map plain_group_said commands.now) (W.contents writer.old) (W.contents writer.new) (begun group) }
@@ -50,13 +50,13 @@ fn play_set<W: Write>(alloc: Global, group: Group, commands: &[GroupSaid<'_>], w
     run_all(alloc, &mut player, commands, writer)
 }
 
-/// Runs a link set's script on links with terminals over a set of processes, and prints what each command but `on` and `expect` gives: one
-/// line, but for `out`, which prints one for each unit. There are as many new terminals as the script's first line says, with its error
-/// correction, and these limits of forced retransmission; this end's point code is 1, the other end's 2.
+/// Runs a link set's script on links with new terminals over a process set. It prints one line for each command except
+/// `on` and `expect`; `out` prints one for each unit. The first line sets the number of terminals and their error
+/// correction, `limits` those of forced retransmission. This end's point code is 1, the other end's 2.
 ///
-/// Gives the exit status: 0 where each command ran and its lines were written, 1 after `failed line N` where an expectation failed, 2 after
-/// `refused X2 NoName NAME` alone where the set lacks a name that a terminal speaks to or hears, 4 where memory or a write fails. Nothing is
-/// written after a write that failed.
+/// Returns the exit status: 0 if each command ran and its lines were written, 1 after `failed line N` if an expectation
+/// failed, 2 after only `refused X2 NoName NAME` if the set lacks a name that a terminal uses, 4 if memory or a write
+/// fails. Nothing is written after a failed write.
 pub fn play_group<W: Write>(
     alloc: Global,
     set: &Verified,

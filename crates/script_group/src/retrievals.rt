@@ -1,4 +1,4 @@
-//! Messages that are handed out, and diverted.
+//! Messages that are retrieved and diverted.
 ghost use Rattle.std.specs.Prelude.{◌≡◌, Some, IfOk};
 ghost use Rattle.script_group.specs.GroupAnswers.{Retrieves, Abandons, Diverts, IsRetrieveLine, IsAbandonLine, divert_line};
 
@@ -7,7 +7,7 @@ use link_group::{AbandonError, DivertError, Group, RetrieveError};
 use script_terminal::text_line;
 use std::alloc::{AllocError, Global};
 
-/// The line of a refused retrieval; none where memory is wanting.
+/// The line of a refused retrieval; an error if memory ran out.
 fn unretrieved(alloc: Global, error: RetrieveError) -> Result<Vec<u8>, AllocError>
     ensures { IfOk result (λ v. IsRetrieveLine error v.items) }
 {
@@ -19,7 +19,7 @@ fn unretrieved(alloc: Global, error: RetrieveError) -> Result<Vec<u8>, AllocErro
     }
 }
 
-/// `retrieve`.
+/// Obeys `retrieve`.
 pub(crate) fn retrieve(alloc: Global, group: &mut Group, link: usize) -> Result<Vec<u8>, AllocError>
     ensures { IfOk result (λ v. Retrieves link group.old v.items group.new) }
 {
@@ -29,7 +29,7 @@ pub(crate) fn retrieve(alloc: Global, group: &mut Group, link: usize) -> Result<
     }
 }
 
-/// The line where messages aren't given up; none where memory is wanting.
+/// The line of a refused `abandon`; an error if memory ran out.
 fn unabandoned(alloc: Global, error: AbandonError) -> Result<Vec<u8>, AllocError>
     ensures { IfOk result (λ v. IsAbandonLine error v.items) }
 {
@@ -39,7 +39,7 @@ fn unabandoned(alloc: Global, error: AbandonError) -> Result<Vec<u8>, AllocError
     }
 }
 
-/// `abandon`.
+/// Obeys `abandon`.
 pub(crate) fn abandon(alloc: Global, group: &mut Group, link: usize) -> Result<Vec<u8>, AllocError>
     ensures { IfOk result (λ v. Abandons link group.old v.items group.new) }
 {
@@ -49,7 +49,7 @@ pub(crate) fn abandon(alloc: Global, group: &mut Group, link: usize) -> Result<V
     }
 }
 
-/// The line where not all was diverted.
+/// The line of a `divert` that didn't divert all messages.
 fn undiverted(alloc: Global, error: DivertError) -> Result<Vec<u8>, AllocError>
     ensures { IfOk result (λ v. v.items ≡ divert_line (Some error)) }
 {
@@ -62,7 +62,7 @@ fn undiverted(alloc: Global, error: DivertError) -> Result<Vec<u8>, AllocError>
     }
 }
 
-/// `divert`.
+/// Obeys `divert`.
 pub(crate) fn divert(alloc: Global, group: &mut Group, link: usize) -> Result<Vec<u8>, AllocError>
     ensures { IfOk result (λ v. Diverts link group.old v.items group.new) }
 {

@@ -1,4 +1,4 @@
-//! Lines that are printed for several commands.
+//! Lines that several commands print.
 ghost use Rattle.std.specs.Prelude.{◌≡◌, ◌++◌, IfOk, IfSome, codes};
 ghost use Rattle.su_octets.specs.Bits.{AreOctets};
 ghost use Rattle.script_group.specs.GroupAnswers.{NO_LINK, octets_line, count_line};
@@ -7,21 +7,21 @@ use script_terminal::text_line;
 use std::alloc::{AllocError, Global};
 use std::fmt::Display;
 
-/// `ok`.
+/// The line `ok`.
 pub(crate) fn done(alloc: Global) -> Result<Vec<u8>, AllocError>
     ensures { IfOk result (λ v. v.items ≡ codes "ok") }
 {
     Vec::from_slice(alloc, b"ok")
 }
 
-/// A refusal.
+/// The line of a refusal.
 pub(crate) fn refused<E: Display>(alloc: Global, error: &E) -> Result<Vec<u8>, AllocError>
     ensures { IfOk result (λ v. IfSome (E.output error.now) (λ text. v.items ≡ codes "refused " ++ text)) }
 {
     text_line(alloc, &format_args!("refused {error}"))
 }
 
-/// The refusal where there is no such link.
+/// The line of a refusal because the link doesn't exist.
 pub(crate) fn no_link(alloc: Global) -> Result<Vec<u8>, AllocError>
     ensures { IfOk result (λ v. v.items ≡ NO_LINK) }
 {
@@ -33,7 +33,7 @@ pub(crate) fn octets_law(octets: &[u8])
     ensures { AreOctets octets.now }
 {}
 
-/// `ok` and octets.
+/// `ok` and the octets in hexadecimal.
 pub(crate) fn octets_line(alloc: Global, octets: &[u8]) -> Result<Vec<u8>, AllocError>
     ensures { IfOk result (λ v. v.items ≡ octets_line octets.now) }
 {

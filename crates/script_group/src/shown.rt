@@ -1,4 +1,4 @@
-//! What is shown of a set.
+//! Lines that show the state of a set.
 ghost use Rattle.std.specs.Prelude.{◌≡◌, ◌++◌, IfOk, OnOk, slice_get, codes};
 ghost use Rattle.std.specs.Fmt.{decimal};
 ghost use Rattle.group_changeover.specs.Sharing.{link_of};
@@ -10,7 +10,7 @@ use link_group::{Group, LinkState};
 use script_terminal::{state_line, text_line, value_line};
 use std::alloc::{AllocError, Global};
 
-/// A selection, and its link.
+/// A selection and its link.
 fn entry(alloc: Global, group: &Group, selection: u8) -> Result<Vec<u8>, AllocError>
     ensures { IfOk result (λ v. v.items ≡ entry_at group.now.table selection) }
 {
@@ -20,7 +20,7 @@ fn entry(alloc: Global, group: &Group, selection: u8) -> Result<Vec<u8>, AllocEr
     }
 }
 
-/// One more behind others.
+/// Appends a selection and its link to the text.
 fn push_entry(
     alloc: Global,
     group: &Group,
@@ -35,7 +35,7 @@ fn push_entry(
     Ok(())
 }
 
-/// `table`.
+/// The line of `table`.
 pub(crate) fn table(alloc: Global, group: &Group) -> Result<Vec<u8>, AllocError>
     ensures { IfOk result (λ v. v.items ≡ table_line group.now.table) }
 {
@@ -46,7 +46,7 @@ pub(crate) fn table(alloc: Global, group: &Group) -> Result<Vec<u8>, AllocError>
     Ok(text)
 }
 
-/// `held`.
+/// The line of `held`.
 pub(crate) fn held(alloc: Global, group: &Group, link: usize) -> Result<Vec<u8>, AllocError>
     ensures { IfOk result (λ v. v.items ≡ held_line (slice_get group.now.links link)) }
 {
@@ -59,7 +59,7 @@ pub(crate) fn held(alloc: Global, group: &Group, link: usize) -> Result<Vec<u8>,
     text_line(alloc, &format_args!("{held} sent {sent}"))
 }
 
-/// `unsure`.
+/// The line of `unsure`.
 pub(crate) fn unsure(alloc: Global, group: &Group) -> Result<Vec<u8>, AllocError>
     ensures { IfOk result (λ v. v.items ≡ decimal group.now.unsure) }
 {
@@ -67,7 +67,7 @@ pub(crate) fn unsure(alloc: Global, group: &Group) -> Result<Vec<u8>, AllocError
     text_line(alloc, &format_args!("{unsure}"))
 }
 
-/// A word behind a text, where it says so.
+/// Appends a word to the text if the condition holds.
 fn push_if(text: &mut Vec<u8>, says: bool, word: &[u8]) -> Result<(), AllocError>
     ensures { OnOk result (text.new.items ≡ told_if says word.now text.old.items) }
 {
@@ -77,7 +77,7 @@ fn push_if(text: &mut Vec<u8>, says: bool, word: &[u8]) -> Result<(), AllocError
     Ok(())
 }
 
-/// For how long a changeover has gone on, if one does.
+/// Appends how long a changeover has gone on, if one does.
 fn push_waited(alloc: Global, text: &mut Vec<u8>, waited: Option<u64>) -> Result<(), AllocError>
     ensures { OnOk result (text.new.items ≡ waited_text waited text.old.items) }
 {
@@ -100,7 +100,7 @@ fn service(alloc: Global, in_service: bool) -> Result<Vec<u8>, AllocError>
     }
 }
 
-/// What a link is.
+/// The state of a link, as it is printed.
 fn link_text(alloc: Global, state: &LinkState) -> Result<Vec<u8>, AllocError>
     ensures { IfOk result (λ v. v.items ≡ link_text state.now) }
 {
@@ -112,7 +112,7 @@ fn link_text(alloc: Global, state: &LinkState) -> Result<Vec<u8>, AllocError>
     Ok(text)
 }
 
-/// `link`.
+/// The line of `link`.
 pub(crate) fn link_is(alloc: Global, group: &Group, link: usize) -> Result<Vec<u8>, AllocError>
     ensures { IfOk result (λ v. v.items ≡ link_line (slice_get group.now.links link)) }
 {
@@ -122,7 +122,7 @@ pub(crate) fn link_is(alloc: Global, group: &Group, link: usize) -> Result<Vec<u
     }
 }
 
-/// `state P`.
+/// The line of `state P`.
 pub(crate) fn state(
     alloc: Global,
     group: &Group,
@@ -137,7 +137,7 @@ pub(crate) fn state(
     }
 }
 
-/// `value P x`.
+/// The line of `value P x`.
 pub(crate) fn value(
     alloc: Global,
     group: &Group,

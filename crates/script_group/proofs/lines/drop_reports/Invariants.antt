@@ -1,4 +1,4 @@
--- The reports so far.
+-- The reports taken out so far.
 use Rattle.link_group.specs.Set.{LinkSet}
 use Rattle.script_group.specs.GroupAnswers.{GivesReports}
 use Rattle.script_group.proofs.LineAnswers.{reports_at}

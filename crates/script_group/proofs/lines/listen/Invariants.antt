@@ -1,4 +1,4 @@
--- The octets so far.
+-- The octets heard so far.
 use Rattle.std.proofs.Common.{◌≤◌, ◌-◌, length, drop}
 use Rattle.link_group.specs.Set.{LinkSet}
 use Rattle.script_group.specs.GroupAnswers.{Listens}

@@ -1,4 +1,4 @@
--- The terminals so far.
+-- The terminals opened so far.
 use Rattle.script_group.proofs.Openings.{AreSoFar}
 use Rattle.script_group.proofs.opening.terminals.Given as goal
 

@@ -1,4 +1,4 @@
--- The units so far.
+-- The units printed so far.
 use Rattle.script_terminal.specs.Played.{last_in}
 use Rattle.script_group.proofs.GroupRuns.{HasGoneSoFar}
 use Rattle.script_group.proofs.outputs.print_units.Given as goal

@@ -1,4 +1,4 @@
--- The entries so far.
+-- The entries appended so far.
 use Rattle.std.proofs.Common.{◌≡◌}
 use Rattle.script_group.specs.Shown.{entries_to}
 use Rattle.script_group.proofs.shown.table.Given as goal
