@@ -1,4 +1,4 @@
--- What is captured of a link, unit by unit.
+-- The capture of a link, unit by unit.
 use Rattle.std.proofs.Common.{◌≡◌, ◌∙◌, ℕ, zero, suc, ◌+◌, ◌<◌, Bool, true, false, List, [], ◌∷◌, ◌++◌, append-nil, append_assoc, length, take, reverse, get_or, Option, arith, sym, ap, subst}
 use Rattle.std.specs.Io.KnownBytes.{Appends}
 use Rattle.std.specs.List.{flat_map}
@@ -14,24 +14,24 @@ use Rattle.line_streams.specs.declared.seen.Seen.{Seen}
 use Rattle.script_play.specs.Captured.{repeated, Hears, nothing, one, IsHeard, IsCapturing}
 use Rattle.script_play.specs.declared.capturing.LinkSeen.{LinkSeen}
 
--- nothing came yet
+-- no octet was received yet
 pub none_came : (link : ℕ) (every : Bool) (l : LinkSeen) → l.repeats.every ≡ every → Stands [] l.heard → StandsFor link [] l.repeats → IsHeard link every [] [] l
 unfolding bits_of
 none_came link every l every_is hears recalls = record { every_is = every_is; hears = hears; recalls = recalls }
 
--- ---- a unit
+-- ---- one signal unit
 
 kept_is : (every keeps : Bool) (s : Seen) (ss : List Seen) → keeps ≡ is_kept every (kept every ss) s → kept every (s ∷ ss) ≡ with_kept keeps s (kept every ss)
 kept_is every keeps s ss is = ap (λ (k : Bool). with_kept k s (kept every ss)) (sym is)
 
--- whether it is recorded
+-- whether the unit is recorded
 decided : (every keeps : Bool) (s : Seen) (came : List ℕ) (ss : List Seen) (begun old : Option (List ℕ)) (l : LinkSeen) → IsCapturing s.link every came ss begun old l
     → ((h : List Seen) → StandsFor s.link h l.repeats → keeps ≡ is_kept l.repeats.every h s) → keeps ≡ is_kept every (kept every ss) s
 decided every keeps s came ss begun old l c keeps_is =
     let E : Bool → Type 0 = λ e. keeps ≡ is_kept e (kept every ss) s in
     subst E c.heard.every_is (keeps_is (kept every ss) c.heard.recalls)
 
--- what is known of its link
+-- the link's state after the unit
 noted : (every keeps : Bool) (s : Seen) (came : List ℕ) (ss : List Seen) (l m : LinkSeen) → m.heard ≡ l.heard → m.repeats.every ≡ l.repeats.every
     → ((h : List Seen) → StandsFor s.link h l.repeats → StandsFor s.link (with_kept keeps s h) m.repeats) → keeps ≡ is_kept every (kept every ss) s
     → IsHeard s.link every came ss l → IsHeard s.link every came (s ∷ ss) m
@@ -43,7 +43,7 @@ noted every keeps s came ss l m same every_is stands is h =
       recalls = subst K (sym (kept_is every keeps s ss is)) (stands (kept every ss) h.recalls);
     }
 
--- a record more
+-- one more record
 behind_others : (s : Seen) (ks : List Seen) → flat_map record_of (reverse (s ∷ ks)) ≡ flat_map record_of (reverse ks) ++ record_of s
 behind_others s ks =
     ap (flat_map record_of) (reverse-append (s ∷ []) ks)
@@ -66,7 +66,7 @@ unrecorded_more every s ss begun old same before =
     let P : List Seen → Type 0 = λ h. Appends begun old (HEADER ++ flat_map record_of (reverse h)) in
     subst P (sym same) before
 
--- it says something new, and is recorded
+-- the unit differs from the last ones, and is recorded
 pub saw_news : (every keeps : Bool) (s : Seen) (came : List ℕ) (ss : List Seen) (begun old new : Option (List ℕ)) (l m : LinkSeen) (text : List ℕ) → keeps ≡ true → m.heard ≡ l.heard
     → m.repeats.every ≡ l.repeats.every → ((h : List Seen) → StandsFor s.link h l.repeats → keeps ≡ is_kept l.repeats.every h s)
     → ((h : List Seen) → StandsFor s.link h l.repeats → StandsFor s.link (with_kept keeps s h) m.repeats) → text ≡ record_of s
@@ -77,7 +77,7 @@ saw_news every keeps s came ss begun old new l m text recorded same every_is kee
     let more : kept every (s ∷ ss) ≡ s ∷ kept every ss = kept_is every keeps s ss is ∙ ap (λ (k : Bool). with_kept k s (kept every ss)) recorded in
     record { heard = noted every keeps s came ss l m same every_is stands is c.heard; written = recorded_more every s ss begun old new more c.written (subst A is_record grew) }
 
--- it says nothing new
+-- the unit repeats an earlier one, and isn't recorded
 pub saw_repeat : (every keeps : Bool) (s : Seen) (came : List ℕ) (ss : List Seen) (begun old : Option (List ℕ)) (l m : LinkSeen) → keeps ≡ false → m.heard ≡ l.heard
     → m.repeats.every ≡ l.repeats.every → ((h : List Seen) → StandsFor s.link h l.repeats → keeps ≡ is_kept l.repeats.every h s)
     → ((h : List Seen) → StandsFor s.link h l.repeats → StandsFor s.link (with_kept keeps s h) m.repeats)
@@ -87,9 +87,9 @@ saw_repeat every keeps s came ss begun old l m left_out same every_is keeps_is s
     let more : kept every (s ∷ ss) ≡ kept every ss = kept_is every keeps s ss is ∙ ap (λ (k : Bool). with_kept k s (kept every ss)) left_out in
     record { heard = noted every keeps s came ss l m same every_is stands is c.heard; written = unrecorded_more every s ss begun old more c.written }
 
--- ---- octets that come in
+-- ---- octets received
 
--- one more came, by which nothing is recorded
+-- one more octet was received, and nothing is recorded
 pub heard_on : (link : ℕ) (every : Bool) (came more : List ℕ) (ss : List Seen) (begun old : Option (List ℕ)) (l m : LinkSeen) → Stands (bits_of more) m.heard
     → m.repeats ≡ l.repeats → IsCapturing link every came ss begun old l → IsCapturing link every more ss begun old m
 heard_on link every came more ss begun old l m stands same c =
@@ -106,7 +106,7 @@ pub hears_one : (link at octet : ℕ) (came : List ℕ) (found : Option (List �
     → Hears link at came (octet ∷ []) ss last
 hears_one link at octet came found ss last ends is = one came [] octet found ss last last ends is (nothing (came ++ octet ∷ []) last)
 
--- one behind the other
+-- one run of octets after another
 hears_on : (link at : ℕ) (before xs ys : List ℕ) (ss mm last : List Seen) → Hears link at before xs ss mm → Hears link at (before ++ xs) ys mm last
     → Hears link at before (xs ++ ys) ss last
 hears_on link at _ _ ys _ _ last (nothing before seen) step =
@@ -117,7 +117,7 @@ hears_on link at _ _ ys _ _ last (one before rest octet found seen mid end ends 
     one before (rest ++ ys) octet found seen mid last ends is
     (hears_on link at (before ++ octet ∷ []) rest ys mid end last more (subst P (sym (append_assoc before (octet ∷ []) rest)) step))
 
--- these came so far
+-- these octets were received so far
 pub record HeardSoFar (link at : ℕ) (every : Bool) (came octets : List ℕ) (ss : List Seen) (begun new : Option (List ℕ)) (l : LinkSeen) : Type 0 where
   pub last : List Seen
   pub hears : Hears link at came octets ss last
@@ -129,7 +129,7 @@ none_heard link at every came ss begun old l c =
     let P : List ℕ → Type 0 = λ x. IsCapturing link every x ss begun old l in
     record { last = ss; hears = nothing came ss; capturing = subst P (sym (append-nil came)) c }
 
--- and these behind them
+-- and these octets after them
 pub more_heard : (link at : ℕ) (every : Bool) (came xs ys : List ℕ) (ss : List Seen) (begun mid new : Option (List ℕ)) (l m : LinkSeen)
     → HeardSoFar link at every came xs ss begun mid l
     → ((seen : List Seen) → IsCapturing link every (came ++ xs) seen begun mid l → (last : List Seen) × Hears link at (came ++ xs) ys seen last
@@ -149,7 +149,7 @@ one_more_heard link at every came octets i ss begun new l within so_far =
     let P : List ℕ → Type 0 = λ xs. HeardSoFar link at every came xs ss begun new l in
     subst P (sym (take_more octets i 0 within)) so_far
 
--- the same octets once more
+-- the repetition, with one more copy of the octets
 repeated_more : (n : ℕ) (octets : List ℕ) → repeated n octets ++ octets ≡ repeated (suc n) octets
 repeated_more zero octets = sym (append-nil octets)
 repeated_more (suc n) octets = append_assoc octets (repeated n octets) octets ∙ ap (λ (l : List ℕ). octets ++ l) (repeated_more n octets)

@@ -1,4 +1,4 @@
--- A chart, one turn more.
+-- A chart: one more turn.
 use Rattle.std.proofs.Common.{◌≡◌, ◌∙◌, ℕ, zero, suc, ◌+◌, ◌*◌, Bool, true, false, not, List, [], ◌∷◌, ◌++◌, length, map, take, drop, append-nil, append_assoc, get_or, ◌<◌, ◌≤◌, eqb-true, Option, Some, None, arith, refl, sym, ap, subst}
 use Rattle.std.specs.Prelude.{◌||◌, ◌&&◌, ◌==◌, filter, is_none, is_some, option_map, slice_get, if◌then◌else◌, codes}
 use Rattle.std.specs.List.{list_any, flat_map}
@@ -65,7 +65,7 @@ rows_more d last (s ∷ ts) t =
     ap (λ (r : List ℕ). (time_text last s.clock ++ row_text d s) ++ r) (rows_more d (Some s.clock) ts t)
     ∙ sym (append_assoc (time_text last s.clock ++ row_text d s) (rows_text d (Some s.clock) ts) (time_text (last_clock (Some s.clock) ts) t.clock ++ row_text d t))
 
--- what is handed to a watcher is the turn that ended
+-- the value handed to a watcher is the turn that ended
 end_is : (e : Ended) (t : TurnEnd) → IsEnd e t → end_of e t.outcome ≡ t
 end_is e t i =
     let made : ℕ → ActorName → Turn → Report → TurnEnd = λ c m w r. record { clock = c; me = m; turn = w; outcome = t.outcome; report = r } in
@@ -73,7 +73,7 @@ end_is e t i =
     ∙ (ap (λ m. made t.clock m e.done e.report) i.me
     ∙ (ap (λ w. made t.clock t.me w e.report) i.turn ∙ ap (λ r. made t.clock t.me t.turn r) i.report))
 
--- a turn more is drawn
+-- one more turn is drawn
 drawn_more : (d : Draft) (ts : List TurnEnd) (t : TurnEnd) (c m n : Chart) → TakesPart (λ x. is_in d x t) (has_outside t) c m
     → n.rows.items ≡ m.rows.items ++ (time_text m.clock t.clock ++ row_text d t) → n ≡ record m { rows = n.rows; clock = Some t.clock } → IsDrawn d ts c
     → IsDrawn d (ts ++ t ∷ []) n
@@ -101,7 +101,7 @@ drawn_all d all t c n b is k same =
     let Q : _ → Type 0 = λ cut. IsDrawn d (filter (is_drawn cut) (all ++ t ∷ [])) n in
     subst Q (sym same) (subst P (sym (filter-append (is_drawn c.cut) all (t ∷ []))) (subst L (sym is) k))
 
--- it isn't one of those that are to be drawn
+-- the turn isn't selected for drawing
 pub not_drawn : (d : Draft) (e : Ended) (c : Chart) → ((o : Outcome) → outcome_of e.done ≡ Some o → false ≡ is_drawn c.cut (end_of e o)) → (ts : List TurnEnd) (t : TurnEnd)
     → IsEnd e t → Charts d ts c → Charts d (ts ++ t ∷ []) c
 not_drawn d e c is ts t i k =
@@ -109,7 +109,7 @@ not_drawn d e c is ts t i k =
     let P : List TurnEnd → Type 0 = λ l. IsDrawn d l c in
     drawn_all d ts t c c false (subst D (end_is e t i) (sym (is t.outcome i.outcome))) (subst P (sym (append-nil (filter (is_drawn c.cut) ts))) k) refl
 
--- it is
+-- the turn is selected for drawing
 pub is_drawn_too : (d : Draft) (e : Ended) (c m n : Chart) → ((o : Outcome) → outcome_of e.done ≡ Some o → true ≡ is_drawn c.cut (end_of e o))
     → ((o : Outcome) → outcome_of e.done ≡ Some o → TakesPart (λ x. is_in d x (end_of e o)) (has_outside (end_of e o)) c m)
     → ((o : Outcome) → outcome_of e.done ≡ Some o → n.rows.items ≡ m.rows.items ++ (time_text m.clock e.clock ++ row_text d (end_of e o)))
@@ -123,7 +123,7 @@ is_drawn_too d e c m n is part rows same ts t i k =
     drawn_all d ts t c n true (subst D (end_is e t i) (sym (is t.outcome i.outcome))) (subst P (end_is e t i) drawn)
     (ap (λ (x : Chart). x.cut) same ∙ (part t.outcome i.outcome).cut)
 
--- ---- what a watcher is told
+-- ---- the watcher's notices
 
 turns_end : (ns : List Notice) (t : TurnEnd) → turns_in ns ++ t ∷ [] ≡ turns_in (ns ++ ends t ∷ [])
 turns_end [] t = refl
@@ -141,7 +141,7 @@ charts_end d ns t c k = let P : List TurnEnd → Type 0 = λ ts. Charts d ts c i
 pub charts_throw : (d : Draft) (ns : List Notice) (x : Throw) (c : Chart) → Charts d (turns_in ns) c → Charts d (turns_in (ns ++ throws x ∷ [])) c
 charts_throw d ns x c k = let P : List TurnEnd → Type 0 = λ ts. Charts d ts c in subst P (turns_more ns x) k
 
--- ---- who takes part
+-- ---- the participants
 
 same_actors : (x y : ActorName) → same_actor x y ≡ true → x ≡ y
 same_actors x y e = by_process (x.process.0 == y.process.0) refl e
@@ -158,22 +158,22 @@ is_there true b so = refl
 is_there false true so = so refl
 is_there false false so = refl
 
--- one that is among them already
+-- an actor that participates already
 pub entered_already : (xs : List ActorName) (actor : ActorName) → takes_part xs actor ≡ true → (x : ActorName)
     → takes_part xs x ≡ (takes_part xs x || same_actor actor x)
 entered_already xs actor has x =
     is_there (takes_part xs x) (same_actor actor x)
     (λ same. let P : ActorName → Type 0 = λ y. takes_part xs y ≡ true in subst P (same_actors actor x same) has)
 
--- one more
+-- one more participant
 pub entered_new : (xs : List ActorName) (actor x : ActorName) → takes_part (xs ++ actor ∷ []) x ≡ (takes_part xs x || same_actor actor x)
 entered_new xs actor x = any_more (λ y. same_actor y x) xs actor
 
--- nobody
+-- no participant
 pub nobody : (a : Bool) → a ≡ (a || false)
 nobody a = sym (or_none a)
 
--- one part behind another
+-- one set of participants after another
 pub both_part : (P Q : ActorName → Bool) (a b : Bool) (c m n : Chart) → TakesPart P a c m → TakesPart Q b m n → TakesPart (λ x. P x || Q x) (a || b) c n
 both_part P Q a b c m n p q = record {
   actors = λ x.
@@ -206,7 +206,7 @@ effects_are : (x : Option Outcome) (o : Outcome) (es : List Effect) → option_m
     → es ≡ o.progress.effects
 effects_are x o es part is = same_Some es o.progress.effects (sym part ∙ ap (option_map (λ (y : Outcome). y.progress.effects)) is)
 
--- whoever is drawn with a turn
+-- the participants of a turn
 pub all_enter : (d : Draft) (e : Ended) (from : Option Address) (lost : List Lost) (es : List Effect) (c m k n : Chart) → from ≡ e.done.input.sender
     → lost ≡ e.report.lost.items → option_map (λ (y : Outcome). y.progress.effects) (outcome_of e.done) ≡ Some es → TakesPart (same_actor e.me) false c m
     → TakesPart (is_sender from) (came_from_outside from) m k → TakesPart (get_it d e.me lost 0 es) (list_any goes_outside es) k n → (o : Outcome)
@@ -223,7 +223,7 @@ all_enter d e from lost es c m k n sent gone part own sender others o ran =
     (both_part (is_sender e.done.input.sender) (get_it d e.me e.report.lost.items 0 es) (came_from_outside e.done.input.sender) (list_any goes_outside es) m k n
     (subst S sent sender) (subst L gone others)))
 
--- ---- effects, one more
+-- ---- one more effect
 
 gets_more : (d : Draft) (me : ActorName) (lost : List Lost) (k : ℕ) (es : List Effect) (e : Effect) (x : ActorName)
     → get_it d me lost k (es ++ e ∷ []) x ≡ (get_it d me lost k es x || gets d me (is_some (lost_at lost (k + length es))) e x)
@@ -290,7 +290,7 @@ more_text xs ys = flat_map-append (λ n. codes ", " ++ head_of n) xs ys
 pub none_more : (c : Columns) → HasMore [] c c
 none_more c = record { text = sym (append-nil c.text.items); count = omega arith }
 
--- columns behind columns
+-- columns after columns
 pub more_behind : (xs ys : List (List ℕ)) (a b c : Columns) → HasMore xs a b → HasMore ys b c → HasMore (xs ++ ys) a c
 more_behind xs ys a b c p q = record {
   text = q.text
@@ -315,7 +315,7 @@ instance_at p k (suc n) zero x within = ap (named p) (let e : k ≡ k + 0 = omeg
 instance_at p k (suc n) (suc i) x within =
     instance_at p (suc k) n i x (omega (arith, within)) ∙ ap (named p) (let e : suc k + i ≡ k + suc i = omega arith in e)
 
--- those of these actors that take part, as columns
+-- the participants among these actors, as columns
 abbrev pub chosen : Draft → List ActorName → List ActorName → List (List ℕ)
 chosen d xs names = map (sender_text d) (filter (takes_part xs) names)
 
@@ -330,7 +330,7 @@ more_names d xs names others all a b c is p q =
     let P : List (List ℕ) → Type 0 = λ ns. HasMore ns a c in
     subst P (sym (ap (chosen d xs) is ∙ chosen_more d xs names others)) (more_behind (chosen d xs names) (chosen d xs others) a b c p q)
 
--- one instance more
+-- one more instance
 pub instance_more : (d : Draft) (xs : List ActorName) (p n i k : ℕ) (a b c : Columns) → i < n → k ≡ i + 1
     → HasMore (chosen d xs (take i (instances_from p 1 n))) a b → HasMore (chosen d xs (named p k ∷ [])) b c
     → HasMore (chosen d xs (take (i + 1) (instances_from p 1 n))) a c
@@ -356,7 +356,7 @@ names_more p (m ∷ ns) n =
     (names_more (suc p) ns n ∙ ap (λ (q : ℕ). names_from (suc p) ns ++ instances_from q 1 n) (let e : suc p + length ns ≡ p + suc (length ns) = omega arith in e))
     ∙ sym (append_assoc (instances_from p 1 m) (names_from (suc p) ns) (instances_from (p + suc (length ns)) 1 n))
 
--- a process of a set
+-- process number i of a set
 record OneProcess (ps : List DraftProcess) (i : ℕ) : Type 0 where
   process : DraftProcess
   is : slice_get ps i ≡ Some process
@@ -365,7 +365,7 @@ one_process : (ps : List DraftProcess) (i : ℕ) → i < length ps → OneProces
 one_process [] i within = absurd (omega (arith, within))
 one_process (y ∷ ys) i within = record { process = get_or (y ∷ ys) i y; is = slice_get-get_or (y ∷ ys) i y within }
 
--- the instances of one process more
+-- the instances of one more process
 pub process_more : (d : Draft) (xs : List ActorName) (i n : ℕ) (a b c : Columns) → i < length d.processes → n ≡ i
     → HasMore (chosen d xs (actors_of (take i d.processes))) a b → HasMore (chosen d xs (instances_from n 1 (instances_at d n))) b c
     → HasMore (chosen d xs (actors_of (take (i + 1) d.processes))) a c
@@ -390,7 +390,7 @@ pub all_processes : (d : Draft) (xs : List ActorName) (ps : List DraftProcess) (
 all_processes d xs ps i a b over q =
     let P : List DraftProcess → Type 0 = λ l. HasMore (chosen d xs (actors_of l)) a b in subst P (take_all i ps over) q
 
--- an actor that takes part, or doesn't
+-- an actor that participates, or doesn't
 pub chosen_one : (d : Draft) (xs : List ActorName) (actor : ActorName) (a b : Columns) → takes_part xs actor ≡ true → HasMore (sender_text d actor ∷ []) a b
     → HasMore (chosen d xs (actor ∷ [])) a b
 chosen_one d xs actor a b has more =
@@ -427,7 +427,7 @@ pub heads_are : (names : List (List ℕ)) → drop 2 (behind_each names) ≡ hea
 heads_are [] = refl
 heads_are (name ∷ names) = refl
 
--- an answer that is the other way round
+-- an answer and its negation
 pub none_told : (o : Option ℕ) (r : Bool) → is_some o ≡ not r → r ≡ is_none o
 none_told None true is = refl
 none_told None false is = is

@@ -1,4 +1,4 @@
--- Plays with what turns took of the set's text.
+-- Plays with the coverage of the set's text.
 use Rattle.std.proofs.Common.{◌≡◌, ◌∙◌, ℕ, List, [], ◌∷◌, ◌++◌, Option, None, Some, Result, Ok, Err, IfOk, IfSome, false, length, nat_lt, refl, sym, ap, subst}
 use Rattle.std.specs.Global.{Vec}
 use Rattle.plain_text.specs.Reading.{LONGEST, IsReading}
@@ -16,7 +16,7 @@ use Rattle.script_play.specs.Seen.{IsToldTo, IsPlayTold, IsPlayToldInPart, turns
 use Rattle.script_play.specs.declared.seeing.Wanted.{Wanted}
 use Rattle.script_play.specs.declared.seeing.Wanted.TheVariants.{Coverage}
 
--- ---- a turn that ends, and what is thrown away
+-- ---- a turn that ends, and an item that is discarded
 
 runs_more : (ns : List Notice) (t : TurnEnd) → turns_run ns ++ t.turn ∷ [] ≡ turns_run (ns ++ ends t ∷ [])
 runs_more [] t = refl
@@ -34,14 +34,14 @@ covering_end ns t u c is known = subst (λ (l : List Turn). IsCovering l c) (ap 
 pub covering_throw : (ns : List Notice) (x : OneThrow) (c : TextCoverage) → IsCovering (turns_run ns) c → IsCovering (turns_run (ns ++ throws x ∷ [])) c
 covering_throw ns x c known = subst (λ (l : List Turn). IsCovering l c) (runs_same ns x) known
 
--- ---- what is told at the end
+-- ---- the report at the end
 
 pub covered_to : {E : Type 0} (r : Result (Vec ℕ) E) (old new : Option (List ℕ)) (name text : List ℕ) (c : TextCoverage) → IsToldTo r old new
     → IfOk r (λ v. (ts : List Turn) → IsCovering ts c → IsLcov name text ts v.items) → (ns : List Notice) → IsCovering (turns_run ns) c → IsCoveredBy name text old new ns
 covered_to (Ok v) old new name text c told is ns known = record { out = v.items; is_lcov = is (turns_run ns) known; written = told }
 covered_to (Err e) old new name text c told is ns known = absurd told
 
--- ---- of a text that is known, or isn't
+-- ---- a text that is known, or isn't
 
 given_as : (known : Option (List ℕ)) (bytes : List ℕ) (P : List ℕ → Type 0) → IfSome known (λ all. bytes ≡ all) → IsGiven (Some bytes) P → IsGiven known P
 given_as None bytes P is g = record { bytes = g.bytes; are_known = tt; holds = g.holds }
@@ -51,7 +51,7 @@ known_as : (known : Option (List ℕ)) (bytes text : List ℕ) → IfSome known 
 known_as None bytes text is same = tt
 known_as (Some all) bytes text is same = same ∙ is
 
--- what is kept of a text that isn't too long is the text
+-- a text that isn't too long is kept whole
 pub is_kept : (known : Option (List ℕ)) (read : TextRead) (bytes : List ℕ) → IsReading known read → nat_lt LONGEST (length read.kept.items) ≡ false → bytes ≡ read.kept.items
     → IfSome known (λ all. bytes ≡ all)
 is_kept known read bytes r short is = known_as known r.bytes bytes r.are_known (is ∙ all_kept r.bytes read r.keeps short)
@@ -94,7 +94,7 @@ covered_in_part_as name known bytes usual script old new from to is s = record {
   };
 }
 
--- so of some text
+-- `IsSomeCovered` follows if there is such a text
 as_some : (name : List ℕ) (known : Option (List ℕ)) (usual : RoundLimits) (old new from to : Option (List ℕ)) (d : Draft) (said : List ℕ)
     → IsTextCovered name known usual old new from to d said → IsPlaySeen usual Coverage old new from to d said
 as_some name known usual old new from to d said c = record { name = name; text = c.text; is_set = c.is_set; told = c.told }
@@ -137,7 +137,7 @@ refused_as known bytes script old new is (set_refused g) = set_refused (given_as
 refused_as known bytes script old new is (script_refused s) =
     script_refused (record { draft = s.draft; is_set = given_as known bytes (λ all. IsSetOf all s.draft) is s.is_set; of_script = s.of_script })
 
--- of the bytes of a text
+-- for the bytes of a text
 pub of_bytes : (usual : RoundLimits) (old new from to : Option (List ℕ)) (name text bytes : List ℕ) (d : Draft) (said : List ℕ) → text ≡ bytes
     → IsPlayTold usual old new (IsCoveredBy name text from to) d said → IsPlayTold usual old new (IsCoveredBy name bytes from to) d said
 of_bytes usual old new from to name text bytes d said is told =
@@ -150,7 +150,7 @@ of_bytes_in_part usual old new from to name text bytes d said is told =
     let P : List ℕ → Type 0 = λ bs. IsPlayToldInPart usual old new (IsCoveredBy name bs from to) d said in
     subst P is told
 
--- of the set of these bytes
+-- for the set of these bytes
 pub bytes_covered : (name bytes : List ℕ) (usual : RoundLimits) (old new from to : Option (List ℕ)) (d : Draft) (said : List ℕ) → IsGiven (Some bytes) (λ all. IsSetOf all d)
     → IsPlayTold usual old new (IsCoveredBy name bytes from to) d said → IsTextCovered name (Some bytes) usual old new from to d said
 bytes_covered name bytes usual old new from to d said given told = record {

@@ -1,4 +1,4 @@
--- What is known of a link stays where units of another one are seen.
+-- The state of a link is unchanged by signal units of another link.
 use Rattle.std.proofs.Common.{◌≡◌, ◌∙◌, ℕ, zero, suc, ◌+◌, ◌<◌, ◌≤◌, Bool, true, false, List, [], ◌∷◌, ◌++◌, length, slice_set, Option, None, Some, arith, refl, sym, ap, subst}
 use Rattle.std.specs.Prelude.{◌==◌, ◌&&◌, ◌||◌, not, if◌then◌else◌}
 use Rattle.std.proofs.lemmas.Bool.{ne_eqb}
@@ -37,7 +37,7 @@ stands_still every other s ss r apart x =
     let keeps = is_kept every (kept every ss) s in
     record { went = recalls_still true keeps other s (kept every ss) r.went apart x.went; came = recalls_still false keeps other s (kept every ss) r.came apart x.came }
 
--- a unit of another link, if one was seen
+-- a signal unit of another link, if one was seen
 unit_apart : (every went : Bool) (link other at : ℕ) (found : Option (List ℕ)) (ss last : List Seen) (r : Repeats) → (link ≡ other → ⊥) → IsUnit went link at found ss last
     → StandsFor other (kept every ss) r → StandsFor other (kept every last) r
 unit_apart every went link other at None ss last r apart is x =
@@ -47,19 +47,19 @@ unit_apart every went link other at (Some octets) ss (s ∷ others) r apart is x
     let P : List Seen → Type 0 = λ l. StandsFor other (kept every l) r in
     stands_still every other s others r (λ same. apart (sym is.1 ∙ same)) (subst P (sym is.4) x)
 
--- octets that come in on another link
+-- octets received on another link
 pub heard_apart : (every : Bool) (link other at : ℕ) (before octets : List ℕ) (ss last : List Seen) (r : Repeats) → (link ≡ other → ⊥) → Hears link at before octets ss last
     → StandsFor other (kept every ss) r → StandsFor other (kept every last) r
 heard_apart every link other at _ _ _ _ r apart (nothing before seen) x = x
 heard_apart every link other at _ _ _ _ r apart (one before rest octet found seen mid last ends is others) x =
     heard_apart every link other at (before ++ octet ∷ []) rest mid last r apart others (unit_apart every false link other at found seen mid r apart is x)
 
--- a unit that goes out there
+-- a signal unit sent on another link
 pub gone_apart : (every : Bool) (link other at : ℕ) (octets : List ℕ) (ss last : List Seen) (r : Repeats) → (link ≡ other → ⊥) → IsUnit true link at (Some octets) ss last
     → StandsFor other (kept every ss) r → StandsFor other (kept every last) r
 gone_apart every link other at octets ss last r apart is x = unit_apart every true link other at (Some octets) ss last r apart is x
 
--- units that are asked for there
+-- signal units requested on another link
 pub sent_apart : (every : Bool) (link other at n : ℕ) (c d : LinkSet) (ss last : List Seen) (r : Repeats) → (link ≡ other → ⊥) → SendsOn link at n c ss d last
     → StandsFor other (kept every ss) r → StandsFor other (kept every last) r
 sent_apart every link other at _ _ _ _ _ r apart (none_asked c seen) x = x
@@ -67,14 +67,14 @@ sent_apart every link other at _ _ _ _ _ r apart (silent n c d seen sent) x = x
 sent_apart every link other at _ _ _ _ _ r apart (one_goes n c m d unit seen mid last sent gone rest) x =
     sent_apart every link other at n m d mid last r apart rest (gone_apart every link other at _ seen mid r apart gone.is_unit x)
 
--- and what is known of a link
+-- the state of this link is unchanged
 pub known_still : (every : Bool) (other : ℕ) (came : List ℕ) (ss last : List Seen) (l : LinkSeen)
     → (StandsFor other (kept every ss) l.repeats → StandsFor other (kept every last) l.repeats) → IsHeard other every came ss l → IsHeard other every came last l
 known_still every other came ss last l stays h = record { every_is = h.every_is; hears = h.hears; recalls = stays h.recalls }
 
 -- ---- all links of a set
 
--- none of them is the one of which units were seen
+-- none of these links is the one whose units were seen
 all_apart : (every : Bool) (seen last : List Seen) (l : ℕ) (cs : List (List ℕ)) (ks : List LinkSeen)
     → ((other : ℕ) → l ≤ other → (c : List ℕ) (k : LinkSeen) → IsHeard other every c seen k → IsHeard other every c last k)
     → AreHeard every seen l cs ks → AreHeard every last l cs ks
@@ -82,7 +82,7 @@ all_apart every seen last _ _ _ stays (none l) = none l
 all_apart every seen last _ _ _ stays (more l c cs k ks h rest) =
     more l c cs k ks (stays l (omega arith) c k h) (all_apart every seen last (suc l) cs ks (λ other le d m x. stays other (omega (arith, le)) d m x) rest)
 
--- that is the n-th behind link l
+-- that link is number l + n
 pub one_known : (every : Bool) (seen last : List Seen) (l n : ℕ) (cs : List (List ℕ)) (ks : List LinkSeen) (came : List ℕ) (k : LinkSeen) → n < length cs
     → ((other : ℕ) → (l + n ≡ other → ⊥) → (c : List ℕ) (m : LinkSeen) → IsHeard other every c seen m → IsHeard other every c last m)
     → IsHeard (l + n) every came last k → AreHeard every seen l cs ks → AreHeard every last l (slice_set cs n came) (slice_set ks n k)

@@ -1,4 +1,4 @@
--- Units that go out one after another, printed and captured.
+-- Signal units sent one after another, printed and captured.
 use Rattle.std.proofs.Common.{◌≡◌, ◌∙◌, ℕ, suc, ◌+◌, ◌-◌, ◌<◌, ◌≤◌, Bool, List, [], ◌∷◌, ◌++◌, append-nil, append_assoc, Option, None, Some, refl, sym, ap, subst, arith}
 use Rattle.std.specs.Prelude.{codes}
 use Rattle.std.specs.List.{flat_map}
@@ -35,7 +35,7 @@ printed_both old now next last mid after xs ys first second =
 pub printed_as : (old new last next : Option (List ℕ)) (xs ys : List (List ℕ)) → xs ≡ ys → HasPrinted old new last next xs → HasPrinted old new last next ys
 printed_as old new last next xs ys same printed = let P : List (List ℕ) → Type 0 = λ ls. HasPrinted old new last next ls in subst P same printed
 
--- a line of a unit, or of none
+-- the line of a signal unit, or of none
 pub printed_one : (old new last next : Option (List ℕ)) (text line : List ℕ) → next ≡ Some line → Appends old new (line_of line) → line ≡ text
     → HasPrinted old new last next (text ∷ [])
 printed_one old new last next text line is grew same =
@@ -52,15 +52,15 @@ out_as n m t xs ys u same lines out =
 sends_as : (at n m : ℕ) (t u : Term) (ss last : List Seen) → n ≡ m → Sends 0 at n t ss u last → Sends 0 at m t ss u last
 sends_as at n m t u ss last same sends = let P : ℕ → Type 0 = λ k. Sends 0 at k t ss u last in subst P same sends
 
--- ---- so far
+-- ---- partial runs
 
--- these units were seen, and what is seen next is seen behind them
+-- these units were seen, and later units come after them
 pub record SeenSoFar (at k : ℕ) (t now : Term) (every : Bool) (came : List ℕ) (ss : List Seen) (begun new : Option (List ℕ)) (l : LinkSeen) : Type 0 where
   pub seen : List Seen
   pub others : (n : ℕ) (u : Term) (last : List Seen) → Sends 0 at n now seen u last → Sends 0 at (k + n) t ss u last
   pub capturing : IsCapturing 0 every came seen begun new l
 
--- so many units went out, were printed and captured
+-- this many signal units were sent, printed and captured
 pub record OutGoing (at k : ℕ) (old new last next from to : Option (List ℕ)) (t now : Term) (l m : LinkSeen) : Type 0 where
   pub lines : List (List ℕ)
   pub printed : HasPrinted old new last next lines
@@ -81,7 +81,7 @@ goes_none at old last from t l = record {
       };
 }
 
--- one more goes out
+-- one more signal unit is sent
 pub goes_more : (at k : ℕ) (old mid new last this next from via to : Option (List ℕ)) (t u v : Term) (x : su.Unit) (l m n : LinkSeen) → (next_of u).unit ≡ Some x
     → v ≡ behind_next u → HasPrinted mid new this next (unit_line (next_of u).unit ∷ [])
     → ((every : Bool) (came : List ℕ) (ss : List Seen) (begun : Option (List ℕ)) → IsCapturing 0 every came ss begun via m
@@ -116,7 +116,7 @@ pub record HasGone (at asked : ℕ) (old new last next from to : Option (List �
   pub captured : (every : Bool) (came : List ℕ) (ss : List Seen) (begun : Option (List ℕ)) → IsCapturing 0 every came ss begun from l
       → (more : List Seen) × Sends 0 at asked t ss now more × IsCapturing 0 every came more begun to m
 
--- none does
+-- no signal unit is sent
 pub goes_silent : (at k asked : ℕ) (old mid new last this next from to : Option (List ℕ)) (t u v : Term) (l m : LinkSeen) → k < asked → (next_of u).unit ≡ None
     → v ≡ behind_next u → HasPrinted mid new this next (unit_line (next_of u).unit ∷ []) → OutGoing at k old mid last this from to t u l m
     → HasGone at asked old new last next from to t v l m
@@ -144,7 +144,7 @@ goes_silent at k asked old mid new last this next from to t u v l m less is behi
           );
     }
 
--- all that were asked for did
+-- as many signal units were sent as requested
 pub goes_all : (at k asked : ℕ) (old new last next from to : Option (List ℕ)) (t u : Term) (l m : LinkSeen) → k ≤ asked → asked ≤ k
     → OutGoing at k old new last next from to t u l m → HasGone at asked old new last next from to t u l m
 goes_all at k asked old new last next from to t u l m most least so_far =

@@ -1,4 +1,4 @@
--- What is captured of a link set's run, one command more.
+-- The capture of a link set's run: one more command.
 use Rattle.std.proofs.Common.{◌≡◌, ◌∙◌, ℕ, zero, suc, ◌+◌, ◌<◌, ◌≤◌, Bool, List, [], ◌∷◌, ◌++◌, append-nil, length, length-append, map, take, drop, get_or, slice_set, Option, None, Some, arith, refl, sym, ap, subst}
 use Rattle.std.specs.Prelude.{slice_get}
 use Rattle.std.specs.Io.KnownBytes.{Appends}
@@ -23,7 +23,7 @@ use Rattle.script_play.proofs.OtherLinks.{known_still, one_known}
 
 -- ---- one of the links
 
--- what came on a link, and what is known of it
+-- the octets received on a link, and the link's state
 pub record IsThere (every : Bool) (seen : List Seen) (link : ℕ) (n : ℕ) (cs : List (List ℕ)) (k : LinkSeen) : Type 0 where
   pub came : List ℕ
   pub there : slice_get cs n ≡ Some came
@@ -71,7 +71,7 @@ set_captured every first before said begun old new now next last printed on link
       written = s.capturing.written;
     }
 
--- the link isn't there
+-- there is no such link
 pub nowhere_captured : (every : Bool) (first : Playing) (before : List PlainGroupSaid) (said : PlainGroupSaid) (begun old from to : Option (List ℕ)) (now next : Playing)
     (last printed : Option (List ℕ)) (links : List LinkSeen) → length links ≤ now.on → HasObeyed said.command from to last printed now next
     → IsSetCapturing every first before begun old now last links → IsSetCapturing every first (before ++ said ∷ []) begun old next printed links
@@ -97,7 +97,7 @@ nowhere_captured every first before said begun old from to now next last printed
       written = so_far.written;
     }
 
--- ---- links of which nothing was seen
+-- ---- links of which no unit was seen
 
 pub data AreUnseen (every : Bool) : List LinkSeen → Type 0 where
   none_seen : AreUnseen every []
@@ -115,7 +115,7 @@ all_unseen every l (b ∷ bs) _ same none_seen = absurd (omega (arith, same))
 all_unseen every l (b ∷ bs) _ same (one_unseen k ks first others) =
     more l [] (map (λ x. []) bs) k ks (first l) (all_unseen every (suc l) bs ks (omega (arith, same)) others)
 
--- so many of them so far
+-- this many of them so far
 pub record UnseenSoFar (every : Bool) (n : ℕ) (ks : List LinkSeen) : Type 0 where
   pub unseen : AreUnseen every ks
   pub number : length ks ≡ n
@@ -140,7 +140,7 @@ unseen_heard every n bs ks many so_far = all_unseen every 0 bs ks (many ∙ sym 
 
 -- ---- a list of commands
 
--- how far the run of a list of commands came
+-- the state of a run after some commands of a list
 pub record SetGoing (p : Playing) (commands : List PlainGroupSaid) (last from to begun now : Option (List ℕ)) (q : Playing) (printed : Option (List ℕ))
     (ks ms : List LinkSeen) : Type 0 where
   pub run : last ≡ None → IsGroupRun p commands from to q printed
@@ -171,7 +171,7 @@ set_begins p last from begun ks = record {
   captured = λ none_is every start heard header. capture_begins every p start begun last ks none_is heard header;
 }
 
--- one command more of a list
+-- one more command of a list
 pub set_goes_on : (p : Playing) (items : List GroupSaid) (i : ℕ) (x : GroupSaid) (last from to begun now : Option (List ℕ)) (q : Playing) (printed : Option (List ℕ))
     (ks ms : List LinkSeen) → i < length items → x ≡ get_or items i x
     → SetGoing p (map plain_group_said (take i items) ++ plain_group_said x ∷ []) last from to begun now q printed ks ms
@@ -193,7 +193,7 @@ pub set_captured_all : (every : Bool) (p : Playing) (commands : List PlainGroupS
 set_captured_all every p commands start new q printed ms c =
     record { now = q; printed = printed; came = c.came; seen = c.seen; goes = c.goes; written = c.written }
 
--- an expectation of a list that fails
+-- an expectation in a list that fails
 pub set_captured_part : (every : Bool) (p : Playing) (items : List GroupSaid) (i : ℕ) (x : GroupSaid) (start now new : Option (List ℕ)) (q : Playing)
     (last middle to : Option (List ℕ)) (ms : List LinkSeen) → i < length items → x ≡ get_or items i x → new ≡ now → IsGroupMissedBy (plain_group_said x) last middle to
     → IsSetCapturing every p (map plain_group_said (take i items)) start now q last ms → IsSetCapturedInPart every (map plain_group_said items) start new p
@@ -215,7 +215,7 @@ set_captured_part every p items i x start now new q last middle to ms within is 
       other = missed.other;
     }
 
--- ---- what was printed
+-- ---- printed lines
 
 pub set_written : (p : Playing) (commands : List PlainGroupSaid) (first now : Option (List ℕ)) (q : Playing) (printed : Option (List ℕ)) → IsGroupRun p commands first now q printed
     → IsGroupWritten commands first now p

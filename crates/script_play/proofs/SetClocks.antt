@@ -1,4 +1,4 @@
--- How many links a set has.
+-- The number of links of a set.
 use Rattle.std.proofs.Common.{◌≡◌, ◌∙◌, List, length}
 use Rattle.std.proofs.lemmas.List.{length-map}
 use Rattle.turn_code.specs.declared.draft.Draft.{Draft}
@@ -10,7 +10,7 @@ use Rattle.script_seen.specs.Term.{Term}
 use Rattle.script_seen.specs.GroupRuns.{OWN_POINT, OTHER_POINT, begun as begun_set, AreNew}
 use Rattle.script_seen.specs.TracedGroups.{books_of}
 
--- a new set has as many links as a script's first line says
+-- a new link set has as many links as the script's first line states
 pub links_made : (d : Draft) (limits : RoundLimits) (head : GroupHead) (ts : List Term) → AreNew d limits head ts
     → length (books_of (begun_set (new_set OWN_POINT OTHER_POINT ts))) ≡ head.links
 unfolding new_set

@@ -1,4 +1,4 @@
--- What is captured of one command of a link set's script, on the link that lines speak of.
+-- The capture of one command of a link set's script, on the addressed link.
 use Rattle.std.proofs.Common.{◌≡◌, ◌∙◌, ℕ, zero, suc, ◌<◌, Bool, true, false, List, [], ◌∷◌, ◌++◌, length, slice_set, Option, Some, sym, ap, subst}
 use Rattle.std.specs.Prelude.{slice_get}
 use Rattle.std.specs.List.{flat_map}
@@ -18,13 +18,13 @@ use Rattle.script_play.specs.CapturedSets.{IsComing, is_noted, set_time, SendsOn
 use Rattle.script_play.specs.declared.capturing.LinkSeen.{LinkSeen}
 use Rattle.script_play.proofs.OtherLinks.{heard_apart, sent_apart}
 
--- what is put where it stood
+-- replacing an item by itself changes nothing
 set_same : {A : Type 0} (xs : List A) (n : ℕ) (x : A) → slice_get xs n ≡ Some x → slice_set xs n x ≡ xs
 set_same [] n x is = absurd (none-some x is)
 set_same (y ∷ ys) zero x is = ap (λ z. z ∷ ys) (sym (same_Some y x is))
 set_same (y ∷ ys) (suc n) x is = ap (λ zs. y ∷ zs) (set_same ys n x is)
 
--- ---- units that are asked for
+-- ---- signal units requested
 
 out_obeys : (c : PlainGroupCommand) (n : ℕ) (old new last printed : Option (List ℕ)) (now next : Playing) → c ≡ group.out n
     → (given : HasGivenOut now.on n old new last printed now.set next.set) → next.on ≡ now.on → Obeys c now given.lines next
@@ -72,9 +72,9 @@ there_out every first before said n begun old new from to now next last printed 
       apart = λ other apart r x. sent_apart every now.on other (set_time now) n now.set next.set seen s.0 r apart sends x;
     }
 
--- ---- octets that come in
+-- ---- octets received
 
--- what comes in by a command, by another name
+-- the octets that a command delivers, if the command is replaced by an equal one
 pub set_comes_as : (c d : PlainGroupCommand) (come : List ℕ) → c ≡ d → IsComing d come → IsComing c come
 set_comes_as c d come same coming = let P : PlainGroupCommand → Type 0 = λ k. IsComing k come in subst P (sym same) coming
 

@@ -1,4 +1,4 @@
--- Units that go out one after another on a link of a set, printed and captured.
+-- Signal units sent one after another on a link of a set, printed and captured.
 use Rattle.std.proofs.Common.{◌≡◌, ℕ, suc, ◌+◌, ◌-◌, ◌<◌, ◌≤◌, Bool, List, [], ◌∷◌, ◌++◌, length, append-nil, append_assoc, Option, None, Some, refl, sym, ap, subst, arith}
 use Rattle.std.specs.Prelude.{codes}
 use Rattle.std.proofs.KnownBytes.{Appends-nil}
@@ -26,20 +26,20 @@ out_as on n m c xs ys d same lines out =
 sends_as : (on at n m : ℕ) (c d : LinkSet) (ss last : List Seen) → n ≡ m → SendsOn on at n c ss d last → SendsOn on at m c ss d last
 sends_as on at n m c d ss last same sends = let P : ℕ → Type 0 = λ k. SendsOn on at k c ss d last in subst P same sends
 
--- the unit that a link gave, by the number that lines speak of
+-- the unit that a link sent, with the link's number replaced by an equal one
 sent_on : (on j : ℕ) (o p : Option su.Unit) (c d : LinkSet) → j ≡ on → o ≡ p → ByLink (Sent o) j c d → ByLink (Sent p) on c d
 sent_on on j o p c d same is sent =
     let P : Option su.Unit → Type 0 = λ x. ByLink (Sent x) j c d in
     let Q : ℕ → Type 0 = λ i. ByLink (Sent p) i c d in
     subst Q same (subst P is sent)
 
--- these units were seen, and what is seen next is seen behind them
+-- these units were seen, and later units come after them
 pub record SetSeenSoFar (on at k : ℕ) (c now : LinkSet) (every : Bool) (came : List ℕ) (ss : List Seen) (begun new : Option (List ℕ)) (l : LinkSeen) : Type 0 where
   pub seen : List Seen
   pub others : (n : ℕ) (d : LinkSet) (last : List Seen) → SendsOn on at n now seen d last → SendsOn on at (k + n) c ss d last
   pub capturing : IsCapturing on every came seen begun new l
 
--- so many units went out, were printed and captured
+-- this many signal units were sent, printed and captured
 pub record SetOutGoing (on at k : ℕ) (old new last next from to : Option (List ℕ)) (c now : LinkSet) (l m : LinkSeen) : Type 0 where
   pub lines : List (List ℕ)
   pub printed : HasPrinted old new last next lines
@@ -60,7 +60,7 @@ set_none on at old last from c l = record {
       };
 }
 
--- one more goes out
+-- one more signal unit is sent
 pub set_more : (on at k j n : ℕ) (old mid new last this next from via to : Option (List ℕ)) (c u v : LinkSet) (o : Option su.Unit) (x : su.Unit) (l m p : LinkSeen)
     → j ≡ on → n ≡ on → o ≡ Some x → ByLink (Sent o) j u v → HasPrinted mid new this next (unit_line o ∷ [])
     → ((every : Bool) (came : List ℕ) (ss : List Seen) (begun : Option (List ℕ)) → IsCapturing n every came ss begun via m
@@ -96,7 +96,7 @@ pub record SetHasGone (on at asked : ℕ) (old new last next from to : Option (L
   pub captured : (every : Bool) (came : List ℕ) (ss : List Seen) (begun : Option (List ℕ)) → IsCapturing on every came ss begun from l
       → (more : List Seen) × SendsOn on at asked c ss now more × IsCapturing on every came more begun to m
 
--- none does
+-- no signal unit is sent
 pub set_silent : (on at k asked j : ℕ) (old mid new last this next from to : Option (List ℕ)) (c u v : LinkSet) (o : Option su.Unit) (l m : LinkSeen)
     → on < length c.links → k < asked → j ≡ on → o ≡ None → ByLink (Sent o) j u v → HasPrinted mid new this next (unit_line o ∷ [])
     → SetOutGoing on at k old mid last this from to c u l m → SetHasGone on at asked old new last next from to c v l m
@@ -121,7 +121,7 @@ set_silent on at k asked j old mid new last this next from to c u v o l m there 
           );
     }
 
--- all that were asked for did
+-- as many signal units were sent as requested
 pub set_all : (on at k asked : ℕ) (old new last next from to : Option (List ℕ)) (c u : LinkSet) (l m : LinkSeen) → on < length c.links → k ≤ asked → asked ≤ k
     → SetOutGoing on at k old new last next from to c u l m → SetHasGone on at asked old new last next from to c u l m
 set_all on at k asked old new last next from to c u l m there most least so_far =

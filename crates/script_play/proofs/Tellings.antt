@@ -1,4 +1,4 @@
--- What is told of a run at its end, by what a watcher is then.
+-- The report at the end of a run, from the watcher's state then.
 use Rattle.std.proofs.Common.{◌≡◌, ◌∙◌, ℕ, List, Option, Result, Ok, Err, IfOk, inl, inr, arith, sym, subst}
 use Rattle.std.specs.Prelude.{◌⊎◌}
 use Rattle.std.specs.Global.{Vec}
@@ -40,7 +40,7 @@ part_as : (usual : RoundLimits) (d : Draft) (s : PlainPlayScript) (P Q : List No
 part_as usual d (other s) P Q f w = other_part_as usual d s P Q f w
 part_as usual d (group s) P Q f w = absurd w
 
--- what a watcher is, as something else that it is then
+-- a property of the watcher, replaced by one that follows from it
 pub play_told_as : (usual : RoundLimits) (old new : Option (List ℕ)) (d : Draft) (bytes : List ℕ) (P Q : List Notice → Type 0)
     → ((ns : List Notice) → P ns → Q ns) → IsPlayTold usual old new P d bytes → IsPlayTold usual old new Q d bytes
 play_told_as usual old new d bytes P Q f w =
@@ -51,13 +51,13 @@ pub play_part_as : (usual : RoundLimits) (old new : Option (List ℕ)) (d : Draf
 play_part_as usual old new d bytes P Q f w =
     record { utf8 = w.utf8; script = w.script; reads = w.reads; missed = w.missed; told = part_as usual d w.script P Q f w.told }
 
--- a text that is what a watcher makes of it, and was written
+-- a text that the watcher determines was written
 pub told_to : {E X : Type 0} (r : Result (Vec ℕ) E) (old new : Option (List ℕ)) (C : X → Type 0) (text : X → List ℕ) → IsToldTo r old new
     → IfOk r (λ v. (x : X) → C x → v.items ≡ text x) → (x : X) → C x → Appends old new (text x)
 told_to (Ok v) old new C text told is x known = let P : List ℕ → Type 0 = λ t. Appends old new t in subst P (is x known) told
 told_to (Err e) old new C text told is x known = absurd told
 
--- the status of the run, where what is told could be written
+-- the status of the run, if the report was written
 pub status_was : (result status k : ℕ) → (result ≡ status) ⊎ (result ≡ 4) → result ≡ k → (k ≡ 4 → ⊥) → status ≡ k
 status_was result status k (inl same) is differs = sym same ∙ is
 status_was result status k (inr failed) is differs = absurd (differs (sym is ∙ failed))

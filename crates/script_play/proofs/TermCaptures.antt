@@ -1,4 +1,4 @@
--- What is captured of a terminal's run, one command more.
+-- The capture of a terminal's run: one more command.
 use Rattle.std.proofs.Common.{◌≡◌, ◌∙◌, ℕ, ◌+◌, ◌<◌, ◌≤◌, Bool, true, false, List, [], ◌∷◌, ◌++◌, append-nil, length, map, take, drop, get_or, Option, None, sym, subst}
 use Rattle.std.specs.List.{flat_map}
 use Rattle.std.specs.Io.KnownBytes.{Appends}
@@ -20,7 +20,7 @@ use Rattle.script_play.specs.declared.capturing.LinkSeen.{LinkSeen}
 
 -- ---- one command
 
--- it printed these lines
+-- a command printed these lines
 pub printed_more : (keeps : Bool) (first : Term) (before : List PlainTermSaid) (said : PlainTermSaid) (begun old new : Option (List ℕ)) (now next : Term)
     (last printed : Option (List ℕ)) (lines : List (List ℕ)) → IsTermRun keeps first before begun old now last → Obeys keeps said.command now lines next
     → HasPrinted old new last printed lines → IsTermRun keeps first (before ++ said ∷ []) begun new next printed
@@ -33,7 +33,7 @@ printed_more keeps first before said begun old new now next last printed lines r
       written = subst A (sym (flat_map-append line_of run.lines lines)) (Appends-trans begun old new (flat_map line_of run.lines) (flat_map line_of lines) run.written has.written);
     })
 
--- units were asked for
+-- signal units were requested
 pub gone_out : (keeps : Bool) (first : Term) (before : List PlainTermSaid) (said : PlainTermSaid) (n : ℕ) (begun old new : Option (List ℕ)) (now next : Term)
     (last printed : Option (List ℕ)) → said.command ≡ out n → IsTermRun keeps first before begun old now last → HasGivenOut n old new last printed now next
     → IsTermRun keeps first (before ++ said ∷ []) begun new next printed
@@ -59,7 +59,7 @@ out_captured every keeps first before said n begun old new from to now next last
       capturing = s.2;
     }
 
--- what comes in by a command, by another name
+-- the octets that a command delivers, if the command is replaced by an equal one
 pub comes_as : (c d : PlainTermCommand) (come : List ℕ) → c ≡ d → IsComing d come → IsComing c come
 comes_as c d come same coming = let P : PlainTermCommand → Type 0 = λ k. IsComing k come in subst P (sym same) coming
 
@@ -73,7 +73,7 @@ no_expectation c text noted is =
     let P : PlainTermCommand → Type 0 = λ x. is_noted x ≡ true in
     let contrary : false ≡ true = subst P is noted in cc
 
--- another command was obeyed, by which octets came in, or none
+-- another command was obeyed, which delivered octets, or none
 pub come_captured : (every keeps : Bool) (first : Term) (before : List PlainTermSaid) (said : PlainTermSaid) (come : List ℕ) (begun old new from to : Option (List ℕ))
     (now next : Term) (last printed : Option (List ℕ)) (at : ℕ) (l m : LinkSeen) → is_noted said.command ≡ true → at ≡ time_of now
     → IsComing said.command come → HasObeyed keeps said.command from to last printed now next
@@ -113,7 +113,7 @@ met_captured every keeps first before said text begun old from to now next last 
 
 -- ---- a list of commands
 
--- how far the run of a list of commands came
+-- the state of a run after some commands of a list
 pub record TermGoing (keeps : Bool) (first : Term) (commands : List PlainTermSaid) (last from to begun now : Option (List ℕ)) (term : Term)
     (printed : Option (List ℕ)) (l m : LinkSeen) : Type 0 where
   pub run : last ≡ None → IsTermRun keeps first commands from to term printed
@@ -137,7 +137,7 @@ term_begins keeps first last from begun l = record {
   captured = λ none every start c. capture_begins every keeps first start begun last l none c;
 }
 
--- one command more of a list
+-- one more command of a list
 pub term_goes_on : (keeps : Bool) (first : Term) (items : List TermSaid) (i : ℕ) (x : TermSaid) (last from to begun now : Option (List ℕ)) (term : Term)
     (printed : Option (List ℕ)) (l m : LinkSeen) → i < length items → x ≡ get_or items i x
     → TermGoing keeps first (map plain_term_said (take i items) ++ plain_term_said x ∷ []) last from to begun now term printed l m
@@ -160,7 +160,7 @@ pub term_captured_all : (every keeps : Bool) (first : Term) (commands : List Pla
 term_captured_all every keeps first commands start new term printed l c =
     record { now = term; printed = printed; came = c.came; seen = c.seen; goes = c.goes; written = c.capturing.written }
 
--- an expectation of a list that fails
+-- an expectation in a list that fails
 pub term_missed_at : (keeps : Bool) (first : Term) (items : List TermSaid) (i : ℕ) (x : TermSaid) (from middle to : Option (List ℕ)) (term : Term)
     (last : Option (List ℕ)) → i < length items → x ≡ get_or items i x → IsTermRun keeps first (map plain_term_said (take i items)) from middle term last
     → IsTermMissedBy (plain_term_said x) last middle to → IsTermMissed keeps (map plain_term_said items) from to first
@@ -198,7 +198,7 @@ term_captured_part every keeps first items i x start now new term last middle to
       other = missed.other;
     }
 
--- a capture's beginning
+-- the beginning of a capture
 pub nothing_seen : (every : Bool) (old new : Option (List ℕ)) (l : LinkSeen) → IsHeard 0 every [] [] l → Appends old new HEADER → IsCapturing 0 every [] [] old new l
 nothing_seen every old new l heard header =
     let A : List ℕ → Type 0 = λ bs. Appends old new bs in

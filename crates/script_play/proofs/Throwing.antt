@@ -1,4 +1,4 @@
--- What was thrown away, counted once more.
+-- The count of discarded items: one more.
 use Rattle.std.proofs.Common.{◌≡◌, ◌∙◌, ℕ, zero, suc, ◌+◌, ◌<◌, Bool, true, false, List, [], ◌∷◌, ◌++◌, append_assoc, length, map, get_or, slice_set, Option, None, Some, arith, refl, sym, ap}
 use Rattle.std.specs.Prelude.{cond, if◌then◌else◌, position, codes}
 use Rattle.std.specs.Fmt.{decimal}
@@ -13,7 +13,7 @@ use Rattle.script_play.specs.Thrown.{same_throw, throw_line, counted_throw, coun
 use Rattle.script_play.specs.declared.thrown.Throw.{Throw}
 use Rattle.script_play.specs.declared.thrown.Thrown.{Thrown}
 
--- once more
+-- an item with its count one higher
 abbrev pub more : Throw → Throw
 more c = record c { times = c.times + 1 }
 
@@ -25,7 +25,7 @@ counted_at x (c ∷ cs) (suc n) d within same before =
     ap (λ (b : Bool). if b then more c ∷ cs else c ∷ counted_throw x cs) (before zero (omega arith))
     ∙ ap (λ (l : List Throw). c ∷ l) (counted_at x cs n d (omega (arith, within)) same (λ k lt. before (suc k) (omega (arith, lt))))
 
--- it was thrown away before
+-- the item was discarded before
 pub counted_again : (x : Throw) (cs : List Throw) (n : ℕ) (d : Throw) → position (λ (c : Throw). same_throw c x) cs ≡ Some n
     → slice_set cs n (more (get_or cs n d)) ≡ counted_throw x cs
 counted_again x cs n d is =
@@ -42,7 +42,7 @@ new_from : (x : Throw) (cs : List Throw) (i : ℕ) → position_from (λ (z : Th
 new_from x [] i none = refl
 new_from x (c ∷ cs) i none = new_by x c cs i (same_throw c x) none (new_from x cs (i + 1))
 
--- it wasn't
+-- the item wasn't discarded before
 pub counted_first : (x : Throw) (cs : List Throw) → position (λ (c : Throw). same_throw c x) cs ≡ None → cs ++ x ∷ [] ≡ counted_throw x cs
 counted_first x cs none = sym (new_from x cs 0 (sym (position_from-zero (λ (c : Throw). same_throw c x) cs) ∙ none))
 
@@ -63,7 +63,7 @@ throw_pieces m x a b c d f h i j k is1 is2 is3 is4 is5 is6 is7 is8 =
     eight_pieces a (process_text m x.process.0) (codes " ") (state_text m x.process.0 x.state.0) (codes "/") (trigger_text m x.process.0 x.trigger) (codes " ")
     (decimal x.times) (codes "\n") b c d f h i j k is1 is2 is3 is4 is5 is6 is7 is8
 
--- ---- what a watcher is told
+-- ---- the watcher's notices
 
 throws_end : (ns : List Notice) (t : TurnEnd) → throws_in ns ≡ throws_in (ns ++ ends t ∷ [])
 throws_end [] t = refl
@@ -79,11 +79,11 @@ counts_more : (cs : List Throw) (xs : List OneThrow) (x : OneThrow) → counted_
 counts_more cs [] x = refl
 counts_more cs (y ∷ xs) x = counts_more (counted_throw (once y) cs) xs x
 
--- of a turn that ends nothing is counted
+-- the end of a turn changes no count
 pub counts_end : (ns : List Notice) (t : TurnEnd) (c : Thrown) → CountsThrown (throws_in ns) c → CountsThrown (throws_in (ns ++ ends t ∷ [])) c
 counts_end ns t c known = known ∙ ap (λ (xs : List OneThrow). counts [] (map once xs)) (throws_end ns t)
 
--- what is thrown away is
+-- a discarded item is counted
 pub counts_throw : (ns : List Notice) (x : OneThrow) (c d : Thrown) → d.throws.items ≡ counted_throw (once x) c.throws.items → CountsThrown (throws_in ns) c
     → CountsThrown (throws_in (ns ++ throws x ∷ [])) d
 counts_throw ns x c d is known =

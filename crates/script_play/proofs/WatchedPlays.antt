@@ -1,4 +1,4 @@
--- A script that was played as it is to be seen.
+-- A script that was played with its views.
 use Rattle.std.proofs.Common.{◌≡◌, ℕ, Bool, true, false, List, Option, Some, None, sym, subst}
 use Rattle.turn_code.specs.declared.draft.Draft.{Draft}
 use Rattle.script_seen.specs.resend_store_types.messages.RoundLimits.{RoundLimits}

@@ -1,5 +1,5 @@
--- What a capture of a terminal's script has: the units that go out and those that come in without
--- error, in the order of its commands, each at the tick before its command.
+-- The content of a capture of a terminal's script: the signal units sent and those received without
+-- error, in the order of the commands, each with the tick before its command.
 use Rattle.std.specs.Prelude.{◌≡◌, ℕ, zero, suc, ◌+◌, ◌*◌, Bool, true, false, List, [], ◌∷◌, ◌++◌}
 use Rattle.std.specs.Prelude.{Option, None, Some}
 use Rattle.std.specs.Io.KnownBytes.{Appends}
@@ -28,19 +28,19 @@ TICK = 1000
 abbrev pub time_of : Term → ℕ
 time_of t = TICK * (state_of t.processes.book).timers.clock
 
--- ---- what comes in
+-- ---- octets received
 
 abbrev pub repeated : ℕ → List ℕ → List ℕ
 repeated zero octets = []
 repeated (suc n) octets = octets ++ repeated n octets
 
--- so many times a unit, whose octets without the check octets these are
+-- n copies of a signal unit; `octets` are its octets without the check octets
 pub record AreRepeated (n : ℕ) (octets come : List ℕ) : Type 0 where
   pub once : List ℕ
   pub is_line : IsLineOf octets once
   pub are : come ≡ repeated n once
 
--- the octets that come in on the line by a command
+-- the octets that a command delivers on the line
 abbrev pub IsComing : PlainTermCommand → List ℕ → Type 0
 IsComing (unit octets) come = AreRepeated 1 octets come
 IsComing (units n octets) come = AreRepeated n octets come
@@ -60,13 +60,13 @@ IsComing (state process) come = come ≡ []
 IsComing (shown process variable) come = come ≡ []
 IsComing (expected text) come = come ≡ []
 
--- by a command octets come in, or none do; but not where units are asked for, or a line expected
+-- whether the capture notes the octets that a command delivers: not for `out` and expectations
 abbrev pub is_noted : PlainTermCommand → Bool
 is_noted (out n) = false
 is_noted (expected text) = false
 is_noted c = true
 
--- of octets that come in on a link's line behind others, one by one, these units are seen
+-- the signal units seen in octets that a link receives one by one, after earlier octets
 pub data Hears (link at : ℕ) : List ℕ → List ℕ → List Seen → List Seen → Type 0 where
   nothing : (before : List ℕ) (seen : List Seen) → Hears link at before [] seen seen
   one : (before rest : List ℕ) (octet : ℕ) (found : Option (List ℕ)) (seen mid last : List Seen)
@@ -74,16 +74,16 @@ pub data Hears (link at : ℕ) : List ℕ → List ℕ → List Seen → List Se
       → Hears link at (before ++ octet ∷ []) rest mid last
       → Hears link at before (octet ∷ rest) seen last
 
--- ---- what goes out
+-- ---- signal units sent
 
--- a unit that goes out is seen
+-- a signal unit that is sent is seen
 pub record IsGone (link at : ℕ) (x : su.Unit) (seen last : List Seen) : Type 0 where
   pub octets : List ℕ
   pub is_frame : Frame octets x
   pub zero : SpareBitsAreZero octets
   pub is_unit : IsUnit true link at (Some (without_check octets)) seen last
 
--- so many units are asked for on a link: those that go out are seen
+-- this many signal units are requested on a link; those sent are seen
 pub data Sends (link at : ℕ) : ℕ → Term → List Seen → Term → List Seen → Type 0 where
   no_more : (t : Term) (seen : List Seen) → Sends link at zero t seen t seen
   silent : (n : ℕ) (t : Term) (seen : List Seen) → (next_of t).unit ≡ None
@@ -95,8 +95,8 @@ pub data Sends (link at : ℕ) : ℕ → Term → List Seen → Term → List Se
 
 -- ---- runs
 
--- Commands were obeyed from a terminal on: the terminal now, the line printed last, the octets that
--- came in so far, and the units that were seen, the newest first.
+-- Commands were obeyed on a terminal; the results are the terminal now, the last printed line, the
+-- octets received so far, and the signal units seen, the newest first.
 pub data Goes (keeps : Bool) (first : Term) :
     List PlainTermSaid → Term → Option (List ℕ) → List ℕ → List Seen → Type 0 where
   begins : Goes keeps first [] first None [] []
@@ -118,7 +118,7 @@ pub data Goes (keeps : Bool) (first : Term) :
       → said.command ≡ expected text → Goes keeps first commands now (Some text) came seen
       → Goes keeps first (commands ++ said ∷ []) now (Some text) came seen
 
--- what was written grew by a capture in which these units were seen
+-- a capture of the signal units seen was written
 pub record IsCaptured (every keeps : Bool) (first : Term) (commands : List PlainTermSaid)
     (old new : Option (List ℕ)) : Type 0 where
   pub now : Term
@@ -128,8 +128,8 @@ pub record IsCaptured (every keeps : Bool) (first : Term) (commands : List Plain
   pub goes : Goes keeps first commands now printed came seen
   pub written : Appends old new (capture_of every seen)
 
--- so it did by those in front of one of these commands, an expectation that names another line than
--- the one that was printed last
+-- the commands before one of these are captured, and that one is an expectation that differs from
+-- the last printed line
 pub record IsCapturedInPart (every keeps : Bool) (first : Term) (commands : List PlainTermSaid)
     (old new : Option (List ℕ)) : Type 0 where
   pub before : List PlainTermSaid
@@ -146,22 +146,22 @@ pub record IsCapturedInPart (every keeps : Bool) (first : Term) (commands : List
   pub expects : said.command ≡ expected text
   pub other : printed ≡ Some text → ⊥
 
--- ---- on its way
+-- ---- partial captures
 
--- what is known of a link of which these octets came, where these units were seen
+-- a link's state after these octets were received and these signal units were seen
 pub record IsHeard (link : ℕ) (every : Bool) (came : List ℕ) (seen : List Seen) (l : LinkSeen) :
     Type 0 where
   pub every_is : l.repeats.every ≡ every
   pub hears : Stands (bits_of came) l.heard
   pub recalls : StandsFor link (kept every seen) l.repeats
 
--- and what was written grew by a capture of these
+-- the link's state, with a capture of these units written
 pub record IsCapturing (link : ℕ) (every : Bool) (came : List ℕ) (seen : List Seen)
     (old new : Option (List ℕ)) (l : LinkSeen) : Type 0 where
   pub heard : IsHeard link every came seen l
   pub written : Appends old new (capture_of every seen)
 
--- so far these commands were obeyed, and captured
+-- these commands were obeyed and captured so far
 pub record IsTermCapturing (every keeps : Bool) (first : Term) (commands : List PlainTermSaid)
     (old new : Option (List ℕ)) (now : Term) (printed : Option (List ℕ)) (l : LinkSeen) :
     Type 0 where

@@ -1,6 +1,6 @@
--- What a capture of a link set's script has: of each link the units that go out and those that come
--- in without error, in the order of the commands, each with the number of its link and at the tick
--- before its command.
+-- The content of a capture of a link set's script: for each link the signal units sent and those
+-- received without error, in the order of the commands, each with the number of its link and the
+-- tick before its command.
 use Rattle.std.specs.Prelude.{◌≡◌, ◌<◌, ◌≤◌, ℕ, zero, suc, ◌*◌, Bool, true, false, List, [], ◌∷◌}
 use Rattle.std.specs.Prelude.{◌++◌, length, map, Option, None, Some, slice_get, slice_set}
 use Rattle.std.specs.Io.KnownBytes.{Appends}
@@ -24,19 +24,19 @@ use Rattle.script_play.specs.declared.capturing.LinkSeen.{LinkSeen}
 abbrev pub set_time : Playing → ℕ
 set_time p = TICK * clock_in (books_of p)
 
--- the octets that come in by a command on the link that lines speak of
+-- the octets that a command delivers on the addressed link
 abbrev pub IsComing : PlainGroupCommand → List ℕ → Type 0
 IsComing (group.unit octets) come = AreRepeated 1 octets come
 IsComing (group.line octets) come = come ≡ octets
 IsComing c come = come ≡ []
 
--- by a command octets come in, or none do; but not where units are asked for, or a line expected
+-- whether the capture notes the octets that a command delivers: not for `out` and expectations
 abbrev pub is_noted : PlainGroupCommand → Bool
 is_noted (group.out n) = false
 is_noted (group.expected text) = false
 is_noted c = true
 
--- so many units are asked for on a link: those that go out are seen
+-- this many signal units are requested on a link; those sent are seen
 pub data SendsOn (link at : ℕ) : ℕ → LinkSet → List Seen → LinkSet → List Seen → Type 0 where
   nothing : (c : LinkSet) (seen : List Seen) → SendsOn link at zero c seen c seen
   silent : (n : ℕ) (c d : LinkSet) (seen : List Seen) → ByLink (Sent None) link c d
@@ -45,9 +45,9 @@ pub data SendsOn (link at : ℕ) : ℕ → LinkSet → List Seen → LinkSet →
       → ByLink (Sent (Some x)) link c m → IsGone link at x seen mid
       → SendsOn link at n m mid d last → SendsOn link at (suc n) c seen d last
 
--- Commands were obeyed from a set on: the set now, the line printed last, the octets that came in
--- so far on each link, and the units that were seen, the newest first. On a link that isn't there
--- nothing comes and nothing goes.
+-- Commands were obeyed on a link set; the results are the set now, the last printed line, the
+-- octets received so far on each link, and the signal units seen, the newest first. On a link that
+-- doesn't exist nothing is received or sent.
 pub data Goes (first : Playing) :
     List PlainGroupSaid → Playing → Option (List ℕ) → List (List ℕ) → List Seen → Type 0 where
   begins : Goes first [] first None (map (λ b. []) (books_of first)) []
@@ -77,7 +77,7 @@ pub data Goes (first : Playing) :
       → said.command ≡ group.expected text → Goes first commands now (Some text) came seen
       → Goes first (commands ++ said ∷ []) now (Some text) came seen
 
--- what was written grew by a capture in which these units were seen
+-- a capture of the signal units seen was written
 pub record IsSetCaptured (every : Bool) (commands : List PlainGroupSaid)
     (old new : Option (List ℕ)) (first : Playing) : Type 0 where
   pub now : Playing
@@ -87,8 +87,8 @@ pub record IsSetCaptured (every : Bool) (commands : List PlainGroupSaid)
   pub goes : Goes first commands now printed came seen
   pub written : Appends old new (capture_of every seen)
 
--- so it did by those in front of one of these commands, an expectation that names another line than
--- the one that was printed last
+-- the commands before one of these are captured, and that one is an expectation that differs from
+-- the last printed line
 pub record IsSetCapturedInPart (every : Bool) (commands : List PlainGroupSaid)
     (old new : Option (List ℕ)) (first : Playing) : Type 0 where
   pub before : List PlainGroupSaid
@@ -105,9 +105,9 @@ pub record IsSetCapturedInPart (every : Bool) (commands : List PlainGroupSaid)
   pub expects : said.command ≡ group.expected text
   pub other : printed ≡ Some text → ⊥
 
--- ---- on its way
+-- ---- partial captures
 
--- what is known of each link, the first of them link l
+-- the states of the links, the first of them link l
 pub data AreHeard (every : Bool) (seen : List Seen) :
     ℕ → List (List ℕ) → List LinkSeen → Type 0 where
   none : (l : ℕ) → AreHeard every seen l [] []
@@ -115,7 +115,7 @@ pub data AreHeard (every : Bool) (seen : List Seen) :
       → IsHeard l every c seen k → AreHeard every seen (suc l) cs ks
       → AreHeard every seen l (c ∷ cs) (k ∷ ks)
 
--- so far these commands were obeyed, and captured
+-- these commands were obeyed and captured so far
 pub record IsSetCapturing (every : Bool) (first : Playing) (commands : List PlainGroupSaid)
     (old new : Option (List ℕ)) (now : Playing) (printed : Option (List ℕ))
     (links : List LinkSeen) : Type 0 where
@@ -125,7 +125,7 @@ pub record IsSetCapturing (every : Bool) (first : Playing) (commands : List Plai
   pub heard : AreHeard every seen 0 came links
   pub written : Appends old new (capture_of every seen)
 
--- what is known of the other links stays
+-- the state of the other links is unchanged
 abbrev pub AreApart : Bool → ℕ → List Seen → List Seen → Type 0
 AreApart every link seen last =
     (other : ℕ) → (link ≡ other → ⊥) → (r : Repeats) → StandsFor other (kept every seen) r

@@ -37,7 +37,7 @@ use Rattle.script_play.specs.declared.columns.Columns.{Columns}
 abbrev pub quoted : List ℕ → List ℕ
 quoted text = codes "\"" ++ text ++ codes "\""
 
--- what stands behind a name in a chart: a label, and the end of the row
+-- the text after a name in a chart: a label, and the end of the row
 abbrev pub labelled : List ℕ → List ℕ
 labelled text = codes " [label=" ++ quoted text ++ codes "];\n"
 
@@ -49,7 +49,7 @@ party_quoted d p k = quoted (party_text d p k)
 
 -- ---- signals
 
--- values, a comma before each
+-- values, with a comma before each
 abbrev pub more_values : List Value → List ℕ
 more_values vs = flat_map (λ x. codes ", " ++ value_text x) vs
 
@@ -57,7 +57,7 @@ abbrev pub commaed : List Value → List ℕ
 commaed [] = []
 commaed (v ∷ vs) = value_text v ++ more_values vs
 
--- a signal with its values in parentheses; without these, where there are none
+-- a signal with its values in parentheses; without parentheses if it has no values
 abbrev pub called_text : Draft → ℕ → List Value → List ℕ
 called_text d s [] = signal_text d s
 called_text d s (v ∷ vs) = signal_text d s ++ codes "(" ++ commaed (v ∷ vs) ++ codes ")"
@@ -67,7 +67,7 @@ called_text d s (v ∷ vs) = signal_text d s ++ codes "(" ++ commaed (v ∷ vs) 
 abbrev pub clock_text : ℕ → List ℕ
 clock_text clock = codes "  ---" ++ labelled (decimal clock ++ codes " ms")
 
--- the row of the time, where it isn't that of the row before
+-- the row of the time, if it differs from that of the row before
 abbrev pub time_text : Option ℕ → ℕ → List ℕ
 time_text None clock = clock_text clock
 time_text (Some last) clock = if last == clock then [] else clock_text clock
@@ -77,14 +77,14 @@ abbrev pub beside : Draft → ActorName → List ℕ → List ℕ → List ℕ
 beside d me kind text =
     codes "  " ++ actor_quoted d me ++ kind ++ actor_quoted d me ++ labelled text
 
--- the arc of a signal that an actor takes
+-- the arc of a signal that an actor consumes
 abbrev pub taken_text : Draft → ActorName → ℕ → List Value → Option Address → List ℕ
 taken_text d me s vs None = []
 taken_text d me s vs (Some a) =
     codes "  " ++ party_quoted d a.party a.instance ++ codes " => " ++ actor_quoted d me
     ++ labelled (called_text d s vs)
 
--- the note of a timer that an actor takes
+-- the note of a timer signal that an actor consumes
 abbrev pub run_out_text : Draft → ActorName → ℕ → List ℕ
 run_out_text d me x =
     beside d me (codes " note ") (timer_text d me.process.0 x ++ codes " runs out")
@@ -95,7 +95,7 @@ trigger_text d me t (Some (trigger.Signal s)) =
     taken_text d me s.0 t.input.parameters.items t.input.sender
 trigger_text d me t (Some (trigger.Timer x)) = run_out_text d me x.0
 
--- what a turn took: nothing at START
+-- the row of a turn's stimulus; nothing at START
 abbrev pub came_text : Draft → ActorName → Turn → Place → List ℕ
 came_text d me t Start = []
 came_text d me t (AtState q) =
@@ -106,7 +106,7 @@ abbrev pub box_text : Draft → ActorName → Place → End → List ℕ
 box_text d me s e =
     if stays_in s e then [] else beside d me (codes " abox ") (end_text d me.process.0 e)
 
--- who gets a signal of an actor, with the instance that is meant
+-- the receiver of an actor's signal, with the instance that is meant
 abbrev pub receiver_of : Draft → ActorName → Party → Option InstanceNumber → Address
 receiver_of d me Environment k = record { party = Environment; instance = k }
 receiver_of d me (Process p) (Some k) = record { party = Process p; instance = Some k }
@@ -117,7 +117,7 @@ sent_text d me s to arrow =
     codes "  " ++ actor_quoted d me ++ arrow ++ party_quoted d to.party to.instance
     ++ labelled (called_text d s.signal.0 s.parameters.items)
 
--- whether an output has an arc where it goes out: it is lost, or goes to the environment
+-- whether an output has an arc at its sender: it is lost, or goes to the environment
 abbrev pub is_arc : Party → Bool → Bool
 is_arc p true = true
 is_arc Environment false = true
@@ -135,7 +135,7 @@ out_text d me lost (Output s) =
 out_text d me lost (Set t z) = []
 out_text d me lost (Reset t) = []
 
--- the outputs in the order of the text, the first effect at place k
+-- the outputs in the order of the text; the first effect is number k
 abbrev pub outs_text : Draft → ActorName → List Lost → ℕ → List Effect → List ℕ
 outs_text d me lost k [] = []
 outs_text d me lost k (e ∷ es) =
@@ -147,16 +147,16 @@ timing_of d p clock (Set t z) =
     (codes "set " ++ timer_text d p t.0 ++ codes " at " ++ decimal (clock + delay z)) ∷ []
 timing_of d p clock (Reset t) = (codes "reset " ++ timer_text d p t.0) ∷ []
 
--- lines of a label, with mscgen's sign of a new line before each
+-- lines of a label, with mscgen's line break before each
 abbrev pub below_each : List (List ℕ) → List ℕ
 below_each lines = flat_map (λ l. codes "\\n" ++ l) lines
 
--- and between two
+-- lines of a label, with mscgen's line break between two
 abbrev pub stacked : List (List ℕ) → List ℕ
 stacked [] = []
 stacked (line ∷ lines) = line ++ below_each lines
 
--- one note of what a turn makes of timers, where it does something to one
+-- one note about the timers that a turn sets or resets; nothing if there are none
 abbrev pub note_of : Draft → ActorName → List (List ℕ) → List ℕ
 note_of d me [] = []
 note_of d me (line ∷ lines) = beside d me (codes " note ") (stacked (line ∷ lines))
@@ -168,13 +168,13 @@ row_text d t =
     ++ note_of d t.me
     (flat_map (timing_of d t.me.process.0 t.clock) t.outcome.progress.effects)
 
--- the rows of turns behind one of this time
+-- the rows of turns after a row of this time
 abbrev pub rows_text : Draft → Option ℕ → List TurnEnd → List ℕ
 rows_text d last [] = []
 rows_text d last (t ∷ ts) =
     (time_text last t.clock ++ row_text d t) ++ rows_text d (Some t.clock) ts
 
--- ---- who takes part
+-- ---- participants
 
 abbrev pub is_address : Party → Option InstanceNumber → ActorName → Bool
 is_address Environment k x = false
@@ -218,12 +218,12 @@ goes_outside (Output s) = is_outside s.receiver.party
 goes_outside (Set t z) = false
 goes_outside (Reset t) = false
 
--- whether the environment is
+-- whether the environment is drawn with a turn
 abbrev pub has_outside : TurnEnd → Bool
 has_outside t =
     came_from_outside t.turn.input.sender || list_any goes_outside t.outcome.progress.effects
 
--- the actors that take part, in the order of the text
+-- the actors that participate, in the order of the text
 abbrev pub actors_in : Draft → List TurnEnd → List ActorName
 actors_in d ts = filter (λ x. list_any (is_in d x) ts) (actors_of d.processes)
 
@@ -231,7 +231,7 @@ abbrev pub are_none : List TurnEnd → Bool
 are_none [] = true
 are_none (t ∷ ts) = false
 
--- the environment stands first, where it takes part or no turn is drawn
+-- the columns; the environment is first, if it participates or no turn is drawn
 abbrev pub drawn_columns : Draft → List TurnEnd → List (List ℕ)
 drawn_columns d ts =
     (if list_any has_outside ts || are_none ts then codes "ENV" ∷ [] else [])
@@ -246,23 +246,23 @@ heads (name ∷ names) = head_of name ++ flat_map (λ n. codes ", " ++ head_of n
 
 -- ---- the chart
 
--- what stands behind the heads; mscgen wants a row at least
+-- the text after the column heads; mscgen needs at least one row
 abbrev pub after_heads : Bool → List ℕ
 after_heads true = codes ";\n  |||;\n"
 after_heads false = codes ";\n"
 
--- the turn that ended, with what it came to
+-- a turn that ended, with its outcome
 abbrev pub end_of : Ended → Outcome → TurnEnd
 end_of e o = record { clock = e.clock; me = e.me; turn = e.done; outcome = o; report = e.report }
 
--- a turn is drawn: it is one of those that are wanted, and does something
+-- whether a turn is drawn: its number is in the range, and it isn't dull
 abbrev pub is_drawn : Cut → TurnEnd → Bool
 is_drawn cut t =
     nat_le cut.first t.turn.turn
     && (nat_le t.turn.turn cut.last
     && not (is_dull t.turn.place t.report.end t.outcome.progress.effects))
 
--- how wide a column is
+-- the width of a column, in pixels
 abbrev pub COLUMN : ℕ
 COLUMN = 140
 
@@ -275,32 +275,32 @@ chart_of d ts =
 abbrev pub chart_text : Draft → Cut → List TurnEnd → List ℕ
 chart_text d cut ts = chart_of d (filter (is_drawn cut) ts)
 
--- what is told of all that was noticed
+-- the chart of all notices
 abbrev pub charted_of : Cut → Draft → List Notice → List ℕ
 charted_of cut d ns = chart_text d cut (turns_in ns)
 
--- ---- on its way
+-- ---- partial charts
 
--- whether an actor is among these
+-- whether an actor is one of these
 abbrev pub takes_part : List ActorName → ActorName → Bool
 takes_part xs x = list_any (λ y. same_actor y x) xs
 
--- heads, each behind a comma and a space
+-- column heads, with a comma and a space before each
 abbrev pub behind_each : List (List ℕ) → List ℕ
 behind_each names = flat_map (λ n. codes ", " ++ head_of n) names
 
--- the names of columns, by what a chart knows of who takes part
+-- the names of columns, from the participants that a chart has recorded
 abbrev pub columns_of : Draft → Bool → List ActorName → List (List ℕ)
 columns_of d outside xs =
     (if outside then codes "ENV" ∷ [] else [])
     ++ map (sender_text d) (filter (takes_part xs) (actors_of d.processes))
 
--- columns of these names more
+-- columns with these names were added
 pub record HasMore (names : List (List ℕ)) (old new : Columns) : Type 0 where
   pub text : new.text.items ≡ old.text.items ++ behind_each names
   pub count : new.count ≡ old.count + length names
 
--- columns of these names
+-- the columns have these names
 pub record HasColumns (names : List (List ℕ)) (c : Columns) : Type 0 where
   pub text : c.text.items ≡ behind_each names
   pub count : c.count ≡ length names
@@ -309,14 +309,14 @@ abbrev pub last_clock : Option ℕ → List TurnEnd → Option ℕ
 last_clock last [] = last
 last_clock last (t ∷ ts) = last_clock (Some t.clock) ts
 
--- what a chart has of turns of a set, of which these are drawn
+-- a chart in which these turns are drawn
 pub record IsDrawn (d : Draft) (ts : List TurnEnd) (c : Chart) : Type 0 where
   pub rows : c.rows.items ≡ rows_text d None ts
   pub clock : c.clock ≡ last_clock None ts
   pub outside : c.environment ≡ list_any has_outside ts
   pub actors : (x : ActorName) → takes_part c.actors.items x ≡ list_any (is_in d x) ts
 
--- these actors take part too, and the environment where it does
+-- these actors were added to the participants, and the environment if `outside` is true
 pub record TakesPart (P : ActorName → Bool) (outside : Bool) (old new : Chart) : Type 0 where
   pub actors :
       (x : ActorName) → takes_part new.actors.items x ≡ (takes_part old.actors.items x || P x)
@@ -325,6 +325,6 @@ pub record TakesPart (P : ActorName → Bool) (outside : Bool) (old new : Chart)
   pub clock : new.clock ≡ old.clock
   pub cut : new.cut ≡ old.cut
 
--- what it has of all turns that ended so far
+-- a chart of all turns that ended so far
 abbrev pub Charts : Draft → List TurnEnd → Chart → Type 0
 Charts d ts c = IsDrawn d (filter (is_drawn c.cut) ts) c

@@ -1,4 +1,4 @@
--- What the status of `play` says of the script and of what was written.
+-- The meaning of `play`'s status for the script and for the text written.
 use Rattle.std.specs.Prelude.{◌≡◌, ◌++◌, ℕ, Bool, true, false, List, Option, Ok, Err, IsUtf8}
 use Rattle.std.specs.Prelude.{codes}
 use Rattle.std.specs.Fmt.{decimal}
@@ -18,22 +18,22 @@ use Rattle.script_seen.specs.Kinds.{IsBookShown, IsBookShownMissed, IsTermShown}
 use Rattle.script_seen.specs.Kinds.{IsTermShownMissed, IsGroupShown, IsGroupShownMissed}
 use Rattle.script_seen.specs.GroupRuns.{IsOfNewSet, IsGroupWritten, IsGroupMissed}
 
--- all commands of a script were obeyed, and their lines written: by a book of the set, or by a new
--- terminal over it, whose cyclic retransmission is forced within the usual limits where the script
--- chooses none
+-- all commands of a script were obeyed, and their lines written: on a book of the process set, or
+-- on a new terminal that runs it. The usual limits force the terminal's cyclic retransmission,
+-- unless the script sets its own.
 abbrev pub IsOtherObeyed :
     RoundLimits → Draft → PlainAnyScript → Option (List ℕ) → Option (List ℕ) → Type 0
 IsOtherObeyed usual d (book s) old new = IsWritten (first_book d s.settings) s.commands old new
 IsOtherObeyed usual d (terminal s) old new =
     IsOfNew d usual s.head (IsTermWritten s.commands old new)
 
--- or by a set of links with such terminals
+-- `IsOtherObeyed`, or on a link set of such terminals
 abbrev pub IsObeyed :
     RoundLimits → Draft → PlainPlayScript → Option (List ℕ) → Option (List ℕ) → Type 0
 IsObeyed usual d (other s) old new = IsOtherObeyed usual d s old new
 IsObeyed usual d (group s) old new = IsOfNewSet d usual s.head (IsGroupWritten s.commands old new)
 
--- an expectation of a script failed behind commands that were obeyed
+-- an expectation of a script failed after commands that were obeyed
 abbrev pub IsOtherMissed :
     RoundLimits → Draft → PlainAnyScript → Option (List ℕ) → Option (List ℕ) → Type 0
 IsOtherMissed usual d (book s) old new = IsMissed (first_book d s.settings) s.commands old new
@@ -45,7 +45,7 @@ abbrev pub IsMissedIn :
 IsMissedIn usual d (other s) old new = IsOtherMissed usual d s old new
 IsMissedIn usual d (group s) old new = IsOfNewSet d usual s.head (IsGroupMissed s.commands old new)
 
--- ---- with each command's line in front of what it prints
+-- ---- with each command's line before its output
 
 abbrev pub IsOtherShown :
     RoundLimits → List PlainLine → Draft → PlainAnyScript →
@@ -77,9 +77,9 @@ AreShownMissed usual lines d (other s) old new = IsOtherShownMissed usual lines 
 AreShownMissed usual lines d (group s) old new =
     IsOfNewSet d usual s.head (IsGroupShownMissed lines s.commands old new)
 
--- ---- either way
+-- ---- with or without echo
 
--- a script was obeyed on a set; with the lines of its text in front, where that is asked for
+-- a script was obeyed on a set; with `true` the lines of its text are echoed
 abbrev pub IsObeyedAs :
     RoundLimits → Bool → List PlainLine → Draft → PlainPlayScript → Option (List ℕ)
     → Option (List ℕ) → Type 0
@@ -100,7 +100,7 @@ pub record IsPlayed (usual : RoundLimits) (echo : Bool) (old new : Option (List 
   pub reads : play_script_of bytes ≡ Ok script
   pub run : IsObeyedAs usual echo (lines_of bytes) d script old new
 
--- the bytes are a script, an expectation of which failed
+-- the bytes are a script, and one of its expectations failed
 pub record IsPlayedInPart (usual : RoundLimits) (echo : Bool) (old new : Option (List ℕ))
     (d : Draft) (bytes : List ℕ) : Type 0 where
   pub utf8 : IsUtf8 bytes
@@ -110,7 +110,7 @@ pub record IsPlayedInPart (usual : RoundLimits) (echo : Bool) (old new : Option 
 
 -- ---- refusals
 
--- the bytes are no script, and the line that says so is all that was written
+-- the bytes are no script, and only the line about that was written
 pub data IsNoScript (old new : Option (List ℕ)) (bytes : List ℕ) : Type 0 where
   no_text : (IsUtf8 bytes → ⊥) → Appends old new (line_of (codes "refused F1 NotText"))
       → IsNoScript old new bytes
@@ -118,7 +118,7 @@ pub data IsNoScript (old new : Option (List ℕ)) (bytes : List ℕ) : Type 0 wh
       → Appends old new (line_of (codes "refused X1 BadLine line " ++ decimal line))
       → IsNoScript old new bytes
 
--- a set that lacks a name has no terminal, and runs the scripts of books alone
+-- a process set that lacks a name has no terminal; only books' scripts run on it
 abbrev pub HasNoOther : Draft → PlainAnyScript → Option (List ℕ) → Option (List ℕ) → Type 0
 HasNoOther d (book s) old new = ⊥
 HasNoOther d (terminal s) old new = LacksName d old new
@@ -127,21 +127,21 @@ abbrev pub HasNoTerminal : Draft → PlainPlayScript → Option (List ℕ) → O
 HasNoTerminal d (other s) old new = HasNoOther d s old new
 HasNoTerminal d (group s) old new = LacksName d old new
 
--- the bytes are a script of a terminal or of links, and the set lacks a name that a terminal wants:
--- the line of the first such name is all that was written
+-- the bytes are a script of a terminal or of links, and the process set lacks a name that a
+-- terminal needs: only the line about the first such name was written
 pub record IsWithoutTerminal (old new : Option (List ℕ)) (d : Draft) (bytes : List ℕ) : Type 0 where
   pub utf8 : IsUtf8 bytes
   pub script : PlainPlayScript
   pub reads : play_script_of bytes ≡ Ok script
   pub lacks : HasNoTerminal d script old new
 
--- why nothing ran on a set: the bytes are no script, whatever the set has; or they are one of a
--- terminal or of links, for which it lacks a name
+-- why nothing ran on a process set: the bytes are no script, whatever the set; or they are a script
+-- of a terminal or of links, and the set lacks a name
 pub data IsNotRun (old new : Option (List ℕ)) (d : Draft) (bytes : List ℕ) : Type 0 where
   no_script : IsNoScript old new bytes → IsNotRun old new d bytes
   no_terminal : IsWithoutTerminal old new d bytes → IsNotRun old new d bytes
 
--- a bad line is named by its number; want of memory is no refusal
+-- a bad line is reported by its number; running out of memory is no refusal
 abbrev pub PrintsFault : ScriptFault → Option (List ℕ) → Option (List ℕ) → Type 0
 PrintsFault (BadLine line) old new =
     Appends old new (line_of (codes "refused X1 BadLine line " ++ decimal line))
@@ -154,7 +154,7 @@ pub record IsOnSet (set script : Option (List ℕ)) (P : Draft → List ℕ → 
   pub of_script : IsGiven script (P draft)
 
 -- why nothing ran: the set is refused, whatever the script is; or the set is accepted, and the
--- script is refused, or is none for the set
+-- script is refused or can't run on it
 pub data IsRefused (set script old new : Option (List ℕ)) : Type 0 where
   set_refused : IsGiven set (PrintsRefusal old new) → IsRefused set script old new
   script_refused : IsOnSet set script (IsNotRun old new) → IsRefused set script old new

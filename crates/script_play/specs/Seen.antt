@@ -1,4 +1,4 @@
--- What the status of `play` says of what is told at the end of a run, and of a capture.
+-- The meaning of `play`'s status for the report at the end of a run, and for a capture.
 use Rattle.std.specs.Prelude.{◌≡◌, ℕ, Bool, true, false, List, Option, Some, None, Result, Ok}
 use Rattle.std.specs.Prelude.{Err, IfSome, IsUtf8, map}
 use Rattle.std.specs.Global.{Vec}
@@ -28,20 +28,20 @@ use Rattle.script_play.specs.declared.seeing.Wanted.TheVariants.{Coverage}
 use Rattle.script_play.specs.declared.watching.Told.{Told}
 use Rattle.script_play.specs.declared.watching.Told.TheVariants.{Chart, Thrown}
 
--- P holds of what is noticed of all commands of a script: of a book of the set, or of a new
--- terminal over it, with the usual limits where the script chooses none
+-- P holds of the notices of all commands of a script: on a book of the process set, or on a new
+-- terminal that runs it, with the usual limits unless the script sets its own
 abbrev pub IsOtherTold :
     RoundLimits → Draft → PlainAnyScript → (List Notice → Type 0) → Type 0
 IsOtherTold usual d (book s) P = IsBookWatched (first_book d s.settings) s.commands P
 IsOtherTold usual d (terminal s) P =
     IsOfNew d usual s.head (λ t. IsTermWatched (asks_told s.commands) t s.commands P)
 
--- of a script of a link set nothing is told
+-- P holds of the notices of a script; a script of a link set has no report
 abbrev pub AreTold : RoundLimits → Draft → PlainPlayScript → (List Notice → Type 0) → Type 0
 AreTold usual d (other s) P = IsOtherTold usual d s P
 AreTold usual d (group s) P = ⊥
 
--- so it does of those in front of an expectation that failed
+-- P holds of the notices of the commands before an expectation that failed
 abbrev pub IsOtherToldInPart :
     RoundLimits → Draft → PlainAnyScript → (List Notice → Type 0) → Type 0
 IsOtherToldInPart usual d (book s) P = IsBookWatchedInPart (first_book d s.settings) s.commands P
@@ -53,7 +53,7 @@ abbrev pub AreToldInPart :
 AreToldInPart usual d (other s) P = IsOtherToldInPart usual d s P
 AreToldInPart usual d (group s) P = ⊥
 
--- the bytes are a script, all of whose commands were obeyed, and P holds of what is noticed of it
+-- the bytes are a script, all of whose commands were obeyed, and P holds of its notices
 pub record IsPlayTold (usual : RoundLimits) (old new : Option (List ℕ))
     (P : List Notice → Type 0) (d : Draft) (bytes : List ℕ) : Type 0 where
   pub utf8 : IsUtf8 bytes
@@ -62,8 +62,8 @@ pub record IsPlayTold (usual : RoundLimits) (old new : Option (List ℕ))
   pub run : IsObeyed usual d script old new
   pub told : AreTold usual d script P
 
--- the bytes are a script, an expectation of which failed; P holds of what is noticed of the
--- commands in front of that
+-- the bytes are a script, and one of its expectations failed; P holds of the notices of the
+-- commands before it
 pub record IsPlayToldInPart (usual : RoundLimits) (old new : Option (List ℕ))
     (P : List Notice → Type 0) (d : Draft) (bytes : List ℕ) : Type 0 where
   pub utf8 : IsUtf8 bytes
@@ -72,13 +72,13 @@ pub record IsPlayToldInPart (usual : RoundLimits) (old new : Option (List ℕ))
   pub missed : IsMissedIn usual d script old new
   pub told : AreToldInPart usual d script P
 
--- what is told was written
+-- the report was written
 abbrev pub IsToldTo :
     {E : Type 0} → Result (Vec ℕ) E → Option (List ℕ) → Option (List ℕ) → Type 0
 IsToldTo (Ok text) old new = Appends old new text.items
 IsToldTo (Err error) old new = ⊥
 
--- what was written grew by what is told of all that was noticed
+-- the text that `tells` makes of all notices was written
 abbrev pub Grew :
     (Draft → List Notice → List ℕ) → Draft → Option (List ℕ) → Option (List ℕ) → List Notice
     → Type 0
@@ -86,7 +86,7 @@ Grew tells d old new ns = Appends old new (tells d ns)
 
 -- ---- captures
 
--- a terminal's script is captured; a book's has no units
+-- a terminal's script is captured; a book's script has no signal units
 abbrev pub IsOtherCaptured :
     RoundLimits → Bool → Draft → PlainAnyScript → Option (List ℕ) → Option (List ℕ) → Type 0
 IsOtherCaptured usual every d (book s) old new = ⊥
@@ -94,14 +94,14 @@ IsOtherCaptured usual every d (terminal s) old new =
     IsOfNew d usual s.head
     (λ t. IsCaptured every (asks_told s.commands) t s.commands old new)
 
--- so is one of a set of links
+-- a script of a terminal or of a link set is captured
 abbrev pub AreCaptured :
     RoundLimits → Bool → Draft → PlainPlayScript → Option (List ℕ) → Option (List ℕ) → Type 0
 AreCaptured usual every d (other s) old new = IsOtherCaptured usual every d s old new
 AreCaptured usual every d (group s) old new =
     IsOfNewSet d usual s.head (IsSetCaptured every s.commands old new)
 
--- up to an expectation that failed
+-- a script is captured up to an expectation that failed
 abbrev pub IsOtherCapturedInPart :
     RoundLimits → Bool → Draft → PlainAnyScript → Option (List ℕ) → Option (List ℕ) → Type 0
 IsOtherCapturedInPart usual every d (book s) old new = ⊥
@@ -124,7 +124,7 @@ pub record IsPlayCaptured (usual : RoundLimits) (every : Bool) (old new from to 
   pub run : IsObeyed usual d script old new
   pub captured : AreCaptured usual every d script from to
 
--- so up to an expectation that failed
+-- `IsPlayCaptured`, up to an expectation that failed
 pub record IsPlayCapturedInPart (usual : RoundLimits) (every : Bool)
     (old new from to : Option (List ℕ)) (d : Draft) (bytes : List ℕ) : Type 0 where
   pub utf8 : IsUtf8 bytes
@@ -133,20 +133,20 @@ pub record IsPlayCapturedInPart (usual : RoundLimits) (every : Bool)
   pub missed : IsMissedIn usual d script old new
   pub captured : AreCapturedInPart usual every d script from to
 
--- ---- what of the set's text was taken
+-- ---- the coverage of the set's text
 
 -- the turns of a run
 abbrev pub turns_run : List Notice → List Turn
 turns_run ns = map (λ (t : TurnEnd). t.turn) (turns_in ns)
 
--- what the turns of a run took of a text was written, in which its file has this name
+-- the coverage of a text by the turns of a run was written; `name` is the file name in it
 pub record IsCoveredBy (name text : List ℕ) (old new : Option (List ℕ)) (ns : List Notice) :
     Type 0 where
   pub out : List ℕ
   pub is_lcov : IsLcov name text (turns_run ns) out
   pub written : Appends old new out
 
--- of the text of the set, which has these bytes where they are known
+-- the coverage of the set's text was written; the text has these bytes if they are known
 pub record IsTextCovered (name : List ℕ) (known : Option (List ℕ)) (usual : RoundLimits)
     (old new from to : Option (List ℕ)) (d : Draft) (bytes : List ℕ) : Type 0 where
   pub text : List ℕ
@@ -161,7 +161,7 @@ pub record IsTextCoveredInPart (name : List ℕ) (known : Option (List ℕ)) (us
   pub is_set : IsSetOf text d
   pub told : IsPlayToldInPart usual old new (IsCoveredBy name text from to) d bytes
 
--- of some text of the set, in a file of some name
+-- the coverage of some text of the set was written, with some file name
 pub record IsSomeCovered (usual : RoundLimits) (old new from to : Option (List ℕ)) (d : Draft)
     (bytes : List ℕ) : Type 0 where
   pub name : List ℕ
@@ -176,14 +176,14 @@ pub record IsSomeCoveredInPart (usual : RoundLimits) (old new from to : Option (
   pub is_set : IsSetOf text d
   pub told : IsPlayToldInPart usual old new (IsCoveredBy name text from to) d bytes
 
--- ---- what is wanted of a run
+-- ---- the view of a run
 
--- what is told of a run at its end, by all that was noticed
+-- the report at the end of a run, from all notices
 abbrev pub told_of : Told → Draft → List Notice → List ℕ
 told_of (Chart cut) d ns = charted_of cut d ns
 told_of Thrown d ns = thrown_of d ns
 
--- the bytes are a script that was run, and what is wanted of that was written
+-- the bytes are a script that was run, and the requested view of the run was written
 abbrev pub IsPlaySeen :
     RoundLimits → Wanted → Option (List ℕ) → Option (List ℕ) → Option (List ℕ) → Option (List ℕ)
     → Draft → List ℕ → Type 0
@@ -207,10 +207,10 @@ IsPlaySeenInPart usual (AtEnd told) old new from to d bytes =
 IsPlaySeenInPart usual Coverage old new from to d bytes =
     IsSomeCoveredInPart usual old new from to d bytes
 
--- ---- with lines, with something in a file, or with neither
+-- ---- with an echo, with a view in a file, or with neither
 
--- A script was played as it is to be seen: with the lines of its commands, where that is asked for;
--- else with what is wanted of it in a file, where there is one, which had this and now has that.
+-- A script was played with an echo of its lines, if `echo` is true; else with the requested view in
+-- a file, if there is one, whose content was `was` and is now `has`.
 pub data IsWatched (usual : RoundLimits) (echo : Bool) (wanted : Wanted)
     (old new : Option (List ℕ)) (begun now : Option (Option (List ℕ))) (d : Draft)
     (bytes : List ℕ) : Type 0 where

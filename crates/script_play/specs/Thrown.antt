@@ -1,4 +1,4 @@
--- Which signals in which states were thrown away, and how often.
+-- The signals discarded, by state, and how often.
 use Rattle.std.specs.Prelude.{◌≡◌, ℕ, ◌+◌, ◌==◌, Bool, ◌&&◌, List, [], ◌∷◌, ◌++◌, codes, map}
 use Rattle.std.specs.Prelude.{if◌then◌else◌}
 use Rattle.std.specs.List.{flat_map}
@@ -11,7 +11,7 @@ use Rattle.script_seen.specs.Watched.{Notice, Throw, throws_in}
 use Rattle.script_play.specs.declared.thrown.Throw.{Throw as Counted}
 use Rattle.script_play.specs.declared.thrown.Thrown.{Thrown}
 
--- what was thrown away in a state of an actor's process, once
+-- an item discarded once in a state of an actor's process
 abbrev pub once : Throw → Counted
 once x = record {
   process = x.me.process;
@@ -20,18 +20,18 @@ once x = record {
   times = 1;
 }
 
--- the same signal or timer, in the same state of the same process
+-- whether both are the same signal or timer, in the same state of the same process
 abbrev pub same_throw : Counted → Counted → Bool
 same_throw x y =
     ((x.process.0 == y.process.0) && (x.state.0 == y.state.0)) && same_trigger x.trigger y.trigger
 
--- once more: what wasn't there stands last
+-- one more occurrence; a new item is appended
 abbrev pub counted_throw : Counted → List Counted → List Counted
 counted_throw x [] = x ∷ []
 counted_throw x (c ∷ cs) =
     if same_throw c x then record c { times = c.times + 1 } ∷ cs else c ∷ counted_throw x cs
 
--- in the order of the first time, behind those that are counted
+-- the counts after these items, in the order of first occurrence
 abbrev pub counts : List Counted → List Counted → List Counted
 counts cs [] = cs
 counts cs (x ∷ xs) = counts (counted_throw x cs) xs
@@ -44,11 +44,11 @@ throw_line d c =
 abbrev pub thrown_text : Draft → List Throw → List ℕ
 thrown_text d xs = flat_map (throw_line d) (counts [] (map once xs))
 
--- what is told of all that was noticed
+-- the report from all notices
 abbrev pub thrown_of : Draft → List Notice → List ℕ
 thrown_of d ns = thrown_text d (throws_in ns)
 
--- ---- what is known of it
+-- ---- partial counts
 
 abbrev pub CountsThrown : List Throw → Thrown → Type 0
 CountsThrown xs t = t.throws.items ≡ counts [] (map once xs)

@@ -1,4 +1,4 @@
--- What the status of `play` says of a trace.
+-- The meaning of `play`'s status for a trace.
 use Rattle.std.specs.Prelude.{◌≡◌, ℕ, Bool, List, Option, Ok, IsUtf8}
 use Rattle.turn_code.specs.declared.draft.Draft.{Draft}
 use Rattle.script_seen.specs.resend_store_types.messages.RoundLimits.{RoundLimits}
@@ -13,8 +13,8 @@ use Rattle.script_seen.specs.TracedKinds.{IsBookTraced, IsBookTracedInPart, IsTe
 use Rattle.script_seen.specs.TracedKinds.{IsTermTracedInPart}
 use Rattle.script_play.specs.Played.{IsObeyed, IsMissedIn}
 
--- all commands of a script are traced: of a book of the set, or of a new terminal over it, with the
--- usual limits where the script chooses none
+-- all commands of a script are traced: on a book of the process set, or on a new terminal that runs
+-- it, with the usual limits unless the script sets its own
 abbrev pub IsOtherTraced :
     RoundLimits → Bool → List PlainLine → Draft → PlainAnyScript → Option (List ℕ)
     → Option (List ℕ) → Type 0
@@ -24,7 +24,7 @@ IsOtherTraced usual every lines d (terminal s) old new =
     IsOfNew d usual s.head
     (λ t. IsTermTraced every (asks_told s.commands) lines t s.commands old new)
 
--- or of links with such terminals
+-- all commands are traced, also those of a script of links with such terminals
 abbrev pub AreTraced :
     RoundLimits → Bool → List PlainLine → Draft → PlainPlayScript → Option (List ℕ)
     → Option (List ℕ) → Type 0
@@ -32,7 +32,7 @@ AreTraced usual every lines d (other s) old new = IsOtherTraced usual every line
 AreTraced usual every lines d (group s) old new =
     IsOfNewSet d usual s.head (IsGroupTraced every lines d s.commands old new)
 
--- so are those in front of an expectation that failed
+-- the commands before an expectation that failed are traced
 abbrev pub IsOtherTracedInPart :
     RoundLimits → Bool → List PlainLine → Draft → PlainAnyScript → Option (List ℕ)
     → Option (List ℕ) → Type 0
@@ -59,7 +59,7 @@ pub record IsPlayTraced (usual : RoundLimits) (every : Bool) (old new begun now 
   pub run : IsObeyed usual d script old new
   pub traced : AreTraced usual every (lines_of bytes) d script begun now
 
--- the bytes are a script, an expectation of which failed; the commands in front of that are traced
+-- the bytes are a script, and one of its expectations failed; the commands before it are traced
 pub record IsPlayTracedInPart (usual : RoundLimits) (every : Bool)
     (old new begun now : Option (List ℕ)) (d : Draft) (bytes : List ℕ) : Type 0 where
   pub utf8 : IsUtf8 bytes

@@ -1,4 +1,4 @@
-//! Link sets' scripts as they run, with a capture.
+//! Runs link sets' scripts with a capture.
 ghost use Rattle.std.specs.Prelude.{◌≡◌, ◌⊎◌, ◌<◌, ◌^◌, ◌++◌, ◌∷◌, [], ℕ, Bool, List, Option, None, Some, map, length, slice_get, IfOk, OnOk, true, false};
 ghost use Rattle.std.specs.Io.KnownBytes.{Appends};
 ghost use Rattle.line_streams.specs.Records.{HEADER};
@@ -26,7 +26,7 @@ use std::alloc::{AllocError, Global};
 use std::io::{self, Write};
 use turn_check::Verified;
 
-/// So many links of which nothing was seen; whether every unit is recorded.
+/// Returns this many links of which no signal unit was seen. `every`: whether every unit is recorded.
 fn new_links(alloc: Global, count: u32, every: bool) -> Result<Vec<LinkSeen>, AllocError>
     ensures { IfOk result (λ v. (bs : List Ledger) → length bs ≡ count → AreHeard every [] 0 (map (λ b. []) bs) v.items) }
 {
@@ -38,7 +38,7 @@ fn new_links(alloc: Global, count: u32, every: bool) -> Result<Vec<LinkSeen>, Al
     Ok(links)
 }
 
-/// The unit that goes out next on the link that lines speak of, whose line is printed, or `silent`.
+/// Takes the next signal unit to send on the addressed link, and prints its line, or `silent`.
 fn next_on<W: Write>(
     alloc: Global,
     player: &mut GroupPlayer,
@@ -56,7 +56,7 @@ fn next_on<W: Write>(
     Ok(given)
 }
 
-/// Units go out on the link that lines speak of, so many; one line `silent` where none does.
+/// Sends `units` signal units on the addressed link, and captures them; prints one line `silent` when there is none.
 fn give_out<T: Write, W: Write>(
     alloc: Global,
     player: &mut GroupPlayer,
@@ -86,7 +86,7 @@ fn give_out<T: Write, W: Write>(
     Ok(())
 }
 
-/// What comes in by a command, by which no unit is asked for, and nothing expected.
+/// The octets that a command delivers; the command is neither `out` nor an expectation.
 fn come_on(alloc: Global, command: &GroupCommand<'_>) -> io::Result<Coming>
     ensures noted { OnOk result (is_noted (plain_group_command command.now) ≡ true) }
     ensures coming { IfOk result (λ c. IsComing (plain_group_command command.now) (repeated c.times c.octets.items)) }
@@ -117,7 +117,7 @@ fn come_on(alloc: Global, command: &GroupCommand<'_>) -> io::Result<Coming>
     }
 }
 
-/// Captures what comes in on the link of this number by a command, by which no unit is asked for, and nothing expected.
+/// Captures the octets that a command delivers on this link; the command is neither `out` nor an expectation.
 fn note<T: Write>(
     alloc: Global,
     command: &GroupCommand<'_>,
@@ -137,8 +137,8 @@ fn note<T: Write>(
     Ok(())
 }
 
-/// Does what a command says on the link that lines speak of, of which this is known, and captures what it has come in and go out. Whether the run
-/// goes on.
+/// Obeys a command on the addressed link, whose state is `link`, and captures the signal units that it delivers and
+/// sends. Returns whether the run goes on.
 fn capture_there<T: Write, W: Write>(
     alloc: Global,
     player: &mut GroupPlayer,
@@ -174,7 +174,7 @@ fn capture_there<T: Write, W: Write>(
     }
 }
 
-/// Does what a command says, and captures what it has come in and go out. Whether the run goes on.
+/// Obeys a command, and captures the signal units that it delivers and sends. Returns whether the run goes on.
 fn capture_next<T: Write, W: Write>(
     alloc: Global,
     player: &mut GroupPlayer,
@@ -203,8 +203,8 @@ fn capture_next<T: Write, W: Write>(
     player.obey(alloc, said, writer)
 }
 
-/// Does what the commands say, in order, up to an expectation that fails, and captures what comes in and goes out. Gives the exit status, 0 or 1
-/// where one failed.
+/// Obeys and captures the commands, in order, up to an expectation that fails. Returns the exit status: 0, or 1 if one
+/// failed.
 fn capture_each<T: Write, W: Write>(
     alloc: Global,
     player: &mut GroupPlayer,
@@ -233,7 +233,7 @@ fn capture_each<T: Write, W: Write>(
     Ok(HELD)
 }
 
-/// The same, from a link set's beginning.
+/// Obeys and captures a script on a new link set. Returns the exit status: 0, or 1 if an expectation failed.
 fn capture_set<T: Write, W: Write>(
     alloc: Global,
     player: &mut GroupPlayer,
@@ -258,7 +258,7 @@ fn capture_set<T: Write, W: Write>(
     Ok(status)
 }
 
-/// The same. Gives the exit status, 4 where memory or a write fails.
+/// Obeys and captures a script on a new link set. Returns the exit status: 4 if memory runs out or a write fails.
 fn capture_all<T: Write, W: Write>(
     alloc: Global,
     player: &mut GroupPlayer,
@@ -283,10 +283,10 @@ fn capture_all<T: Write, W: Write>(
     }
 }
 
-/// Runs a link set's script on links with terminals over a set of processes, as `play_group` does, and captures these links.
+/// Runs a link set's script on links whose terminals run a process set, as `play_group` does, and captures these links.
 ///
-/// Gives the exit status: 0 where each command ran and all was written, 1 after `failed line N` where an expectation failed, 2 after
-/// `refused X2 NoName NAME` alone where the set lacks a name that a terminal speaks to or hears, 4 where memory or a write fails.
+/// Returns the exit status. 0: each command ran and all was written. 1: an expectation failed (`failed line N`). 2: the
+/// set lacks a name that a terminal needs (only `refused X2 NoName NAME` is written). 4: memory or a write failed.
 pub(crate) fn capture_group<T: Write, W: Write>(
     alloc: Global,
     set: &Verified,

@@ -1,4 +1,4 @@
-//! The command `play` with a capture of the units that go out and come in.
+//! The command `play` with a capture of the signal units sent and received.
 ghost use Rattle.std.specs.Prelude.{◌≡◌, ◌⊎◌, List, ℕ, IfSome};
 ghost use Rattle.plain_text.specs.Reading.{Keeps};
 ghost use Rattle.script_check.specs.Checked.{given, IsAccepted};
@@ -19,7 +19,7 @@ use std::io::{Read, Write};
 use std::str;
 use turn_check::Verified;
 
-/// Tells that a script of a book has no units. Gives the exit status.
+/// Writes that a book's script has no signal units. Returns the exit status.
 fn lacks_units<E: Write>(alloc: Global, errors: &mut E) -> u8
     ensures { result ≡ 4 }
 {
@@ -31,7 +31,7 @@ fn lacks_units<E: Write>(alloc: Global, errors: &mut E) -> u8
     FAILED
 }
 
-/// Runs a script of a book or of a terminal, and captures its link.
+/// Runs a script of a book or of a terminal, and captures its link. Returns the exit status.
 fn capture_other<T: Write, W: Write, E: Write>(
     alloc: Global,
     set: &Verified,
@@ -58,7 +58,7 @@ fn capture_other<T: Write, W: Write, E: Write>(
     }
 }
 
-/// Runs a script, and captures its links.
+/// Runs a script, and captures its links. Returns the exit status.
 fn capture_script<T: Write, W: Write, E: Write>(
     alloc: Global,
     set: &Verified,
@@ -87,7 +87,7 @@ fn capture_script<T: Write, W: Write, E: Write>(
     }
 }
 
-/// Runs the script of a text that was read, and captures its links.
+/// Runs the script of a text that was read, and captures its links. Returns the exit status.
 fn capture_text<T: Write, W: Write, E: Write>(
     alloc: Global,
     set: &Verified,
@@ -125,11 +125,11 @@ fn capture_text<T: Write, W: Write, E: Write>(
     }
 }
 
-/// Runs a script of a terminal or of a link set as `play` does without the lines of its commands, and captures its links in pcap's format, with a
-/// millisecond for each tick: the units that `out` prints, and those that come in without error. Those that say nothing new are left out, unless
-/// `every` says otherwise. A record goes out in one write.
+/// Runs a script of a terminal or of a link set as `play` does without an echo, and captures its links in pcap's
+/// format. A tick is a millisecond. The capture has the signal units that `out` prints and those received without
+/// error, but repeated ones only if `every` is true. Each record is one write.
 ///
-/// Gives the exit status, as `play` does: 4 where a write to `out` fails too, and for a script of a book, which has no units.
+/// Returns the exit status, as `play` does: also 4 if a write to `out` fails, or for a book's script (it has no units).
 pub(crate) fn play_captured<S: Read + Drop, R: Read + Drop, W: Write, T: Write, E: Write>(
     alloc: Global,
     set: SetWord<S>,

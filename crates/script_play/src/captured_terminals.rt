@@ -1,4 +1,4 @@
-//! Terminals' scripts as they run, with a capture.
+//! Runs terminals' scripts with a capture.
 ghost use Rattle.std.specs.Prelude.{◌≡◌, ◌⊎◌, ◌++◌, ◌∷◌, [], ℕ, Bool, List, Option, None, map, IfOk, OnOk, true, false};
 ghost use Rattle.line_streams.specs.declared.seen.Seen.{Seen as OneSeen};
 ghost use Rattle.script_links.specs.TermCommands.{plain_term_command};
@@ -17,10 +17,10 @@ use std::alloc::{AllocError, Global};
 use std::io::{self, Write};
 use turn_check::Verified;
 
-/// What comes in where a unit with errors does: two flags with an octet of 0s between them.
+/// The octets received for a signal unit in error: two flags with an octet of 0s between them.
 const ERRORED: [u8; 3] = [0x7E, 0, 0x7E];
 
-/// The line of a unit that goes out, or `silent`.
+/// The line of a signal unit that is sent, or `silent`.
 pub(crate) fn line_of(alloc: Global, given: &Option<Unit>) -> Result<Vec<u8>, AllocError>
     ensures { IfOk result (λ line. line.items ≡ unit_line given.now) }
 {
@@ -30,7 +30,7 @@ pub(crate) fn line_of(alloc: Global, given: &Option<Unit>) -> Result<Vec<u8>, Al
     }
 }
 
-/// The unit that goes out next, whose line is printed, or `silent`; behind it the buffers are emptied where the text asked for that.
+/// Takes the next signal unit and prints its line or `silent`; then clears the buffers if the text requires it.
 fn next_out<W: Write>(
     alloc: Global,
     player: &mut TermPlayer,
@@ -48,7 +48,7 @@ fn next_out<W: Write>(
     Ok(given)
 }
 
-/// Units go out, so many; one line `silent` where none does.
+/// Sends `units` signal units and captures them; prints one line `silent` when there is none.
 fn give_out<T: Write, W: Write>(
     alloc: Global,
     player: &mut TermPlayer,
@@ -74,14 +74,14 @@ fn give_out<T: Write, W: Write>(
     Ok(())
 }
 
-/// What comes in by a command: octets, so many times.
+/// The octets that a command delivers, and the number of repetitions.
 #[derive(Drop)]
 pub(crate) struct Coming {
     pub(crate) octets: Vec<u8>,
     pub(crate) times: u32,
 }
 
-/// What comes in by a command, by which no unit is asked for, and nothing expected.
+/// The octets that a command delivers; the command is neither `out` nor an expectation.
 fn come_by(alloc: Global, command: &TermCommand<'_>) -> io::Result<Coming>
     ensures noted { OnOk result (is_noted (plain_term_command command.now) ≡ true) }
     ensures coming { IfOk result (λ c. IsComing (plain_term_command command.now) (repeated c.times c.octets.items)) }
@@ -127,7 +127,7 @@ fn come_by(alloc: Global, command: &TermCommand<'_>) -> io::Result<Coming>
     }
 }
 
-/// Captures what comes in by a command, by which no unit is asked for, and nothing expected.
+/// Captures the octets that a command delivers; the command is neither `out` nor an expectation.
 fn note<T: Write>(
     alloc: Global,
     command: &TermCommand<'_>,
@@ -146,7 +146,7 @@ fn note<T: Write>(
     Ok(())
 }
 
-/// Does what a command says, and captures what it has come in and go out. Whether the run goes on.
+/// Obeys a command, and captures the signal units that it delivers and sends. Returns whether the run goes on.
 fn capture_next<T: Write, W: Write>(
     alloc: Global,
     player: &mut TermPlayer,
@@ -179,8 +179,8 @@ fn capture_next<T: Write, W: Write>(
     }
 }
 
-/// Does what the commands say, in order, up to an expectation that fails, and captures what comes in and goes out. Gives the exit status, 0 or 1
-/// where one failed.
+/// Obeys and captures the commands, in order, up to an expectation that fails. Returns the exit status: 0, or 1 if one
+/// failed.
 fn capture_each<T: Write, W: Write>(
     alloc: Global,
     player: &mut TermPlayer,
@@ -210,7 +210,7 @@ fn capture_each<T: Write, W: Write>(
     Ok(HELD)
 }
 
-/// The same, on a new terminal over a set. Gives the exit status, 0 or 1 where an expectation failed.
+/// Obeys and captures a script on a new terminal. Returns the exit status: 0, or 1 if an expectation failed.
 fn capture_on<T: Write, W: Write>(
     alloc: Global,
     terminal: Terminal,
@@ -238,7 +238,7 @@ fn capture_on<T: Write, W: Write>(
     Ok(status)
 }
 
-/// The same. Gives the exit status, 4 where memory or a write fails.
+/// Obeys and captures a script on a new terminal. Returns the exit status: 4 if memory runs out or a write fails.
 fn capture_new<T: Write, W: Write>(
     alloc: Global,
     terminal: Terminal,
@@ -263,10 +263,10 @@ fn capture_new<T: Write, W: Write>(
     }
 }
 
-/// Runs a terminal's script on a terminal over a set, as `play_terminal` does, and captures its link.
+/// Runs a terminal's script on a terminal that runs a process set, as `play_terminal` does, and captures its link.
 ///
-/// Gives the exit status: 0 where each command ran and all was written, 1 after `failed line N` where an expectation failed, 2 after
-/// `refused X2 NoName NAME` alone where the set lacks a name that a terminal speaks to or hears, 4 where memory or a write fails.
+/// Returns the exit status. 0: each command ran and all was written. 1: an expectation failed (`failed line N`). 2: the
+/// set lacks a name that a terminal needs (only `refused X2 NoName NAME` is written). 4: memory or a write failed.
 pub(crate) fn capture_terminal<T: Write, W: Write>(
     alloc: Global,
     set: &Verified,

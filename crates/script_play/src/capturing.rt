@@ -1,4 +1,4 @@
-//! What is captured of a link, unit by unit.
+//! The capture of a link, unit by unit.
 ghost use Rattle.std.specs.Prelude.{◌≡◌, ◌*◌, ◌∷◌, ◌++◌, [], ℕ, Bool, false, List, Option, Some, OnOk, IfOk};
 ghost use Rattle.std.specs.Io.KnownBytes.{Appends};
 ghost use Rattle.su_octets.specs.Frame.{Frame, SpareBitsAreZero};
@@ -13,22 +13,22 @@ use script_seen::{Unit, encode};
 use std::alloc::AllocError;
 use std::io::{self, ErrorKind, Write};
 
-/// How many microseconds a tick is.
+/// The number of microseconds in a tick.
 const TICK: u64 = 1_000;
 
-/// One link of a capture: what it hears, and which units were recorded last.
+/// A link of a capture: its receiving state, and the signal units recorded last.
 #[derive(Drop)]
 pub(crate) struct LinkSeen {
     heard: Deframer,
     repeats: Repeats,
 }
 
-/// What can't be recorded is told as.
+/// The error for a signal unit that can't be recorded.
 pub(crate) fn lost() -> io::Error {
     io::Error::from(ErrorKind::Other)
 }
 
-/// The microsecond of a tick. It fails where 2^64 microseconds went by.
+/// Returns the time of a tick in microseconds; an error if it is 2^64 or more.
 pub(crate) fn time_of(clock: u64) -> io::Result<u64>
     ensures { IfOk result (λ at. at ≡ TICK * clock) }
 {
@@ -38,7 +38,7 @@ pub(crate) fn time_of(clock: u64) -> io::Result<u64>
     }
 }
 
-/// Writes what a capture begins with.
+/// Writes the header of a capture.
 pub(crate) fn begin<T: Write>(out: &mut T) -> io::Result<()>
     ensures { OnOk result (Appends (T.contents out.old) (T.contents out.new) HEADER) }
 {
@@ -47,7 +47,7 @@ pub(crate) fn begin<T: Write>(out: &mut T) -> io::Result<()>
 }
 
 impl LinkSeen {
-    /// A link of which nothing was seen; whether every unit is recorded.
+    /// Returns a link of which no signal unit was seen. `every`: whether every unit is recorded.
     pub(crate) fn new(every: bool) -> LinkSeen
         ensures { (link : ℕ) → IsHeard link every [] [] result }
     {
@@ -57,7 +57,7 @@ impl LinkSeen {
         }
     }
 
-    /// A unit is recorded, unless it says nothing new.
+    /// Records a signal unit, unless it is a repeated one.
     fn see<T: Write>(&mut self, seen: &Seen, out: &mut T) -> io::Result<()>
         ensures { OnOk result ((every : Bool) (came : List ℕ) (ss : List OneSeen) (begun : Option (List ℕ))
             → IsCapturing seen.now.link every came ss begun (T.contents out.old) self.old
@@ -70,7 +70,7 @@ impl LinkSeen {
         Ok(())
     }
 
-    /// A unit of these octets ends by an octet that comes in.
+    /// Records a signal unit that ends with the octet just received, unless it is a repeated one.
     fn see_unit<T: Write>(
         &mut self,
         link: u16,
@@ -93,7 +93,7 @@ impl LinkSeen {
         Ok(())
     }
 
-    /// An octet comes in on the line.
+    /// Receives an octet of the line.
     fn hear_one<T: Write>(&mut self, link: u16, at: u64, octet: u8, out: &mut T) -> io::Result<()>
         ensures { OnOk result ((every : Bool) (came : List ℕ) (ss : List OneSeen) (begun : Option (List ℕ))
             → IsCapturing link every came ss begun (T.contents out.old) self.old
@@ -109,7 +109,7 @@ impl LinkSeen {
         }
     }
 
-    /// Octets come in on the line.
+    /// Receives octets of the line.
     pub(crate) fn hear<T: Write>(
         &mut self,
         link: u16,
@@ -128,7 +128,7 @@ impl LinkSeen {
         Ok(())
     }
 
-    /// The same octets come in so many times.
+    /// Receives these octets this many times.
     pub(crate) fn hear_times<T: Write>(
         &mut self,
         link: u16,
@@ -148,7 +148,7 @@ impl LinkSeen {
         Ok(())
     }
 
-    /// A unit goes out.
+    /// Records a signal unit that is sent.
     pub(crate) fn send<T: Write>(
         &mut self,
         link: u16,
@@ -173,7 +173,7 @@ impl LinkSeen {
     }
 }
 
-/// The octets of a unit without its check octets. A unit that isn't whole would be told as want of memory, but none comes here.
+/// The octets of a signal unit without its check octets. An incomplete unit would be an error, but none gets here.
 fn octets_of(unit: &Unit) -> Result<ArrayVec<u8, 278>, AllocError>
     ensures { IfOk result (λ v. (frame : List ℕ) × Frame frame unit.now × SpareBitsAreZero frame × (v.items ≡ without_check frame)) }
 {

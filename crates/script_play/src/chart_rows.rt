@@ -14,7 +14,7 @@ use turn_code::{
     TimerNumber, Trigger, Value,
 };
 
-/// An actor in quotation marks.
+/// Appends an actor in quotation marks.
 pub(crate) fn push_actor_quoted(
     alloc: Global,
     row: &mut Vec<u8>,
@@ -28,7 +28,7 @@ pub(crate) fn push_actor_quoted(
     Ok(row.push(b'"')?)
 }
 
-/// ENV or an actor in quotation marks.
+/// Appends ENV or an actor in quotation marks.
 fn push_party_quoted(
     alloc: Global,
     row: &mut Vec<u8>,
@@ -43,7 +43,7 @@ fn push_party_quoted(
     Ok(row.push(b'"')?)
 }
 
-/// A label, and the end of its row.
+/// Appends a label and the end of its row.
 fn push_label(row: &mut Vec<u8>, text: &[u8]) -> Result<(), AllocError>
     ensures { OnOk result (row.new.items ≡ row.old.items ++ labelled text.now) }
 {
@@ -52,7 +52,7 @@ fn push_label(row: &mut Vec<u8>, text: &[u8]) -> Result<(), AllocError>
     Ok(row.extend_from_slice(b"\"];\n")?)
 }
 
-/// Values, a comma before each.
+/// Appends values, with a comma before each.
 fn push_more(alloc: Global, text: &mut Vec<u8>, values: &[Value]) -> Result<(), AllocError>
     ensures { OnOk result (text.new.items ≡ text.old.items ++ more_values values.now) }
 {
@@ -64,7 +64,7 @@ fn push_more(alloc: Global, text: &mut Vec<u8>, values: &[Value]) -> Result<(), 
     Ok(())
 }
 
-/// Values behind one another, a comma before each but the first.
+/// Appends values, with commas between them.
 fn push_commaed(alloc: Global, text: &mut Vec<u8>, values: &[Value]) -> Result<(), AllocError>
     ensures { OnOk result (text.new.items ≡ text.old.items ++ commaed values.now) }
 {
@@ -76,7 +76,7 @@ fn push_commaed(alloc: Global, text: &mut Vec<u8>, values: &[Value]) -> Result<(
     push_more(alloc, text, more)
 }
 
-/// A signal with its values in parentheses; without these, where there are no values.
+/// A signal with its values in parentheses; without parentheses if it has no values.
 fn called(
     alloc: Global,
     set: &Verified,
@@ -96,7 +96,7 @@ fn called(
     Ok(text)
 }
 
-/// The row of a time.
+/// Appends the row of a time.
 fn push_clock(alloc: Global, rows: &mut Vec<u8>, clock: u64) -> Result<(), AllocError>
     ensures { OnOk result (rows.new.items ≡ rows.old.items ++ clock_text clock) }
 {
@@ -107,7 +107,7 @@ fn push_clock(alloc: Global, rows: &mut Vec<u8>, clock: u64) -> Result<(), Alloc
     push_label(rows, &text)
 }
 
-/// The row of the time, where it isn't that of the last row.
+/// Appends the row of the time, if it differs from that of the last row.
 pub(crate) fn push_time(
     alloc: Global,
     rows: &mut Vec<u8>,
@@ -122,7 +122,7 @@ pub(crate) fn push_time(
     }
 }
 
-/// A note or a box of an actor, as a row.
+/// Appends a note or a box of an actor as a row.
 fn push_beside(
     alloc: Global,
     rows: &mut Vec<u8>,
@@ -140,7 +140,7 @@ fn push_beside(
     push_label(rows, text)
 }
 
-/// The arc of a signal that an actor takes, from who sent it.
+/// Appends the arc of a signal that an actor consumes, from its sender.
 fn push_taken(
     alloc: Global,
     rows: &mut Vec<u8>,
@@ -162,7 +162,7 @@ fn push_taken(
     push_label(rows, &text)
 }
 
-/// The note of a timer that an actor takes.
+/// Appends the note of a timer signal that an actor consumes.
 fn push_run_out(
     alloc: Global,
     rows: &mut Vec<u8>,
@@ -178,7 +178,7 @@ fn push_run_out(
     push_beside(alloc, rows, set, me, " note ", &text)
 }
 
-/// What a turn took: an arc for a signal, a note for a timer, nothing for START.
+/// Appends the row of a turn's stimulus: an arc for a signal, a note for a timer, nothing for START.
 pub(crate) fn push_came(
     alloc: Global,
     rows: &mut Vec<u8>,
@@ -198,7 +198,7 @@ pub(crate) fn push_came(
     }
 }
 
-/// The box of the state that a turn ends in, where that is another one, or of STOP.
+/// Appends the box of the state in which a turn ends, if it is a new one, or of STOP.
 pub(crate) fn push_box(
     alloc: Global,
     rows: &mut Vec<u8>,
@@ -217,7 +217,7 @@ pub(crate) fn push_box(
     push_beside(alloc, rows, set, me, " abox ", &text)
 }
 
-/// Who gets a signal of an actor, with the instance that is meant.
+/// The receiver of an actor's signal, with the instance that is meant.
 pub(crate) fn receiver_of(set: &Verified, me: ActorName, receiver: Address) -> Address
     ensures { result ≡ receiver_of set.now me receiver.party receiver.instance }
 {
@@ -230,7 +230,7 @@ pub(crate) fn receiver_of(set: &Verified, me: ActorName, receiver: Address) -> A
     }
 }
 
-/// Whether an output has an arc where it goes out: it is lost, or goes to the environment. Any other is drawn where it is taken.
+/// Whether an output has an arc at its sender, not at its receiver: it is lost, or goes to the environment.
 pub(crate) fn is_arc(party: Party, is_lost: bool) -> bool
     ensures { result ≡ is_arc party is_lost }
 {
@@ -240,14 +240,14 @@ pub(crate) fn is_arc(party: Party, is_lost: bool) -> bool
     }
 }
 
-/// The sign of an arc, or of one that is lost.
+/// The sign of an arc, or of a lost one.
 fn arrow_of<'a>(is_lost: bool) -> &'a str
     ensures { result.now ≡ arrow_of is_lost }
 {
     if is_lost { " -x " } else { " => " }
 }
 
-/// The arc of a signal that goes out.
+/// Appends the arc of a signal that is sent.
 fn push_sent(
     alloc: Global,
     rows: &mut Vec<u8>,
@@ -268,7 +268,7 @@ fn push_sent(
     push_label(rows, &text)
 }
 
-/// What is drawn of an effect where it goes out.
+/// Appends the row of an effect at its sender, if it has one.
 fn push_output(
     alloc: Global,
     rows: &mut Vec<u8>,
@@ -290,7 +290,7 @@ fn push_output(
     }
 }
 
-/// The arcs of a turn's outputs.
+/// Appends the arcs of a turn's outputs.
 pub(crate) fn push_outputs(
     alloc: Global,
     rows: &mut Vec<u8>,
@@ -308,8 +308,8 @@ pub(crate) fn push_outputs(
     Ok(())
 }
 
-/// The sign of a new line, and `set` or `reset` with the timer of an effect, if it is one. A deadline past 2^64 would be told as want of memory,
-/// but the clock ends before.
+/// Appends mscgen's line break, and `set` or `reset` with the timer of an effect, if it is one. A time past 2^64 would
+/// be an error, but the clock ends before.
 fn push_timing(
     alloc: Global,
     text: &mut Vec<u8>,
@@ -338,7 +338,7 @@ fn push_timing(
     }
 }
 
-/// What a turn makes of timers, the sign of a new line before each.
+/// The timers that a turn sets or resets, with mscgen's line break before each.
 fn timings(
     alloc: Global,
     set: &Verified,
@@ -355,7 +355,7 @@ fn timings(
     Ok(text)
 }
 
-/// The note of lines about timers, each behind the sign of a new line; none where there are no lines.
+/// Appends the note of lines about timers, each of which follows a line break; nothing if there are no lines.
 fn push_note(
     alloc: Global,
     rows: &mut Vec<u8>,
@@ -371,7 +371,7 @@ fn push_note(
     push_beside(alloc, rows, set, me, " note ", behind_two(text))
 }
 
-/// The note of what a turn makes of timers, where it does something to one.
+/// Appends the note about the timers that a turn sets or resets, if there are any.
 pub(crate) fn push_timers(
     alloc: Global,
     rows: &mut Vec<u8>,
@@ -386,7 +386,7 @@ pub(crate) fn push_timers(
     push_note(alloc, rows, set, me, &text)
 }
 
-/// What stands behind the first two octets.
+/// The text after the first two octets.
 pub(crate) fn behind_two(text: &[u8]) -> &[u8]
     ensures { result.now ≡ drop 2 text.now }
 {

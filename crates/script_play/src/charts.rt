@@ -18,32 +18,32 @@ use std::io;
 use turn_check::Verified;
 use turn_code::{Address, Effect, Party, StateNumber};
 
-/// Which turns are drawn: those from one number to another.
+/// The turns to draw: those with numbers from `first` to `last`.
 #[derive(Clone, Copy, PartialEq, Eq, Debug)]
 pub struct Cut {
     /// The number of the first turn.
     pub first: u64,
-    /// The number of the last one.
+    /// The number of the last turn.
     pub last: u64,
 }
 
-/// A chart as its turns end.
+/// A chart that grows as turns end.
 #[derive(Drop)]
 pub struct Chart {
     cut: Cut,
-    /// The tick of the row that was drawn last.
+    /// The tick of the last row drawn.
     clock: Option<u64>,
     rows: Vec<u8>,
-    /// Whether the environment takes part.
+    /// Whether the environment participates.
     environment: bool,
-    /// The actors that take part.
+    /// The actors that participate.
     actors: Vec<ActorName>,
 }
 
-/// How wide a column is, in pixels.
+/// The width of a column, in pixels.
 const COLUMN: u64 = 140;
 
-/// How wide so many columns are, in pixels.
+/// The width of this many columns, in pixels.
 fn width_of(columns: u64) -> Result<u64, AllocError>
     ensures { IfOk result (λ w. w ≡ COLUMN * columns) }
 {
@@ -53,7 +53,7 @@ fn width_of(columns: u64) -> Result<u64, AllocError>
     }
 }
 
-/// What stands behind the heads: mscgen wants a row at least.
+/// Appends the text after the column heads: mscgen needs at least one row.
 fn push_ending(text: &mut Vec<u8>, has_none: bool) -> Result<(), AllocError>
     ensures { OnOk result (text.new.items ≡ text.old.items ++ after_heads has_none) }
 {
@@ -63,14 +63,14 @@ fn push_ending(text: &mut Vec<u8>, has_none: bool) -> Result<(), AllocError>
     Ok(text.extend_from_slice(b";\n")?)
 }
 
-/// Whether they are the same turns.
+/// Whether both are the same range of turns.
 fn are_same(left: Cut, right: Cut) -> bool
     ensures { result ≡ ((left.first == right.first) && (left.last == right.last)) }
 {
     left.first == right.first && left.last == right.last
 }
 
-/// Whether a turn is one of those that are to be drawn, and does anything.
+/// Whether a turn is drawn: its number is in the range, and it isn't dull.
 fn is_drawn(cut: Cut, ended: &Ended) -> bool
     ensures { (o : Outcome) → outcome_of ended.now.done ≡ Some o → result ≡ is_drawn cut (end_of ended.now o) }
 {
@@ -80,7 +80,7 @@ fn is_drawn(cut: Cut, ended: &Ended) -> bool
 }
 
 impl Chart {
-    /// A chart without rows, in which these turns are to be drawn.
+    /// Returns a chart without rows, for these turns.
     pub(crate) fn new(alloc: Global, cut: Cut) -> Chart
         ensures { (d : Draft) → Charts d [] result }
     {
@@ -93,7 +93,7 @@ impl Chart {
         }
     }
 
-    /// An actor takes part.
+    /// Makes an actor participate.
     fn enter(&mut self, actor: ActorName) -> Result<(), AllocError>
         ensures { OnOk result (TakesPart (same_actor actor) false self.old self.new) }
     {
@@ -103,7 +103,7 @@ impl Chart {
         Ok(self.actors.push(actor)?)
     }
 
-    /// ENV or an actor takes part.
+    /// Makes ENV or an actor participate.
     fn enter_as(&mut self, address: Address) -> Result<(), AllocError>
         ensures { OnOk result (TakesPart (is_address address.party address.instance) (is_outside address.party) self.old self.new) }
     {
@@ -119,7 +119,7 @@ impl Chart {
         }
     }
 
-    /// Who sent what a turn took takes part.
+    /// Makes the sender of a turn's stimulus participate.
     fn enter_sender(&mut self, sender: Option<Address>) -> Result<(), AllocError>
         ensures { OnOk result (TakesPart (is_sender sender) (came_from_outside sender) self.old self.new) }
     {
@@ -129,7 +129,7 @@ impl Chart {
         }
     }
 
-    /// Whoever is drawn with an effect takes part.
+    /// Makes the receiver drawn with an effect participate.
     fn enter_receiver(
         &mut self,
         set: &Verified,
@@ -151,7 +151,7 @@ impl Chart {
         }
     }
 
-    /// Whoever is drawn with effects takes part.
+    /// Makes the receivers drawn with effects participate.
     fn enter_receivers(
         &mut self,
         set: &Verified,
@@ -168,7 +168,7 @@ impl Chart {
         Ok(())
     }
 
-    /// Whoever is drawn with a turn takes part.
+    /// Makes all that are drawn with a turn participate.
     fn enter_all(&mut self, set: &Verified, ended: &Ended) -> Result<(), AllocError>
         ensures { OnOk result ((o : Outcome) → outcome_of ended.now.done ≡ Some o
             → TakesPart (λ x. is_in set.now x (end_of ended.now o)) (has_outside (end_of ended.now o)) self.old self.new) }
@@ -178,7 +178,7 @@ impl Chart {
         self.enter_receivers(set, ended.me, &ended.report.lost, ended.done.effects())
     }
 
-    /// The rows of a turn.
+    /// Appends the rows of a turn.
     fn push_rows(&mut self, alloc: Global, set: &Verified, ended: &Ended) -> Result<(), AllocError>
         ensures rows { OnOk result ((o : Outcome) → outcome_of ended.now.done ≡ Some o
             → self.new.rows.items ≡ self.old.rows.items ++ (time_text self.old.clock ended.now.clock ++ row_text set.now (end_of ended.now o))) }
@@ -195,7 +195,7 @@ impl Chart {
         Ok(())
     }
 
-    /// Draws a turn that ended, where it is one of those that are to be drawn, and does anything.
+    /// Draws a turn that ended, if its number is in the range and it isn't dull.
     fn draw(&mut self, alloc: Global, set: &Verified, ended: &Ended) -> Result<(), AllocError>
         ensures { OnOk result ((ts : List TurnEnd) (t : TurnEnd) → IsEnd ended.now t → Charts set.now ts self.old → Charts set.now (ts ++ t ∷ []) self.new) }
     {
@@ -207,14 +207,14 @@ impl Chart {
         Ok(())
     }
 
-    /// Whether the environment stands at the head: where it takes part, and where no turn is drawn.
+    /// Whether the environment has a column: if it participates, or if no turn is drawn.
     fn has_environment(&self) -> bool
         ensures { result ≡ (self.now.environment || is_none self.now.clock) }
     {
         self.environment || self.clock.is_none()
     }
 
-    /// Who takes part, the environment first, and then actors in the order of the text.
+    /// The columns of the participants: the environment first, then the actors in the order of the text.
     fn all_columns(&self, alloc: Global, set: &Verified) -> Result<Columns, AllocError>
         ensures { IfOk result (λ c. HasColumns (columns_of set.now (self.now.environment || is_none self.now.clock) self.now.actors.items) c) }
     {
@@ -223,7 +223,7 @@ impl Chart {
         Ok(columns)
     }
 
-    /// The chart of the turns that were drawn, whose actors are those of a set. It fails where it is one of other turns than these.
+    /// Returns the chart of the turns drawn; `set` has their actors. An error if `cut` isn't the chart's own range.
     pub(crate) fn text(
         &self,
         alloc: Global,

@@ -1,4 +1,4 @@
-//! The columns of a chart: who takes part, in the order of the text.
+//! The columns of a chart: its participants, in the order of the text.
 ghost use Rattle.std.specs.Prelude.{◌≡◌, ◌+◌, ◌++◌, ◌∷◌, [], List, filter, map, codes, if◌then◌else◌, OnOk, IfOk};
 ghost use Rattle.std.specs.List.{list_any};
 ghost use Rattle.turn_check.specs.Named.{instances_at};
@@ -12,7 +12,7 @@ use std::alloc::{AllocError, Global};
 use turn_check::Verified;
 use turn_code::{InstanceNumber, ProcessNumber};
 
-/// Columns on their way: their heads, each behind a comma and a space, and how many there are.
+/// Columns under way: their heads, with a comma and a space before each, and their number.
 #[derive(Drop)]
 pub(crate) struct Columns {
     pub(crate) text: Vec<u8>,
@@ -20,7 +20,7 @@ pub(crate) struct Columns {
 }
 
 impl Columns {
-    /// The column of ENV, where it is wanted, or none.
+    /// The column of ENV, if `environment` is true; else no column.
     pub(crate) fn new(alloc: Global, environment: bool) -> Result<Columns, AllocError>
         ensures { IfOk result (λ c. HasColumns (if environment then codes "ENV" ∷ [] else []) c) }
     {
@@ -35,7 +35,7 @@ impl Columns {
     }
 }
 
-/// A number of processes or of instances, which are few.
+/// A number of processes or of instances as an octet; an error if it doesn't fit.
 fn narrow(number: usize) -> Result<u8, AllocError>
     ensures { IfOk result (λ n. n ≡ number) }
 {
@@ -45,14 +45,14 @@ fn narrow(number: usize) -> Result<u8, AllocError>
     }
 }
 
-/// Whether an actor is among others.
+/// Whether an actor is one of these.
 pub(crate) fn has(actors: &[ActorName], actor: ActorName) -> bool
     ensures { result ≡ takes_part actors.now actor }
 {
     actors.iter().any(|it| it.same(actor))
 }
 
-/// An actor as it stands at the head of a chart.
+/// Appends an actor as a column head of a chart.
 fn push_named(
     alloc: Global,
     text: &mut Vec<u8>,
@@ -67,7 +67,7 @@ fn push_named(
     Ok(text.push(b']')?)
 }
 
-/// One more of a number. It fails where 64 bits don't count it.
+/// A number plus one; an error if it exceeds 64 bits.
 fn one_more(count: u64) -> Result<u64, AllocError>
     ensures { IfOk result (λ n. n ≡ count + 1) }
 {
@@ -77,7 +77,7 @@ fn one_more(count: u64) -> Result<u64, AllocError>
     }
 }
 
-/// The column of an actor.
+/// Appends the column of an actor.
 fn push_column(
     alloc: Global,
     columns: &mut Columns,
@@ -92,7 +92,7 @@ fn push_column(
     Ok(())
 }
 
-/// The column of an actor, where it is among these.
+/// Appends the column of an actor, if it is one of these.
 fn push_where(
     alloc: Global,
     columns: &mut Columns,
@@ -108,7 +108,7 @@ fn push_where(
     Ok(())
 }
 
-/// The columns of those instances of a process that are among these.
+/// Appends the columns of those instances of a process that are among these.
 fn push_instances(
     alloc: Global,
     columns: &mut Columns,
@@ -125,7 +125,7 @@ fn push_instances(
     Ok(())
 }
 
-/// The columns of those actors of a set that are among these, in the order of the text.
+/// Appends the columns of those actors of a set that are among these, in the order of the text.
 pub(crate) fn push_columns(
     alloc: Global,
     columns: &mut Columns,

@@ -1,4 +1,4 @@
-//! The command `play` with what is told at its end of the text of its set: what of it was taken, in the format of lcov.
+//! The command `play` with a report at its end on the coverage of the set's text, in the format of lcov.
 ghost use Rattle.std.specs.Prelude.{◌≡◌, ◌⊎◌, ℕ, List, IfSome, Option as Maybe, Some};
 ghost use Rattle.plain_text.specs.Reading.{Keeps, IsReading};
 ghost use Rattle.sdl_ast.specs.Views.{block_of};
@@ -18,7 +18,7 @@ use std::str;
 use turn_check::Verified;
 use turn_code::StateNumber;
 
-/// Who is told of a run, and knows what its turns took of a text.
+/// A watcher that keeps the coverage of a text.
 #[derive(Drop)]
 struct Covering<'a, 'b> {
     coverage: TextCoverage<'a, 'b>,
@@ -46,7 +46,7 @@ impl Watcher for Covering<'_, '_> {
     }
 }
 
-/// Runs the script of a text that was read, and tells what was taken of the text of its set, which has these tables.
+/// Runs the script of a text that was read, and reports the coverage of its set's text, which has these tables.
 fn cover_block<T: Write, W: Write, E: Write>(
     alloc: Global,
     set: &Verified,
@@ -78,7 +78,7 @@ fn cover_block<T: Write, W: Write, E: Write>(
     }
 }
 
-/// The same with the text alone.
+/// Runs the script of a text that was read, and reports the coverage of its set's text.
 fn cover<T: Write, W: Write, E: Write>(
     alloc: Global,
     set: &Verified,
@@ -111,7 +111,7 @@ fn cover<T: Write, W: Write, E: Write>(
     }
 }
 
-/// The same of the bytes of a text.
+/// Runs the script of a text that was read, and reports the coverage of its set's text, which has these bytes.
 fn cover_set<T: Write, W: Write, E: Write>(
     alloc: Global,
     set: &Verified,
@@ -136,7 +136,7 @@ fn cover_set<T: Write, W: Write, E: Write>(
     }
 }
 
-/// Runs a script on the set of a text, which has these bytes.
+/// Runs a script on the set of a text, which has these bytes, and reports the text's coverage. Returns the exit status.
 fn cover_bytes<R: Read + Drop, T: Write, W: Write, E: Write>(
     alloc: Global,
     bytes: &[u8],
@@ -166,7 +166,7 @@ fn cover_bytes<R: Read + Drop, T: Write, W: Write, E: Write>(
     }
 }
 
-/// Runs a script on the set of a text of the program's own.
+/// Runs a script on the set of a built-in text, and reports the text's coverage. Returns the exit status.
 fn cover_own<R: Read + Drop, T: Write, W: Write, E: Write>(
     alloc: Global,
     text: &str,
@@ -189,7 +189,7 @@ fn cover_own<R: Read + Drop, T: Write, W: Write, E: Write>(
     cover_bytes(alloc, bytes, usual, name, script, out, writer, errors)
 }
 
-/// Tells that a text has more octets than a text may have. Gives the exit status.
+/// Writes that a text has more octets than allowed. Returns the exit status.
 fn tell_too_long<E: Write>(alloc: Global, name: &str, errors: &mut E) -> u8
     ensures { result ≡ 4 }
 {
@@ -198,7 +198,7 @@ fn tell_too_long<E: Write>(alloc: Global, name: &str, errors: &mut E) -> u8
     FAILED
 }
 
-/// Runs a script on the set of a text that was read.
+/// Runs a script on the set of a text that was read, and reports the text's coverage. Returns the exit status.
 fn cover_read<R: Read + Drop, T: Write, W: Write, E: Write>(
     alloc: Global,
     of_set: &TextRead,
@@ -233,11 +233,11 @@ fn cover_read<R: Read + Drop, T: Write, W: Write, E: Write>(
     )
 }
 
-/// Runs a script of a book or of a terminal as `play` does without the lines of its commands, and tells at its end, or at an expectation that
-/// fails, which transitions, answers and lines of the set's text were taken, in the format of lcov, in which the text's file has this name.
+/// Runs a script of a book or of a terminal as `play` does without an echo. At its end, or at an expectation that
+/// fails, it reports the coverage of the set's text in the format of lcov; `name` is the file name of the text in it.
 ///
-/// Gives the exit status, as `play` does: 4 where the write to `out` fails too, where a terminal's journal begins anew within a command, as it does
-/// behind 32,768 events, for a script of a link set, and where the text has more octets than a text may have.
+/// Returns the exit status, as `play` does. It is also 4 if the write to `out` fails, if a terminal's journal restarts
+/// within a command (after 32,768 events), for a script of a link set, and if the text has more octets than allowed.
 pub(crate) fn play_covered<S: Read + Drop, R: Read + Drop, T: Write, W: Write, E: Write>(
     alloc: Global,
     set: SetWord<S>,

@@ -1,4 +1,4 @@
-//! The command `play`: a script, run on a set of processes, or on a terminal.
+//! The command `play`: runs a script on a process set, on a terminal or on a link set.
 #![tactic(auto)]
 
 mod captured_groups;

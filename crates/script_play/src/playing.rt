@@ -19,23 +19,23 @@ use std::io::{Read, Write};
 use std::str;
 use turn_check::Verified;
 
-/// Runs a script on a set of processes, or, where its first line is `terminal basic`, `terminal cyclic` or `terminal cyclic N1 N2`, on a signalling link terminal over
-/// that set, or, where it is `group basic N` or `group cyclic N`, on N links between two points with such terminals; and prints a line for each
-/// command but `on` and `expect`, and for each unit that goes out.
+/// Runs a script on a process set, and prints a line for each command except `on` and `expect`, and for each signal
+/// unit sent. If its first line is `terminal basic`, `terminal cyclic` or `terminal cyclic N1 N2`, it runs on a
+/// signalling link terminal that runs the set. If that is `group basic N` or `group cyclic N`, it runs on N links
+/// between two points with such terminals.
 ///
-/// The cyclic retransmission of a terminal is forced within the usual limits, unless the script's first line is `terminal cyclic N1 N2`.
+/// The usual limits force a terminal's cyclic retransmission, unless the first line is `terminal cyclic N1 N2`.
 ///
-/// Where `echo` says so each command's line of the script stands in front of what it prints: `> ` and its words, parted by one space.
+/// If `echo` is true, each command's line precedes its output: `> ` and its words, separated by one space.
 ///
-/// Both texts are read whole before anything is written: the set, then the script. A refusal of the set comes before one of
-/// the script, a line of the script that is none is refused before anything runs, and then a set that lacks a name that a terminal wants, for
-/// a script of a terminal or of links. A line goes out in one write.
+/// Both texts are read whole, the set and then the script, before anything is written. A refusal of the set comes
+/// before one of the script. A bad line of the script is refused before anything runs; then a set that lacks a name
+/// that a terminal needs, for a script of a terminal or of links. Each line is one write.
 ///
-/// Gives the exit status: 0 where each command ran and its line was written, 1 after `failed line N` where an expectation
-/// failed, 2 after a line `refused CODE Name ..` alone where the set or the script was refused, or 4 where memory, a read or
-/// a write fails. Nothing is written after a write that failed. Why a line is none of a script (X1), and why a signal is refused by B3, is told on
-/// `errors`, a line each (that it is written there tests alone show). Where the set is refused, the lines that point at the place are told there
-/// behind its name, as `check` does.
+/// Returns the exit status. 0: each command ran and its line was written. 1: an expectation failed (`failed line N`).
+/// 2: the set or the script was refused (only `refused CODE Name ..`). 4: out of memory, or a read or a write failed.
+/// Nothing is written after a write that failed. `errors` gets a line for each reason why a line is bad (X1) or a
+/// signal is refused (B3); only tests show that. For a refused set it gets what `check` writes there.
 pub fn play<S: Read + Drop, R: Read + Drop, W: Write, E: Write>(
     alloc: Global,
     set: SetWord<S>,
@@ -66,7 +66,7 @@ pub fn play<S: Read + Drop, R: Read + Drop, W: Write, E: Write>(
     }
 }
 
-/// Writes the fault of a script. Gives the exit status.
+/// Writes the fault of a script. Returns the exit status.
 pub(crate) fn refuse_script<W: Write>(alloc: Global, writer: &mut W, fault: ScriptFault) -> u8
     ensures printed { result ≡ 2 → PrintsFault fault (W.contents writer.old) (W.contents writer.new) }
     ensures status { (result ≡ 2) ⊎ (result ≡ 4) }
@@ -77,7 +77,7 @@ pub(crate) fn refuse_script<W: Write>(alloc: Global, writer: &mut W, fault: Scri
     }
 }
 
-/// Tells why a line of a text is none of a script.
+/// Writes why a line of a text doesn't belong in a script.
 pub(crate) fn explain<E: Write>(alloc: Global, text: &str, fault: ScriptFault, errors: &mut E) {
     let ScriptFault::BadLine(line) = fault else {
         return;
@@ -91,7 +91,7 @@ pub(crate) fn explain<E: Write>(alloc: Global, text: &str, fault: ScriptFault, e
     }
 }
 
-/// Tells that a text is too long for a script.
+/// Writes that a text is too long for a script.
 pub(crate) fn explain_length<E: Write>(alloc: Global, line: usize, errors: &mut E) {
     let _told = write_line(
         alloc,
@@ -100,7 +100,7 @@ pub(crate) fn explain_length<E: Write>(alloc: Global, line: usize, errors: &mut 
     );
 }
 
-/// Runs the script of a text that was read.
+/// Runs the script of a text that was read. Returns the exit status.
 fn play_text<W: Write, E: Write>(
     alloc: Global,
     set: &Verified,
@@ -136,7 +136,7 @@ fn play_text<W: Write, E: Write>(
     }
 }
 
-/// Runs a script of a book or of a terminal.
+/// Runs a script of a book or of a terminal. Returns the exit status.
 fn play_other<W: Write, E: Write>(
     alloc: Global,
     set: &Verified,
@@ -157,7 +157,7 @@ fn play_other<W: Write, E: Write>(
     }
 }
 
-/// Runs a script.
+/// Runs a script. Returns the exit status.
 fn play_script<W: Write, E: Write>(
     alloc: Global,
     set: &Verified,
@@ -178,7 +178,7 @@ fn play_script<W: Write, E: Write>(
     }
 }
 
-/// Runs a script of a book or of a terminal, and shows the lines of its text.
+/// Runs a script of a book or of a terminal, and echoes the lines of its text. Returns the exit status.
 fn show_other<W: Write, E: Write>(
     alloc: Global,
     set: &Verified,
@@ -201,7 +201,7 @@ fn show_other<W: Write, E: Write>(
     }
 }
 
-/// Runs a script, and shows the lines of its text.
+/// Runs a script, and echoes the lines of its text. Returns the exit status.
 fn show_script<W: Write, E: Write>(
     alloc: Global,
     set: &Verified,
@@ -224,7 +224,7 @@ fn show_script<W: Write, E: Write>(
     }
 }
 
-/// Runs the script of a text, and shows its lines where that is asked for.
+/// Runs the script of a text, and echoes its lines if `echo` is true. Returns the exit status.
 fn run_script<W: Write, E: Write>(
     alloc: Global,
     set: &Verified,

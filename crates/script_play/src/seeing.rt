@@ -1,4 +1,4 @@
-//! The command `play` with what is wanted of its run in a file.
+//! The command `play` with a view of its run in a file.
 ghost use Rattle.std.specs.Prelude.{◌≡◌, ◌⊎◌, IfSome};
 ghost use Rattle.script_check.specs.Checked.{given, IsAccepted};
 ghost use Rattle.script_play.specs.Played.{IsOnSet, IsRefused};
@@ -14,26 +14,26 @@ use script_seen::RoundLimits;
 use std::alloc::Global;
 use std::io::{Read, Write};
 
-/// What of a run goes to a file.
+/// The view of a run that goes to a file.
 #[derive(Clone, Copy, PartialEq, Eq, Debug)]
 pub enum Wanted {
-    /// A trace of what happens; whether what has no effect is traced too.
+    /// A trace of events; `true`: also of those without effect.
     Trace(bool),
-    /// A capture of the units that go out and come in; whether every unit is captured.
+    /// A capture of the signal units sent and received; `true`: of every unit.
     Capture(bool),
-    /// What is told at its end.
+    /// A report at the end.
     AtEnd(Told),
-    /// What turns took of the set's text, in the format of lcov.
+    /// The coverage of the set's text, in the format of lcov.
     Coverage,
 }
 
-/// Runs a script as `play` does without the lines of its commands, and writes what is wanted of the run to `out`: a trace or a capture as it runs, or at
-/// its end, or at an expectation that fails, a chart of its turns, what was thrown away, or what turns took of the set's text, which is called by the name
-/// there.
+/// Runs a script as `play` does without an echo, and writes a view of the run to `out`. A trace or a capture is written
+/// as the script runs. A chart, a report of discarded items, or the coverage of the set's text is written at the end,
+/// or at an expectation that fails; `name` is the file name of the set's text.
 ///
-/// Gives the exit status, as `play` does: 4 where a write to `out` fails too, where a terminal's journal begins anew within a command, as it does
-/// behind 32,768 events, and for a script of a link set, but with a capture; with a capture for a script of a book; and with coverage where the set's
-/// text has more octets than a text may have.
+/// Returns the exit status, as `play` does. It is also 4 in these cases: a write to `out` fails; a terminal's journal
+/// restarts within a command (after 32,768 events); a link set's script has a view other than a capture; a book's
+/// script has a capture; the set's text has more octets than allowed, with coverage.
 pub fn play_seen<S: Read + Drop, R: Read + Drop, T: Write, W: Write, E: Write>(
     alloc: Global,
     set: SetWord<S>,

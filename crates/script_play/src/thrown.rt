@@ -1,4 +1,4 @@
-//! Which signals in which states were thrown away, and how often.
+//! The signals discarded, by state, and how often.
 ghost use Rattle.std.specs.Prelude.{◌≡◌, ◌<◌, ◌+◌, ◌++◌, [], List, length, position, OnOk, IfOk, IfSome};
 ghost use Rattle.std.specs.List.{flat_map};
 ghost use Rattle.script_seen.specs.Watched.{Throw as OneThrow};
@@ -14,7 +14,7 @@ use std::io;
 use turn_check::Verified;
 use turn_code::{ProcessNumber, StateNumber, Trigger};
 
-/// What was thrown away in a state of a process, and how often.
+/// An item discarded in a state of a process, and how often.
 #[derive(Clone, Copy, PartialEq, Eq, Debug)]
 pub struct Throw {
     process: ProcessNumber,
@@ -23,14 +23,14 @@ pub struct Throw {
     times: u64,
 }
 
-/// What was thrown away, in the order of the first time.
+/// The items discarded, in the order of first occurrence.
 #[derive(Drop)]
 pub struct Thrown {
     throws: Vec<Throw>,
 }
 
 impl Throw {
-    /// Whether it is the same signal or timer, thrown away in the same state.
+    /// Whether both are the same signal or timer, discarded in the same state.
     fn is_same(&self, other: &Throw) -> bool
         ensures { result ≡ same_throw self.now other.now }
     {
@@ -39,7 +39,7 @@ impl Throw {
             && same_trigger(self.trigger, other.trigger)
     }
 
-    /// The same, thrown away once more. It fails where that was so often that 64 bits don't count it.
+    /// The item, discarded once more; an error if the count exceeds 64 bits.
     fn once_more(&self) -> Result<Throw, AllocError>
         ensures { IfOk result (λ t. t ≡ record self.now { times = self.now.times + 1 }) }
     {
@@ -55,7 +55,7 @@ impl Throw {
     }
 }
 
-/// The line of what was thrown away in a state.
+/// Appends the line of a discarded item.
 fn push_throw(
     alloc: Global,
     text: &mut Vec<u8>,
@@ -74,7 +74,7 @@ fn push_throw(
     Ok(text.push(b'\n')?)
 }
 
-/// The lines of what was thrown away, one behind another.
+/// Appends the lines of discarded items, one after another.
 fn push_throws(
     alloc: Global,
     text: &mut Vec<u8>,
@@ -90,7 +90,7 @@ fn push_throws(
 }
 
 impl Thrown {
-    /// Before anything was thrown away.
+    /// Returns empty counts.
     pub(crate) fn new(alloc: Global) -> Thrown
         ensures { CountsThrown [] result }
     {
@@ -99,7 +99,7 @@ impl Thrown {
         }
     }
 
-    /// Where it is counted how often something was thrown away, if it was.
+    /// The index of an item's count, if it was discarded before.
     fn number(&self, throw: &Throw) -> Option<usize>
         ensures first { result ≡ position (λ (c : Counted). same_throw c throw.now) self.now.throws.items }
         ensures within { IfSome result (λ n. n < length self.now.throws.items) }
@@ -107,7 +107,7 @@ impl Thrown {
         self.throws.iter().position(|known| known.is_same(throw))
     }
 
-    /// Something is thrown away. It fails where there is no memory, or it was so often that 64 bits don't count it.
+    /// Counts a discarded item; an error if memory runs out or the count exceeds 64 bits.
     fn count(&mut self, throw: Throw) -> Result<(), AllocError>
         ensures { OnOk result (self.new.throws.items ≡ counted_throw throw self.old.throws.items) }
     {
@@ -121,7 +121,7 @@ impl Thrown {
         }
     }
 
-    /// An actor throws an item away in a state.
+    /// Counts an item that an actor discards in a state.
     fn count_item(
         &mut self,
         me: ActorName,
@@ -138,7 +138,7 @@ impl Thrown {
         })
     }
 
-    /// What was thrown away: PROCESS STATE/SIGNAL and how often, a line each.
+    /// The report: a line PROCESS STATE/SIGNAL with the count for each item.
     pub(crate) fn text(&self, alloc: Global, set: &Verified) -> Result<Vec<u8>, AllocError>
         ensures { IfOk result (λ v. (xs : List OneThrow) → CountsThrown xs self.now → v.items ≡ thrown_text set.now xs) }
     {

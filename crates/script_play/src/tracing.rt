@@ -21,7 +21,7 @@ use std::io::{Read, Write};
 use std::str;
 use turn_check::Verified;
 
-/// Runs a script of a book or of a terminal, and traces it.
+/// Runs a script of a book or of a terminal, and traces it. Returns the exit status.
 fn trace_other<W: Write, T: Write, E: Write>(
     alloc: Global,
     set: &Verified,
@@ -53,7 +53,7 @@ fn trace_other<W: Write, T: Write, E: Write>(
     }
 }
 
-/// Runs a script, and traces it.
+/// Runs a script, and traces it. Returns the exit status.
 fn trace_script<W: Write, T: Write, E: Write>(
     alloc: Global,
     set: &Verified,
@@ -87,7 +87,7 @@ fn trace_script<W: Write, T: Write, E: Write>(
     }
 }
 
-/// Runs the script of a text that was read, and traces it.
+/// Runs the script of a text that was read, and traces it. Returns the exit status.
 fn trace_text<W: Write, T: Write, E: Write>(
     alloc: Global,
     set: &Verified,
@@ -127,12 +127,12 @@ fn trace_text<W: Write, T: Write, E: Write>(
     }
 }
 
-/// Runs a script as `play` does without the lines of its commands, and traces it: to `trace` goes each command's line of the script, but of
-/// `state`, `value`, `measure NAME` and `expect`, and behind it a line for each event that happened by it, as the journal of its actors has them.
-/// Where `every` says so, signals that are thrown away have a line too, and turns that keep their state and have no effect.
+/// Runs a script as `play` does without an echo, and traces it to `trace`: each command's line of the script, except
+/// for `state`, `value`, `measure NAME` and `expect`, followed by a line for each event that it caused, in the order of
+/// the journal. If `every` is true, discarded signals and dull turns (same state, no effect) have lines too.
 ///
-/// Gives the exit status, as `play` does: 4 where a write to `trace` fails too, and where the journal of a terminal, or of a link of a set, begins anew
-/// within a command.
+/// Returns the exit status, as `play` does. It is also 4 if a write to `trace` fails, or if the journal of a terminal,
+/// or of a link of a set, restarts within a command.
 pub(crate) fn play_traced<S: Read + Drop, R: Read + Drop, W: Write, T: Write, E: Write>(
     alloc: Global,
     set: SetWord<S>,

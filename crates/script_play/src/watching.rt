@@ -1,4 +1,4 @@
-//! The command `play` with what is told of its run at the end: a chart, or which signals were thrown away.
+//! The command `play` with a report at its end: a chart, or the signals discarded.
 ghost use Rattle.std.specs.Prelude.{◌≡◌, ◌⊎◌, ℕ, [], List, IfSome};
 ghost use Rattle.plain_text.specs.Reading.{Keeps};
 ghost use Rattle.script_check.specs.Checked.{given, IsAccepted};
@@ -24,7 +24,7 @@ use std::io::{Read, Write};
 use std::str;
 use turn_check::Verified;
 
-/// Runs a script of a book or of a terminal, and tells a watcher what happens.
+/// Runs a script of a book or of a terminal, and notifies a watcher of its events. Returns the exit status.
 fn watch_other<N: Watcher, W: Write, E: Write>(
     alloc: Global,
     set: &Verified,
@@ -48,7 +48,7 @@ fn watch_other<N: Watcher, W: Write, E: Write>(
     }
 }
 
-/// Tells that of a script of a link set nothing is told at its end. Gives the exit status.
+/// Writes that a script of a link set has no report at its end. Returns the exit status.
 fn lacks_watcher<E: Write>(alloc: Global, errors: &mut E) -> u8
     ensures { result ≡ 4 }
 {
@@ -60,7 +60,7 @@ fn lacks_watcher<E: Write>(alloc: Global, errors: &mut E) -> u8
     FAILED
 }
 
-/// Runs a script, and tells a watcher what happens.
+/// Runs a script, and notifies a watcher of its events. Returns the exit status.
 fn watch_script<N: Watcher, W: Write, E: Write>(
     alloc: Global,
     set: &Verified,
@@ -86,7 +86,7 @@ fn watch_script<N: Watcher, W: Write, E: Write>(
     }
 }
 
-/// Runs the script of a text that was read, and tells a watcher what happens.
+/// Runs the script of a text that was read, and notifies a watcher of its events. Returns the exit status.
 pub(crate) fn watch_text<N: Watcher, W: Write, E: Write>(
     alloc: Global,
     set: &Verified,
@@ -123,7 +123,7 @@ pub(crate) fn watch_text<N: Watcher, W: Write, E: Write>(
     }
 }
 
-/// Writes what is told of a run that came to its end, or to an expectation that failed. Gives the exit status.
+/// Writes the report of a run that came to its end, or to an expectation that failed. Returns the exit status.
 pub(crate) fn tell<T: Write>(status: u8, told: Result<Vec<u8>, AllocError>, out: &mut T) -> u8
     ensures status { (result ≡ status) ⊎ (result ≡ 4) }
     ensures told { (result ≡ 0) ⊎ (result ≡ 1) → IsToldTo told (T.contents out.old) (T.contents out.new) }
@@ -140,7 +140,7 @@ pub(crate) fn tell<T: Write>(status: u8, told: Result<Vec<u8>, AllocError>, out:
     }
 }
 
-/// Runs the script of a text that was read, and tells what was thrown away.
+/// Runs the script of a text that was read, and reports the signals discarded. Returns the exit status.
 fn tell_thrown<T: Write, W: Write, E: Write>(
     alloc: Global,
     set: &Verified,
@@ -162,7 +162,7 @@ fn tell_thrown<T: Write, W: Write, E: Write>(
     tell(status, thrown.text(alloc, set), out)
 }
 
-/// Runs the script of a text that was read, and draws a chart of its turns.
+/// Runs the script of a text that was read, and draws a chart of its turns. Returns the exit status.
 fn tell_chart<T: Write, W: Write, E: Write>(
     alloc: Global,
     set: &Verified,
@@ -185,16 +185,16 @@ fn tell_chart<T: Write, W: Write, E: Write>(
     tell(status, chart.text(alloc, set, cut), out)
 }
 
-/// What is told of a run at its end.
+/// The report at the end of a run.
 #[derive(Clone, Copy, PartialEq, Eq, Debug)]
 pub enum Told {
     /// A chart of these turns.
     Chart(Cut),
-    /// Which signals and timers were thrown away in which states, and how often.
+    /// The signals and timers discarded, by state, and how often.
     Thrown,
 }
 
-/// Runs the script of a text that was read, and tells this of it.
+/// Runs the script of a text that was read, and writes this report. Returns the exit status.
 fn tell_run<T: Write, W: Write, E: Write>(
     alloc: Global,
     set: &Verified,
@@ -218,12 +218,12 @@ fn tell_run<T: Write, W: Write, E: Write>(
     }
 }
 
-/// Runs a script of a book or of a terminal as `play` does without the lines of its commands, and tells this of it at its end, or at an expectation
-/// that fails: to `out` goes a chart of its turns in mscgen's language; or which signals and timers were thrown away in which states, and how often, a
-/// line `PROCESS STATE/SIGNAL N` for each, in the order of the first time.
+/// Runs a script of a book or of a terminal as `play` does without an echo. At its end, or at an expectation that
+/// fails, it writes a report to `out`: a chart of its turns in mscgen's language; or the signals and timers discarded,
+/// by state, a line `PROCESS STATE/SIGNAL N` for each with its count, in the order of first occurrence.
 ///
-/// Gives the exit status, as `play` does: 4 where the write to `out` fails too, where a terminal's journal begins anew within a command, as it does
-/// behind 32,768 events, and for a script of a link set.
+/// Returns the exit status, as `play` does. It is also 4 if the write to `out` fails, if a terminal's journal restarts
+/// within a command (after 32,768 events), and for a script of a link set.
 pub(crate) fn play_told<S: Read + Drop, R: Read + Drop, T: Write, W: Write, E: Write>(
     alloc: Global,
     set: SetWord<S>,

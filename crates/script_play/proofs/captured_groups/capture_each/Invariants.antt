@@ -1,4 +1,4 @@
--- The commands so far were obeyed, and captured.
+-- The commands so far were obeyed and captured.
 use Rattle.std.proofs.Common.{map, take}
 use Rattle.script_links.specs.GroupScripts.{plain_group_said}
 use Rattle.script_seen.specs.GroupRuns.{playing_of, last_of}

@@ -1,4 +1,4 @@
--- The units so far.
+-- The signal units sent so far.
 use Rattle.std.proofs.Common.{◌≡◌}
 use Rattle.script_seen.specs.GroupRuns.{last_of}
 use Rattle.script_play.proofs.SetOutGoing.{SetOutGoing}

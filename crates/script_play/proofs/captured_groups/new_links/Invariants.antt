@@ -1,4 +1,4 @@
--- The links so far.
+-- The links made so far.
 use Rattle.script_play.proofs.SetCaptures.{UnseenSoFar}
 use Rattle.script_play.proofs.captured_groups.new_links.Given as goal
 

@@ -1,4 +1,4 @@
--- The commands so far were obeyed, and captured.
+-- The commands so far were obeyed and captured.
 use Rattle.std.proofs.Common.{map, take}
 use Rattle.script_links.specs.TermScripts.{plain_term_said}
 use Rattle.script_seen.specs.TermRuns.{last_of}

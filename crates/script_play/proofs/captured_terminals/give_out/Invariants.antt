@@ -1,4 +1,4 @@
--- The units so far.
+-- The signal units sent so far.
 use Rattle.script_seen.specs.TermRuns.{last_of}
 use Rattle.script_play.proofs.OutGoing.{OutGoing}
 use Rattle.script_play.proofs.captured_terminals.give_out.Given as goal

@@ -1,4 +1,4 @@
--- The values so far, and those to come.
+-- The values written so far, and those still to write.
 use Rattle.std.proofs.Common.{◌≡◌, ◌++◌, drop}
 use Rattle.script_play.specs.Charted.{more_values}
 use Rattle.script_play.proofs.chart_rows.push_more.Given as goal

@@ -1,4 +1,4 @@
--- The outputs so far, and those to come.
+-- The outputs written so far, and those still to write.
 use Rattle.std.proofs.Common.{◌≡◌, ◌++◌, drop}
 use Rattle.script_play.specs.Charted.{outs_text}
 use Rattle.script_play.proofs.chart_rows.push_outputs.Given as goal

@@ -1,4 +1,4 @@
--- The columns of the processes so far.
+-- The columns of the processes so far are written.
 use Rattle.std.proofs.Common.{take}
 use Rattle.script_seen.specs.Names.{actors_of}
 use Rattle.script_play.specs.Charted.{HasMore}

@@ -1,4 +1,4 @@
--- The columns of the instances so far.
+-- The columns of the instances so far are written.
 use Rattle.std.proofs.Common.{take}
 use Rattle.turn_check.specs.Named.{instances_at}
 use Rattle.script_seen.specs.Names.{instances_from}

@@ -1,4 +1,4 @@
--- The lines so far, and those to come.
+-- The lines written so far, and those still to write.
 use Rattle.std.proofs.Common.{◌≡◌, ◌++◌, drop}
 use Rattle.std.specs.List.{flat_map}
 use Rattle.script_play.specs.Thrown.{throw_line}

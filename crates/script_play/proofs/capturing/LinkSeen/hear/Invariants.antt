@@ -1,4 +1,4 @@
--- The octets so far came.
+-- The octets so far were received.
 use Rattle.std.proofs.Common.{Bool, ℕ, List, Option, take}
 use Rattle.line_streams.specs.declared.seen.Seen.{Seen}
 use Rattle.script_play.specs.Captured.{IsCapturing}

@@ -1,4 +1,4 @@
--- The octets came so many times so far.
+-- The octets were received as many times as iterations have run.
 use Rattle.std.proofs.Common.{Bool, ℕ, List, Option}
 use Rattle.line_streams.specs.declared.seen.Seen.{Seen}
 use Rattle.script_play.specs.Captured.{repeated, IsCapturing}

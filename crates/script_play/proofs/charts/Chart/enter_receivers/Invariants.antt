@@ -1,4 +1,4 @@
--- Those who get the effects so far take part.
+-- The receivers of the effects so far participate.
 use Rattle.std.proofs.Common.{take}
 use Rattle.std.specs.List.{list_any}
 use Rattle.script_play.specs.Charted.{get_it, goes_outside, TakesPart}
