@@ -10,7 +10,7 @@ use Rattle.link_term.specs.Opening.{IsOver}
 use Rattle.link_term.specs.Kept.{window_of}
 use Rattle.trials_groups.specs.Opened.{AreNew}
 
--- it holds no message
+-- the terminal holds no message
 abbrev pub IsEmpty : Term → Type 0
 IsEmpty t = (window_of t).kept ≡ []
 

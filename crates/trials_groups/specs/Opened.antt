@@ -5,7 +5,7 @@ use Rattle.resend_store.specs.declared.messages.Mode.{Mode}
 use Rattle.link_term.specs.Term.{Term}
 use Rattle.link_term.specs.Opening.{IsOver}
 
--- so many over a set of processes
+-- so many new terminals over a set of processes
 pub record AreNew (d : Draft) (mode : Mode) (links : ℕ) (terminals : List Term) : Type 0 where
   pub number : length terminals ≡ links
   pub are_new : All (IsOver d mode) terminals

@@ -8,7 +8,7 @@ use set_tending::{Group, Mode};
 use std::alloc::Global;
 use turn_check::Verified;
 
-/// Makes all calls, and writes what they answer.
+/// Makes all calls, and writes their results.
 fn call_each(text: &mut String, group: &mut Group) -> Result<(), Stopped> {
     let mut first = FarEnd::new();
     let mut second = FarEnd::new();
@@ -18,12 +18,12 @@ fn call_each(text: &mut String, group: &mut Group) -> Result<(), Stopped> {
     give_them_up(text, group)
 }
 
-/// Makes each public call of a set of two links with terminals over a set of processes, and writes what it answers. What wants memory is called once more,
-/// since it changed nothing.
+/// Makes each public call of a set of two links with terminals over a set of processes, and writes the results. A call
+/// that runs out of memory is made once more, since it changed nothing.
 ///
 /// # Errors
 ///
-/// Where there is no memory, then once more; or a terminal isn't made over the set or refuses what it is told.
+/// If memory runs out twice, or a terminal isn't made over the set or refuses a command.
 pub fn make_calls(alloc: Global, text: &mut String, set: &Verified) -> Result<(), Stopped> {
     let mut group = open_set(alloc, set, Mode::Basic, 2, WAY)?;
     call_each(text, &mut group)

@@ -1,4 +1,4 @@
-//! Calls of a set. One that wants memory is made once more, since it changed nothing; what its clauses say ends here.
+//! Calls of a set. One that runs out of memory is made once more, since it changed nothing. Contracts end here.
 
 use set_tending::{
     AbandonError, CallError, Command, CommandError, Group, LineError, RetrieveError,
@@ -8,11 +8,11 @@ use std::alloc::AllocError;
 /// Why a trial stopped.
 #[derive(Clone, Copy)]
 pub enum Stopped {
-    /// There is no memory.
+    /// Memory ran out.
     NoMemory,
-    /// A terminal wasn't made or refused what it was told, or there is no such link.
+    /// A terminal wasn't made or refused a command, or there is no such link.
     Refused,
-    /// A line is no run.
+    /// A line isn't a run.
     BadLine,
 }
 
@@ -22,7 +22,7 @@ impl From<AllocError> for Stopped {
     }
 }
 
-/// Why a link didn't take a command; none for Start, where messages of its changeover aren't handed out yet.
+/// Why a link refused a command; none for Start before the messages of its changeover are retrieved.
 fn why_untold(error: CommandError) -> Option<Stopped> {
     match error {
         CommandError::Waiting => None,
@@ -32,7 +32,7 @@ fn why_untold(error: CommandError) -> Option<Stopped> {
     }
 }
 
-/// Gives a command to a link. Whether it took it: Start may have to wait.
+/// Gives a command to a link. Returns whether it accepted it: Start may have to wait.
 fn tell_once(group: &mut Group, link: usize, command: Command) -> Result<bool, Stopped> {
     match group.command(link, command) {
         Ok(()) => Ok(true),
@@ -43,7 +43,7 @@ fn tell_once(group: &mut Group, link: usize, command: Command) -> Result<bool, S
     }
 }
 
-/// The same, and once more where there was no memory.
+/// As `tell_once`, tried once more if memory runs out.
 pub fn tell(group: &mut Group, link: usize, command: Command) -> Result<bool, Stopped> {
     match tell_once(group, link, command) {
         Err(Stopped::NoMemory) => tell_once(group, link, command),
@@ -60,7 +60,7 @@ fn pass_once(group: &mut Group, ticks: u64) -> Result<(), Stopped> {
     }
 }
 
-/// The same, and once more where there was no memory.
+/// As `pass_once`, tried once more if memory runs out.
 pub fn pass(group: &mut Group, ticks: u64) -> Result<(), Stopped> {
     match pass_once(group, ticks) {
         Err(Stopped::NoMemory) => pass_once(group, ticks),
@@ -77,7 +77,7 @@ fn speak_once(group: &mut Group, link: usize, units: usize) -> Result<Vec<u8>, S
     }
 }
 
-/// The same, and once more where there was no memory.
+/// As `speak_once`, tried once more if memory runs out.
 pub fn speak(group: &mut Group, link: usize, units: usize) -> Result<Vec<u8>, Stopped> {
     match speak_once(group, link, units) {
         Err(Stopped::NoMemory) => speak_once(group, link, units),
@@ -85,12 +85,12 @@ pub fn speak(group: &mut Group, link: usize, units: usize) -> Result<Vec<u8>, St
     }
 }
 
-/// Gives a link line octets. How many it took; none where it isn't there.
+/// Gives a link line octets. Returns how many it took; none if there is no such link.
 pub fn take(group: &mut Group, link: usize, octets: &[u8]) -> usize {
     group.line_in(link, octets).unwrap_or(0)
 }
 
-/// Hands out the messages of a link, and answers how many there are; once more where there was no memory.
+/// Retrieves the messages of a link, and returns how many there are. Tried once more if memory runs out.
 pub fn retrieve(group: &mut Group, link: usize) -> Result<usize, RetrieveError> {
     match group.retrieve(link) {
         Err(RetrieveError::NoMemory) => group.retrieve(link),
@@ -98,7 +98,7 @@ pub fn retrieve(group: &mut Group, link: usize) -> Result<usize, RetrieveError> 
     }
 }
 
-/// Gives up those of which it isn't known whether they arrived, and answers how many are handed out; once more where there was no memory.
+/// Gives up the unsure messages, and returns how many are retrieved. Tried once more if memory runs out.
 pub fn abandon(group: &mut Group, link: usize) -> Result<usize, AbandonError> {
     match group.abandon(link) {
         Err(AbandonError::NoMemory) => group.abandon(link),

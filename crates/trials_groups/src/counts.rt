@@ -1,33 +1,33 @@
-//! What is counted at one end.
+//! The counts at one end.
 
 use crate::messages::{Way, place_of};
 use set_tending::Msu;
 
-/// Of how many numbers below the next one it is remembered whether they were left out: 16 times the bits of a word.
+/// How many numbers below the next one are remembered as left out or not: 16 times the bits of a word.
 const REMEMBERED: u32 = 1_024;
 
-/// How many messages went out and came in, in all and of each of 16 selections.
+/// How many messages were sent and received, in all and of each of 16 selections.
 #[derive(Clone, Copy)]
 pub struct Counts {
-    /// How many its set took to send.
+    /// How many messages its set took to send.
     pub sent: u32,
-    /// How many came.
+    /// How many messages were received.
     pub came: u32,
-    /// How many of those had come before.
+    /// How many of those had been received before.
     pub twice: u32,
-    /// How many of those came after a later one of their selection, for the first time.
+    /// How many of those were received for the first time, but after a later one of their selection.
     pub late: u32,
-    /// How many of those aren't what was sent.
+    /// How many of those differ from what was sent.
     pub altered: u32,
     sent_of: [u32; 16],
-    /// The number that comes next of each selection, or a later one where messages are missing.
+    /// The next expected number of each selection, or a later one if messages are missing.
     next_of: [u32; 16],
-    /// Which of the last numbers below that were left out, a bit each, by what is left of the number over 1,024.
+    /// Which of the last numbers below that were left out: one bit each, at the number modulo 1,024.
     left_out: [[u64; 16]; 16],
 }
 
 impl Counts {
-    /// Nothing yet.
+    /// All counts are 0.
     pub fn new() -> Counts {
         Counts {
             sent: 0,
@@ -41,26 +41,26 @@ impl Counts {
         }
     }
 
-    /// How many messages of a selection were taken.
+    /// How many messages of a selection the set took.
     pub fn sent_of(&self, selection: u8) -> u32 {
         self.sent_of[usize::from(selection % 16)]
     }
 
-    /// One more was.
+    /// Counts one more message of a selection that the set took.
     pub fn send(&mut self, selection: u8) {
         let place = usize::from(selection % 16);
         self.sent_of[place] = self.sent_of[place].wrapping_add(1);
         self.sent = self.sent.wrapping_add(1);
     }
 
-    /// How many came twice, out of order, or aren't what was sent.
+    /// How many were received twice, out of order, or altered.
     pub fn wrong(&self) -> u32 {
         self.twice
             .wrapping_add(self.late)
             .wrapping_add(self.altered)
     }
 
-    /// Notes whether a number of a selection was left out. Gives whether it was so noted before.
+    /// Notes whether a number of a selection was left out. Returns the earlier note.
     fn note(&mut self, place: usize, number: u32, is_out: bool) -> bool {
         let word = (number / 64 % 16) as usize;
         let bit = 1u64 << (number % 64);
@@ -73,7 +73,7 @@ impl Counts {
         before
     }
 
-    /// A message came of a number that is below the next one.
+    /// Counts a received message with a number below the next one.
     fn come_again(&mut self, place: usize, number: u32, next: u32) {
         let is_remembered = next.wrapping_sub(number) <= REMEMBERED;
         if is_remembered && self.note(place, number, false) {
@@ -83,7 +83,7 @@ impl Counts {
         }
     }
 
-    /// A message came of a number of a selection.
+    /// Counts a received message with a number of a selection.
     fn come(&mut self, selection: u8, number: u32) {
         let place = usize::from(selection % 16);
         let next = self.next_of[place];
@@ -99,7 +99,7 @@ impl Counts {
         self.next_of[place] = number.wrapping_add(1);
     }
 
-    /// A message came.
+    /// Counts a received message.
     pub fn take(&mut self, way: Way, msu: &Msu) {
         self.came = self.came.wrapping_add(1);
         match place_of(way, msu) {

@@ -1,6 +1,6 @@
 //! A seeded generator.
 
-/// What is drawn.
+/// The state of the generator.
 #[derive(Clone, Copy)]
 pub struct Dice {
     state: u64,
@@ -22,7 +22,7 @@ impl Dice {
         self.state >> 33
     }
 
-    /// Whether something that happens once in so often happens now; never where that is 0.
+    /// Whether an event with a chance of one in `often` happens now; never if `often` is 0.
     pub fn one_in(&mut self, often: u32) -> bool {
         let drawn = self.draw();
         often != 0 && drawn % u64::from(often) == 0

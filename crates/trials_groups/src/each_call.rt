@@ -1,4 +1,4 @@
-//! Each public call of a set, through unacknowledged messages with the numbers 126, 127, 0 and 1, and what it answers.
+//! Each public call of a set and its result, with unacknowledged messages numbered 126, 127, 0 and 1.
 
 use crate::calls::{Stopped, pass, serves, speak, tell};
 use crate::far_end::{FarEnd, fill_in, status};
@@ -13,10 +13,10 @@ use su_octets::Unit;
 /// From the set to the other point.
 pub const WAY: Way = Way { from: 1, to: 2 };
 
-/// How many ticks proving takes.
+/// How many ticks proving lasts.
 const PROVING: u64 = 8_200;
 
-/// Gives a set the message of a number and selection, and writes why it isn't taken, if it isn't.
+/// Gives a set the message with this number and selection, and writes why it is refused, if it is.
 fn give(
     text: &mut String,
     group: &mut Group,
@@ -33,7 +33,7 @@ fn give(
     }
 }
 
-/// Messages of numbers from one up to another.
+/// Gives messages with numbers from one up to another.
 fn give_all(text: &mut String, group: &mut Group, from: u32, to: u32) -> Result<(), AllocError> {
     for number in from..to {
         give(text, group, 0, number)?;
@@ -41,7 +41,7 @@ fn give_all(text: &mut String, group: &mut Group, from: u32, to: u32) -> Result<
     Ok(())
 }
 
-/// Writes what a link holds, whether it is in changeover, and whether its messages are handed out.
+/// Writes what a link holds, whether it is in changeover, and whether its messages are retrieved.
 fn write_link(text: &mut String, group: &Group, link: usize) -> Result<(), AllocError> {
     let held = group.held(link).unwrap_or(0);
     let sent = group.sent(link).unwrap_or(0);
@@ -53,7 +53,7 @@ fn write_link(text: &mut String, group: &Group, link: usize) -> Result<(), Alloc
     )
 }
 
-/// Writes which messages a link holds, by their numbers.
+/// Writes the numbers of the messages that a link holds.
 fn write_held(text: &mut String, group: &Group, link: usize) -> Result<(), AllocError> {
     text.push_str("holds")?;
     for place in 0..group.held(link).unwrap_or(0) {
@@ -73,7 +73,7 @@ fn write_number(text: &mut String, place: Option<(u8, u32)>) -> Result<(), Alloc
     }
 }
 
-/// The unit that goes out next on a link, and once more where there was no memory.
+/// The next unit that a link sends. Tried once more if memory runs out.
 fn unit_out(group: &mut Group, link: usize) -> Result<Option<Unit>, LineError> {
     match group.unit_out(link) {
         Err(LineError::NoMemory) => group.unit_out(link),
@@ -81,7 +81,7 @@ fn unit_out(group: &mut Group, link: usize) -> Result<Option<Unit>, LineError> {
     }
 }
 
-/// Writes the number with which the next message goes out.
+/// Writes the number of the next message sent.
 fn write_unit(text: &mut String, group: &mut Group, link: usize) -> Result<(), Stopped> {
     match unit_out(group, link) {
         Ok(Some(Unit::Msu(head, _, _))) => {
@@ -111,7 +111,7 @@ fn write_reports(text: &mut String, group: &mut Group, link: usize) -> Result<()
     writeln!(text, "{reports} reports")
 }
 
-/// Has a link say that it is proving.
+/// Lets a link hear that the far end is proving.
 fn align(group: &mut Group, far: &mut FarEnd, link: usize) -> Result<(), Stopped> {
     tell(group, link, Command::PowerOn)?;
     tell(group, link, Command::Start)?;
@@ -119,7 +119,7 @@ fn align(group: &mut Group, far: &mut FarEnd, link: usize) -> Result<(), Stopped
     far.say(group, link, &status(1))
 }
 
-/// Has both links come into service.
+/// Brings both links into service.
 pub fn bring_up(
     text: &mut String,
     group: &mut Group,
@@ -146,7 +146,7 @@ pub fn bring_up(
     Ok(())
 }
 
-/// Messages 126 to 129 go out with the numbers 126, 127, 0 and 1, and two more wait.
+/// Sends messages 126 to 129 with the numbers 126, 127, 0 and 1; two more wait.
 pub fn fill(text: &mut String, group: &mut Group, far: &mut FarEnd) -> Result<(), Stopped> {
     give_all(text, group, 0, 126)?;
     let _octets = speak(group, 0, 126)?;
@@ -164,7 +164,7 @@ pub fn fill(text: &mut String, group: &mut Group, far: &mut FarEnd) -> Result<()
     Ok(())
 }
 
-/// Writes what a message of changeover is answered by.
+/// Writes the answer to a changeover message.
 fn write_answer(text: &mut String, group: &mut Group, sif: &[u8]) -> Result<(), AllocError> {
     match group.changeover_message(sif).reply {
         Some(answer) => write_sif(text, answer.as_slice()),
@@ -181,7 +181,7 @@ fn write_sif(text: &mut String, sif: &[u8]) -> Result<(), AllocError> {
     text.push_str("\n")
 }
 
-/// The message of a field of changeover.
+/// The message with a changeover field.
 fn order_of(sif: &[u8]) -> Msu {
     let mut field = ArrayVec::new();
     let _fits = field.try_extend_from_slice(sif).is_ok();
@@ -191,7 +191,7 @@ fn order_of(sif: &[u8]) -> Msu {
     }
 }
 
-/// Gives a set a message of changeover without a link, and writes why it isn't taken.
+/// Gives a set a changeover message without a link, and writes why it is refused.
 fn give_bound(text: &mut String, group: &mut Group, sif: &[u8]) -> Result<(), AllocError> {
     let msu = order_of(sif);
     let Some(label) = label_of(&msu) else {
@@ -203,7 +203,7 @@ fn give_bound(text: &mut String, group: &mut Group, sif: &[u8]) -> Result<(), Al
     }
 }
 
-/// Gives a link a message of changeover, and writes whether it is taken.
+/// Gives a link a changeover message, and writes whether it is accepted.
 fn bind(text: &mut String, group: &mut Group, link: usize, sif: &[u8]) -> Result<(), AllocError> {
     let msu = order_of(sif);
     if !group.is_bound(&msu) {
@@ -215,7 +215,7 @@ fn bind(text: &mut String, group: &mut Group, link: usize, sif: &[u8]) -> Result
     }
 }
 
-/// The order for the first link goes by the second.
+/// Sends the order for the first link by the second.
 fn order(text: &mut String, group: &mut Group, sif: &[u8]) -> Result<(), AllocError> {
     write_sif(text, sif)?;
     give_bound(text, group, sif)?;
@@ -223,7 +223,7 @@ fn order(text: &mut String, group: &mut Group, sif: &[u8]) -> Result<(), AllocEr
     bind(text, group, 1, sif)
 }
 
-/// Writes whether messages were handed out.
+/// Writes whether messages were retrieved.
 fn write_given(text: &mut String, given: Given) -> Result<(), AllocError> {
     match given {
         Given::Out(count) => writeln!(text, "{count} in hand"),
@@ -231,7 +231,7 @@ fn write_given(text: &mut String, given: Given) -> Result<(), AllocError> {
     }
 }
 
-/// Writes whether what was handed out went on.
+/// Writes whether the retrieved messages were diverted.
 fn write_went(text: &mut String, went: Went) -> Result<(), AllocError> {
     match went {
         Went::On => text.push_str("diverted\n"),
@@ -240,7 +240,7 @@ fn write_went(text: &mut String, went: Went) -> Result<(), AllocError> {
     }
 }
 
-/// Writes whether selections were shared out anew.
+/// Rebalances the set, and writes whether it was refused.
 fn write_rebalanced(text: &mut String, group: &mut Group) -> Result<(), AllocError> {
     match group.rebalance() {
         Ok(()) => text.push_str("rebalanced\n"),
@@ -248,7 +248,7 @@ fn write_rebalanced(text: &mut String, group: &mut Group) -> Result<(), AllocErr
     }
 }
 
-/// How many links hand out messages.
+/// How many links have retrieved messages.
 fn hands(group: &Group) -> usize {
     let mut hands: usize = 0;
     for link in 0..group.len() {
@@ -259,7 +259,7 @@ fn hands(group: &Group) -> usize {
     hands
 }
 
-/// The first link fails; there message 127 came, the number of which is 127.
+/// The first link fails; the far side there accepted message 127, whose number is 127.
 pub fn change_over(text: &mut String, group: &mut Group) -> Result<(), Stopped> {
     match group.fail(0) {
         Ok(sif) => order(text, group, sif.as_slice())?,
@@ -280,7 +280,7 @@ pub fn change_over(text: &mut String, group: &mut Group) -> Result<(), Stopped> 
     Ok(())
 }
 
-/// The second link fails too, with the order and two messages sent, and it isn't known there which came.
+/// The second link fails too, after sending the order and two messages; it isn't known which of these arrived.
 pub fn give_them_up(text: &mut String, group: &mut Group) -> Result<(), Stopped> {
     let _octets = speak(group, 1, 3)?;
     tell(group, 1, Command::Stop)?;

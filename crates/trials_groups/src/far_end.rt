@@ -1,4 +1,4 @@
-//! The far end of one link: what it says.
+//! The far end of one link: the units that it sends.
 
 use crate::calls::{Stopped, take};
 use bit_line::Stuffer;
@@ -11,7 +11,7 @@ pub struct FarEnd {
     stuffer: Stuffer,
 }
 
-/// A unit that acknowledges messages up to a number, below 128, and has none.
+/// A fill-in unit that acknowledges messages up to a number below 128.
 pub fn fill_in(bsn: u8) -> Unit {
     Unit::Fisu(Head {
         bsn,
@@ -21,7 +21,7 @@ pub fn fill_in(bsn: u8) -> Unit {
     })
 }
 
-/// A status of the link.
+/// A link status signal unit.
 pub fn status(status: u8) -> Unit {
     Unit::Lssu(
         Head {
@@ -42,7 +42,7 @@ impl FarEnd {
         }
     }
 
-    /// Puts a unit on the line, of which a link hears all that it takes at once; the rest once more.
+    /// Puts a unit on the line. The link is passed the octets that it doesn't take once more.
     fn put(&mut self, group: &mut Group, link: usize, unit: &Unit) -> Result<(), Stopped> {
         if !unit.whole() {
             return Ok(());
@@ -57,7 +57,7 @@ impl FarEnd {
         }
     }
 
-    /// Says a unit twice, so that the first one is whole on the line.
+    /// Sends a unit twice, so that the first is whole on the line.
     pub fn say(&mut self, group: &mut Group, link: usize, unit: &Unit) -> Result<(), Stopped> {
         self.put(group, link, unit)?;
         self.put(group, link, unit)

@@ -1,4 +1,4 @@
-//! A set whose first link holds as many messages as may be.
+//! A set whose first link holds the greatest number of messages.
 
 use crate::calls::{Stopped, speak};
 use crate::each_call::{WAY, bring_up};
@@ -11,7 +11,7 @@ use set_tending::{Group, Mode};
 use std::alloc::Global;
 use turn_check::Verified;
 
-/// How many messages may be sent and not acknowledged, and how many may wait.
+/// How many messages may be unacknowledged, and how many may wait.
 const SENT: u32 = 127;
 
 const WAITING: u32 = 1_024;
@@ -22,7 +22,7 @@ pub struct FullSet {
     group: Group,
 }
 
-/// Has two new links come into service.
+/// Brings two new links into service.
 fn begin(alloc: Global, group: &mut Group) -> Result<(), Stopped> {
     let mut text = String::new(alloc);
     let mut first = FarEnd::new();
@@ -38,7 +38,7 @@ impl FullSet {
         Ok(FullSet { group })
     }
 
-    /// Gives the first link so many messages of its eight selections. How many it took.
+    /// Gives the first link so many messages of its eight selections. Returns how many it took.
     fn give(&mut self, count: u32) -> u32 {
         let mut taken = 0u32;
         for number in 0..count {
@@ -51,19 +51,19 @@ impl FullSet {
         taken
     }
 
-    /// 127 messages are taken and go out.
+    /// Gives and sends 127 messages.
     pub fn send_window(&mut self) -> Result<u32, Stopped> {
         let taken = self.give(SENT);
         let _octets = speak(&mut self.group, 0, SENT as usize)?;
         Ok(taken)
     }
 
-    /// 1,024 messages more are taken, and wait.
+    /// Gives 1,024 more messages, which wait.
     pub fn send_more(&mut self) -> u32 {
         self.give(WAITING)
     }
 
-    /// The first link fails, the far side accepted none of its messages, and all of them go to the second. How many that holds then.
+    /// Fails the first link, all unaccepted, and diverts its messages to the second. Returns how many that holds.
     pub fn divert(&mut self) -> Result<usize, Stopped> {
         let _order = self.group.fail(0).is_ok();
         let _answer = self

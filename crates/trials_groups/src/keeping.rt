@@ -1,18 +1,18 @@
-//! Messages that are handed out, and diverted.
+//! Retrieving messages, and diverting them.
 
 use crate::calls::{Stopped, abandon, retrieve};
 use set_tending::{AbandonError, DivertError, Group, RetrieveError};
 
-/// What became of messages that were to be handed out.
+/// The result of a retrieval.
 #[derive(Clone, Copy)]
 pub enum Given {
-    /// So many are handed out.
+    /// So many messages are retrieved.
     Out(usize),
-    /// Why they aren't.
+    /// Why the retrieval is refused.
     Refused(RetrieveError),
 }
 
-/// Hands out a link's messages, if that isn't refused.
+/// Retrieves a link's messages, if that isn't refused.
 pub fn hand_out(group: &mut Group, link: usize) -> Result<Given, Stopped> {
     match retrieve(group, link) {
         Ok(count) => Ok(Given::Out(count)),
@@ -21,7 +21,7 @@ pub fn hand_out(group: &mut Group, link: usize) -> Result<Given, Stopped> {
     }
 }
 
-/// Gives up what may or may not have arrived. How many messages are handed out, if it isn't refused.
+/// Gives up the unsure messages. Returns how many others are retrieved, if it isn't refused.
 pub fn give_up(group: &mut Group, link: usize) -> Result<Option<usize>, Stopped> {
     match abandon(group, link) {
         Ok(count) => Ok(Some(count)),
@@ -31,18 +31,18 @@ pub fn give_up(group: &mut Group, link: usize) -> Result<Option<usize>, Stopped>
     }
 }
 
-/// What became of messages that were to be diverted.
+/// The result of a diversion.
 #[derive(Clone, Copy)]
 pub enum Went {
-    /// All of them went.
+    /// All messages were diverted.
     On,
-    /// So many are not diverted yet.
+    /// So many messages aren't diverted yet.
     Left(usize),
-    /// None are handed out.
+    /// No messages are retrieved.
     Nowhere,
 }
 
-/// Diverts what a link handed out.
+/// Diverts a link's retrieved messages.
 pub fn divert(group: &mut Group, link: usize) -> Went {
     match group.divert(link) {
         Ok(()) => Went::On,

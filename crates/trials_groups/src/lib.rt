@@ -1,5 +1,5 @@
-//! Trials of link sets: two of them back to back, whose lines are cut and healed by a seeded schedule, two that tend themselves on lines on which faults come, and each public
-//! call of a set once.
+//! Trials of link sets: two back to back whose lines a seeded schedule cuts and heals, two with link management on
+//! lines with faults, and each public call of a set once.
 #![tactic(auto)]
 
 mod calling;

@@ -1,16 +1,16 @@
-//! Messages that tell where they belong: between which points, of which selection, and the how manieth of it.
+//! Messages that identify themselves: between which points, of which selection, and their number in it.
 
 use arrayvec::ArrayVec;
 use group_changeover::label_of;
 use set_tending::Msu;
 
-/// What stands behind a message's number, the first octets of it.
+/// The octets after a message's number; a message has the first few.
 const FILLER: [u8; 24] = [
     0xFF, 0x7E, 0x00, 0xFE, 0x3F, 0x5A, 0xFF, 0xFF, 0x11, 0x7E, 0x7E, 0xC3, 0x80, 0x01, 0xF8, 0x1F,
     0xAA, 0xFF, 0x3E, 0x99, 0x00, 0x00, 0xF7, 0xEF,
 ];
 
-/// From which point to which.
+/// The origin and the destination of a message.
 #[derive(Clone, Copy)]
 pub struct Way {
     pub from: u16,
@@ -24,7 +24,7 @@ fn label(way: Way, selection: u8) -> u32 {
         .wrapping_add(u32::from(selection).wrapping_mul(1 << 28))
 }
 
-/// The message of a number of a selection.
+/// The message with this number of this selection.
 pub fn message(way: Way, selection: u8, number: u32) -> Msu {
     let [a, b, c, d] = label(way, selection).to_le_bytes();
     let [e, f, g, h] = number.to_le_bytes();
@@ -37,7 +37,7 @@ pub fn message(way: Way, selection: u8, number: u32) -> Msu {
     Msu { sio: 0x83, sif }
 }
 
-/// The selection and the number of a message that came this way, if it is just that one.
+/// The selection and the number of a message sent this way, if it is exactly the original.
 pub fn place_of(way: Way, msu: &Msu) -> Option<(u8, u32)> {
     let selection = label_of(msu)?.sls;
     match msu.sif.as_slice() {

@@ -10,7 +10,7 @@ use set_tending::{Group, Mode, Terminal};
 use std::alloc::Global;
 use turn_check::Verified;
 
-/// One terminal more.
+/// Adds one terminal.
 fn push_terminal(
     alloc: Global,
     set: &Verified,
@@ -31,7 +31,7 @@ fn push_terminal(
     }
 }
 
-/// So many.
+/// So many new terminals.
 fn terminals(
     alloc: Global,
     set: &Verified,
@@ -50,7 +50,7 @@ fn terminals(
     Ok(terminals)
 }
 
-/// A new set of so many links, 1 to 16, at the end from which a way leads.
+/// A new set of so many links, 1 to 16, at the point from which a way leads.
 pub fn open_set(
     alloc: Global,
     set: &Verified,

@@ -7,10 +7,10 @@ use crate::run::Run;
 use crate::schedule::Schedule;
 use crate::set_end::SetEnd;
 
-/// How many rounds a run has at most.
+/// The greatest number of rounds in a run.
 const MOST_ROUNDS: u32 = 60_000;
 
-/// How many messages each end is given in a round, and how many units go one way on each link.
+/// How many messages each end is given in a round, and how many units each link sends one way.
 const GIVEN: u32 = 8;
 
 const UNITS: usize = 16;
@@ -18,10 +18,10 @@ const UNITS: usize = 16;
 /// How many milliseconds a round takes.
 const TICKS: u64 = 300;
 
-/// What a cut link hears in a round at most, and half of it at least.
+/// The octets that a cut link receives in a round: at most all of these, at least half.
 const ONES: [u8; 400] = [0xFF; 400];
 
-/// How many octets of 1s a cut link hears.
+/// How many octets of 1s a cut link receives.
 fn ones(dice: &mut Dice) -> usize
     ensures { result ≤ 400 }
 {
@@ -29,7 +29,7 @@ fn ones(dice: &mut Dice) -> usize
     200 + more
 }
 
-/// Units go one way on a link; on a cut one 1s come in their place.
+/// Carries units one way on a link; a cut one carries 1s instead.
 fn carry(
     from: &mut SetEnd,
     to: &mut SetEnd,
@@ -46,7 +46,7 @@ fn carry(
     }
 }
 
-/// Power on and start, on all links.
+/// Powers on and starts all links.
 fn switch_on(end: &mut SetEnd, links: usize) -> Result<(), Stopped> {
     for link in 0..links {
         end.switch_on(link)?;
@@ -64,7 +64,7 @@ fn give(end: &mut SetEnd, messages: u32, dice: &mut Dice) {
     }
 }
 
-/// What happens on one link in a round.
+/// One round of one link.
 fn work(
     schedule: &mut Schedule,
     near: &mut SetEnd,
@@ -85,7 +85,7 @@ fn work(
     Ok(())
 }
 
-/// A round.
+/// One round.
 fn round(
     schedule: &mut Schedule,
     near: &mut SetEnd,
@@ -111,7 +111,7 @@ fn round(
     far.wait(TICKS)
 }
 
-/// Rounds until nothing is to be done any more, or there were too many.
+/// Rounds until all is done, or there were too many.
 pub fn make_rounds(
     schedule: &mut Schedule,
     near: &mut SetEnd,

@@ -1,4 +1,4 @@
-//! Runs as they are written.
+//! The runs as written in a text.
 
 use set_tending::Mode;
 use std::str::SplitWhitespace;
@@ -12,9 +12,9 @@ pub struct Run {
     pub seed: u32,
     /// How many messages each end is to take.
     pub messages: u32,
-    /// One in so many messages of changeover is lost; 0 for none.
+    /// One in so many changeover messages is lost; 0 for none.
     pub lost: u32,
-    /// Whether messages of changeover come once more, late, and links fail two at a time.
+    /// Whether changeover messages are repeated late, and links fail two at a time.
     pub late: bool,
 }
 
@@ -47,7 +47,7 @@ fn plain_run(words: &mut SplitWhitespace<'_>) -> Option<Run> {
     })
 }
 
-/// The run of these words, if they are one and no more; `late` may stand behind the five.
+/// The run of a line of exactly five words; `late` may follow.
 pub fn run_of(line: &str) -> Option<Run> {
     let mut words = line.split_whitespace();
     let mut run = plain_run(&mut words)?;

@@ -1,50 +1,50 @@
 //! The rules by which lines are cut and healed.
 //!
-//! - While messages are to be sent, one link in service at both ends, of which no changeover goes on, is cut now and then.
-//! - A link that goes down at one end is cut too, for whatever reason it does.
-//! - What a cut link sends is lost, both ways; each end hears 1s.
-//! - An end calls `fail` for a link, and hears what is said of its changeover, only while that is down there.
-//! - A cut is healed some rounds after both ends have handed their messages out and no message of changeover about it is under way. Then both ends start the
-//!   link.
-//! - An end shares selections out anew once a link came into service, as soon as that isn't refused.
+//! - While messages remain to be sent, a link in service at both ends without changeover is cut now and then.
+//! - A link that goes down at one end, for whatever reason, is cut too.
+//! - All that a cut link sends is lost, both ways; each end receives 1s.
+//! - An end calls `fail` for a link, and receives its changeover messages, only while the link is down there.
+//! - A cut is healed some rounds after both ends retrieved the messages and no changeover message about the link is
+//!   under way. Then both ends start the link.
+//! - An end rebalances after a link came into service, as soon as that isn't refused.
 //!
-//! In a run that is late beside these:
+//! In a late run also:
 //!
-//! - Where one link is cut another one may be in the same round.
-//! - Half of the messages of changeover come once more, any time until the link is cut again, or was in service there for more than three rounds.
-//! - An end stops a link that is in service and held, and of which no changeover goes on.
+//! - If one link is cut, another may be cut in the same round.
+//! - Half of the changeover messages are repeated, until the link is cut again or served there for over 3 rounds.
+//! - An end stops a link that is in service and held, and has no changeover.
 
 use crate::calls::{Stopped, serves};
 use crate::dice::Dice;
 use crate::set_end::{MOST_MAIL, SetEnd};
 use set_tending::Sif;
 
-/// In how many rounds one link is cut, and one cut is healed.
+/// One link is cut, and one cut is healed, in so many rounds on average.
 const CUTS: u32 = 12;
 
 const HEALS: u32 = 6;
 
-/// For so many rounds behind a return to service a message may come once more: fewer than 1,400 ticks.
+/// For so many rounds after a return to service a message may be repeated: fewer than 1,400 ticks.
 const LATE_ROUNDS: u32 = 3;
 
-/// In how many rounds one such message comes.
+/// One such message is repeated in so many rounds.
 const REPEATS: u32 = 16;
 
-/// What happened to the links.
+/// The events of the links.
 #[derive(Clone, Copy)]
 pub struct Schedule {
     /// Whether each link is cut.
     cut: [bool; 16],
-    /// One in so many messages of changeover is lost; 0 for none.
+    /// One in so many changeover messages is lost; 0 for none.
     lost: u32,
     late: bool,
     pub cuts: u32,
-    /// How many messages of changeover were sent, and how many of them were lost.
+    /// How many changeover messages were sent, and how many of them were lost.
     pub orders: u32,
     pub losses: u32,
 }
 
-/// The link that a message of changeover speaks of.
+/// The link that a changeover message is about.
 fn link_in(sif: &Sif) -> usize {
     match sif.as_slice() {
         [_, _, _, selection, ..] => usize::from(*selection / 16),
@@ -52,14 +52,14 @@ fn link_in(sif: &Sif) -> usize {
     }
 }
 
-/// The same octets once more.
+/// A copy of these octets.
 fn copy_of(sif: &Sif) -> Sif {
     let mut copy = Sif::new();
     let _fits = copy.try_extend_from_slice(sif.as_slice()).is_ok();
     copy
 }
 
-/// What was to come once more about a link comes no more.
+/// Drops the messages about a link that were to be repeated.
 fn forget(end: &mut SetEnd, link: usize) {
     for _ in 0..end.late.len() {
         let Some(sif) = end.late.pop_front() else {
@@ -82,7 +82,7 @@ fn has_mail(end: &SetEnd, link: usize) -> bool {
 }
 
 impl Schedule {
-    /// No link is cut.
+    /// A schedule before any link is cut.
     pub fn new(lost: u32, late: bool) -> Schedule {
         Schedule {
             cut: [false; 16],
@@ -99,7 +99,7 @@ impl Schedule {
         self.cut[link % 16]
     }
 
-    /// Cuts a link, which has to be handed out at both ends.
+    /// Cuts a link, whose messages are then to be retrieved at both ends.
     fn cut(&mut self, near: &mut SetEnd, far: &mut SetEnd, link: usize) {
         let place = link % 16;
         self.cut[place] = true;
@@ -110,7 +110,7 @@ impl Schedule {
         forget(far, link);
     }
 
-    /// Cuts a link that isn't cut and works at both ends.
+    /// Cuts a link that isn't cut, and is in service at both ends without changeover.
     fn cut_free(&mut self, near: &mut SetEnd, far: &mut SetEnd, link: usize) {
         if !self.is_cut(link) && near.is_free(link) && far.is_free(link) {
             self.cut(near, far, link);
@@ -129,7 +129,7 @@ impl Schedule {
         }
     }
 
-    /// Looks whether a link went down.
+    /// Cuts a link that went down at an end.
     pub fn look(&mut self, near: &mut SetEnd, far: &mut SetEnd, link: usize) {
         let place = link % 16;
         if !self.is_cut(link) && (near.due[place] || far.due[place]) {
@@ -137,7 +137,7 @@ impl Schedule {
         }
     }
 
-    /// Heals a link some rounds after both ends have handed their messages out.
+    /// Heals a link some rounds after both ends retrieved its messages.
     pub fn heal(&mut self, near: &SetEnd, far: &SetEnd, link: usize, dice: &mut Dice) {
         let place = link % 16;
         if !self.is_cut(link) || near.due[place] || far.due[place] {
@@ -148,7 +148,7 @@ impl Schedule {
         }
     }
 
-    /// Sends a message of changeover to an end, or loses it. In a late run it may come once more.
+    /// Sends a changeover message to an end, or loses it. In a late run it may be repeated.
     pub fn send(&mut self, to: &mut SetEnd, sif: Sif, dice: &mut Dice) {
         self.orders = self.orders.wrapping_add(1);
         if self.late && to.late.len() < MOST_MAIL && dice.one_in(2) {
@@ -163,8 +163,8 @@ impl Schedule {
         }
     }
 
-    /// Hands an end the next message that is under way to it, if the link is down there, and sends the answer to the other; else it goes back to
-    /// those that are under way.
+    /// Delivers the next message under way to an end, if the link is down there, and sends the answer to the other end.
+    /// Otherwise it stays under way, after the others.
     fn deliver_one(&mut self, to: &mut SetEnd, from: &mut SetEnd, dice: &mut Dice) {
         let Some(sif) = to.mail.pop_front() else {
             return;
@@ -178,14 +178,14 @@ impl Schedule {
         }
     }
 
-    /// Hands an end all that is under way to it.
+    /// Delivers all messages under way to an end.
     pub fn deliver(&mut self, to: &mut SetEnd, from: &mut SetEnd, dice: &mut Dice) {
         for _ in 0..to.mail.len() {
             self.deliver_one(to, from, dice);
         }
     }
 
-    /// Hands an end a message that comes once more, and the other one the answer; or it is for later, or comes no more.
+    /// Repeats a message to an end, and delivers the answer to the other; or keeps it for later, or drops it.
     fn repeat_one(&self, to: &mut SetEnd, from: &mut SetEnd, dice: &mut Dice) {
         let Some(sif) = to.late.pop_front() else {
             return;
@@ -202,7 +202,7 @@ impl Schedule {
         }
     }
 
-    /// Hands an end what comes once more now.
+    /// Repeats to an end the messages that are due.
     pub fn repeat(&self, to: &mut SetEnd, from: &mut SetEnd, dice: &mut Dice) {
         for _ in 0..to.late.len() {
             self.repeat_one(to, from, dice);

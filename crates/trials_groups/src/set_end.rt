@@ -1,4 +1,4 @@
-//! One end: a set, and what is done with it.
+//! One end: a set and its trial.
 
 use crate::calls::{Stopped, pass, serves, speak, take, tell};
 use crate::counts::Counts;
@@ -7,7 +7,7 @@ use group_changeover::label_of;
 use set_tending::{Command, Group, LinkStatus, Report, Sif};
 use std::collections::VecDeque;
 
-/// How many messages of changeover may be on their way to one end.
+/// How many changeover messages may be under way to one end.
 pub const MOST_MAIL: usize = 64;
 
 /// One end of a pair.
@@ -17,22 +17,22 @@ pub struct SetEnd {
     pub counts: Counts,
     /// From this end to the other.
     way: Way,
-    /// Messages of changeover on their way to this end.
+    /// Changeover messages under way to this end.
     pub mail: VecDeque<Sif>,
-    /// Those of them that come once more, late.
+    /// Those of them that are repeated late.
     pub late: VecDeque<Sif>,
-    /// Whether each link is down, and its messages weren't handed out since.
+    /// Whether each link is down, and its messages weren't retrieved since.
     pub due: [bool; 16],
-    /// Whether each link was told to start since it went down.
+    /// Whether each link was started since it went down.
     started: [bool; 16],
     /// How many rounds ago each link came into service.
     back: [u32; 16],
-    /// Whether selections are to be shared out anew, since a link came into service.
+    /// Whether the set is to be rebalanced, since a link came into service.
     pub uneven: bool,
 }
 
 impl SetEnd {
-    /// An end at which nothing has happened.
+    /// A new end.
     pub fn new(group: Group, way: Way, mail: VecDeque<Sif>, late: VecDeque<Sif>) -> SetEnd {
         SetEnd {
             group,
@@ -58,13 +58,13 @@ impl SetEnd {
         }
     }
 
-    /// Switches a link on.
+    /// Powers a link on.
     pub fn switch_on(&mut self, link: usize) -> Result<(), Stopped> {
         tell(&mut self.group, link, Command::PowerOn)?;
         self.start(link)
     }
 
-    /// A link has to be started, unless it was.
+    /// Starts a link, unless it was started.
     pub fn start(&mut self, link: usize) -> Result<(), Stopped> {
         let place = link % 16;
         if !self.started[place] && tell(&mut self.group, link, Command::Start)? {
@@ -73,20 +73,20 @@ impl SetEnd {
         Ok(())
     }
 
-    /// A link went down.
+    /// Notes that a link went down.
     fn fall(&mut self, link: usize) {
         let place = link % 16;
         self.due[place] = true;
         self.started[place] = false;
     }
 
-    /// A link came into service.
+    /// Notes that a link came into service.
     fn come_back(&mut self, link: usize) {
         self.back[link % 16] = 0;
         self.uneven = true;
     }
 
-    /// Whether a link came into service no more than so many rounds ago, or is out of service.
+    /// Whether a link came into service at most so many rounds ago, or is out of service.
     pub fn is_new(&self, link: usize, rounds: u32) -> bool {
         !serves(&self.group, link) || self.back[link % 16] <= rounds
     }
@@ -113,7 +113,7 @@ impl SetEnd {
         }
     }
 
-    /// Takes part of line octets, and all reports; once more where none was taken, which is for want of memory.
+    /// Takes part of the line octets, and all reports; once more if none was taken, since memory ran out.
     fn hear_part(&mut self, link: usize, octets: &[u8]) -> Result<usize, Stopped> {
         for _ in 0..2u8 {
             let taken = take(&mut self.group, link, octets);
@@ -125,7 +125,7 @@ impl SetEnd {
         Err(Stopped::NoMemory)
     }
 
-    /// Takes line octets, all of them.
+    /// Takes all line octets.
     pub fn hear(&mut self, link: usize, octets: &[u8]) -> Result<(), Stopped> {
         let mut rest = octets;
         for _ in 0..octets.len() {
@@ -156,7 +156,7 @@ impl SetEnd {
         Ok(())
     }
 
-    /// Shares selections out anew, where that is wanted and not refused.
+    /// Rebalances the set, if due and not refused.
     pub fn rebalance(&mut self) {
         if self.uneven && self.group.rebalance().is_ok() {
             self.uneven = false;
@@ -168,7 +168,7 @@ impl SetEnd {
         serves(&self.group, link) && !self.group.in_changeover(link)
     }
 
-    /// Stops a link that is in service and held, and of which no changeover goes on: a late order may have come for it.
+    /// Stops a link that is in service and held without changeover: a late order may have arrived for it.
     pub fn stop_held(&mut self, link: usize) -> Result<(), Stopped> {
         match self.group.state(link) {
             Some(state) if state.held && self.is_free(link) => {
@@ -179,12 +179,12 @@ impl SetEnd {
         }
     }
 
-    /// Whether a link has nothing to do any more.
+    /// Whether a link is in service without changeover, and holds no messages.
     fn is_idle(&self, link: usize) -> bool {
         self.is_free(link) && self.group.held(link) == Some(0)
     }
 
-    /// Whether nothing is to be done any more, once so many messages were to be sent.
+    /// Whether all is done, given how many messages were to be sent.
     pub fn is_done(&self, messages: u32) -> bool {
         if self.counts.sent < messages || self.uneven || !self.mail.is_empty() {
             return false;

@@ -1,4 +1,4 @@
-//! What is shown of a run.
+//! The output of a run.
 
 use crate::counts::Counts;
 use crate::run::Run;
@@ -15,7 +15,7 @@ fn word_of(mode: Mode) -> &'static str {
     }
 }
 
-/// Writes the run, and what happened to the links.
+/// Writes the run, and the events of its links.
 fn write_head(text: &mut String, run: Run, schedule: &Schedule) -> Result<(), AllocError> {
     let Run {
         mode,
@@ -38,7 +38,7 @@ fn write_head(text: &mut String, run: Run, schedule: &Schedule) -> Result<(), Al
     )
 }
 
-/// What is to be said of one way. Messages that are missing may be no more than those that count as unsure where they were sent.
+/// The verdict on one way. No more messages may be missing than count as unsure at the sender.
 fn verdict(from: &Counts, to: &Counts, unsure: u64) -> &'static str {
     let missing = u64::from(from.sent.saturating_sub(to.came));
     if to.wrong() > 0 || to.came > from.sent {
@@ -52,7 +52,7 @@ fn verdict(from: &Counts, to: &Counts, unsure: u64) -> &'static str {
     }
 }
 
-/// Writes what went one way.
+/// Writes the messages of one way.
 fn write_way(text: &mut String, way: &str, from: &SetEnd, to: &SetEnd) -> Result<(), AllocError> {
     let sent = from.counts.sent;
     let came = to.counts.came;
@@ -64,7 +64,7 @@ fn write_way(text: &mut String, way: &str, from: &SetEnd, to: &SetEnd) -> Result
     )
 }
 
-/// Writes the same of a run that is late: each message came once, or counts as unsure.
+/// Writes the result of a late run: each message was received once, or counts as unsure.
 fn write_late(text: &mut String, run: Run, near: &SetEnd, far: &SetEnd) -> Result<(), AllocError> {
     let Run {
         mode,
@@ -83,7 +83,7 @@ fn write_late(text: &mut String, run: Run, near: &SetEnd, far: &SetEnd) -> Resul
     write_late_way(text, "far to near", far, near)
 }
 
-/// Writes what went one way of it.
+/// Writes the messages of one way of a late run.
 fn write_late_way(
     text: &mut String,
     way: &str,
@@ -99,7 +99,7 @@ fn write_late_way(
     writeln!(text, "  {way}: {verdict}")
 }
 
-/// Writes what came of a run.
+/// Writes the result of a run.
 pub fn write_run(
     text: &mut String,
     run: Run,

@@ -1,4 +1,4 @@
-//! Runs of two sets that tend themselves.
+//! Runs of two sets with link management.
 
 use crate::calls::Stopped;
 use crate::messages::Way;
@@ -17,7 +17,7 @@ const NEAR: u16 = 1;
 
 const FAR: u16 = 16_383;
 
-/// What goes ahead on lines whose octets come as they went.
+/// The octets sent first on lines that deliver as many octets as were sent.
 const AHEAD: [u8; 8] = [0xFF; 8];
 
 fn wires(alloc: Global, links: usize) -> Result<Vec<Wire>, Stopped> {
@@ -66,7 +66,7 @@ fn ties(alloc: Global, run: TendedRun) -> Result<Vec<Tie>, Stopped> {
     Ok(ties)
 }
 
-/// How many messages never came.
+/// How many messages were never received.
 fn missing(from: &TendedEnd, to: &TendedEnd) -> u64 {
     let came = to
         .counts
@@ -75,7 +75,7 @@ fn missing(from: &TendedEnd, to: &TendedEnd) -> u64 {
     u64::from(from.counts.sent.saturating_sub(came))
 }
 
-/// What is to be said of one way.
+/// The verdict on one way.
 fn verdict(from: &TendedEnd, to: &TendedEnd) -> &'static str {
     if to.counts.wrong() > 0 {
         "WRONG: some came twice or out of order"
@@ -86,12 +86,12 @@ fn verdict(from: &TendedEnd, to: &TendedEnd) -> &'static str {
     }
 }
 
-/// What is to be said of an end when all is over.
+/// The verdict on an end after the run.
 fn end_verdict(end: &TendedEnd) -> &'static str {
     if end.is_whole() { "whole" } else { "STUCK" }
 }
 
-/// Writes how many messages went one way.
+/// Writes how many messages were sent one way.
 fn write_sums(text: &mut String, from: &TendedEnd, to: &TendedEnd) -> Result<(), Stopped> {
     let sent = from.counts.sent;
     let came = to.counts.came;
@@ -111,7 +111,7 @@ fn write_sums(text: &mut String, from: &TendedEnd, to: &TendedEnd) -> Result<(),
     Ok(())
 }
 
-/// Writes what went one way, and how the end is from which it went.
+/// Writes the messages of one way, and the state of the end that sent them.
 fn write_way(
     text: &mut String,
     way: &str,
@@ -128,7 +128,7 @@ fn write_way(
     Ok(())
 }
 
-/// Writes what befell the lines.
+/// Writes the faults of the lines.
 fn write_faults(text: &mut String, faults: Faults) -> Result<(), Stopped> {
     let Faults {
         cuts,
@@ -146,7 +146,7 @@ fn write_faults(text: &mut String, faults: Faults) -> Result<(), Stopped> {
     Ok(())
 }
 
-/// Writes what came of a run.
+/// Writes the result of a run.
 fn write_run(
     text: &mut String,
     line: &str,
@@ -209,13 +209,14 @@ fn run_line(alloc: Global, text: &mut String, set: &Verified, line: &str) -> Res
     run_with(alloc, text, set, line, run, &mut near)
 }
 
-/// Makes the run of each line: `basic` or `cyclic`, how many links, the seed, for how many seconds faults come, how many milliseconds lie between two of them on
-/// average (0 for none), how many messages a second each end is given; then, as is wanted, `fifo`, `untested`, `orders`, `staggered`, `q703`, `sums`, `loud`. Writes whether messages came
-/// once, in order of their selections, none missing but as many as were told as unsure, and whether both ends are whole 40 seconds behind the last fault.
+/// Makes the run of each line: `basic` or `cyclic`, the number of links, the seed, the seconds with faults, the mean
+/// milliseconds between two (0 for none), messages a second for each end; then any of `fifo`, `untested`, `orders`,
+/// `staggered`, `q703`, `sums`, `loud`. Writes whether all but unsure messages arrived once, in order, and both ends
+/// are whole 40 seconds later.
 ///
 /// # Errors
 ///
-/// Where there is no memory, a line is no run, or a terminal isn't made over the set or refuses a tick.
+/// If memory runs out, a line isn't a run, or a terminal isn't made over the set or refuses a tick.
 pub fn run_tended(
     alloc: Global,
     text: &mut String,

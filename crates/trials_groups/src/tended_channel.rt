@@ -1,36 +1,36 @@
-//! A line between two sets that tend themselves, one way.
+//! One direction of a line between two sets with link management.
 
 use crate::calls::Stopped;
 use crate::dice::Dice;
 use std::collections::VecDeque;
 
-/// How many octets go in a round.
+/// How many octets are sent in a round.
 pub const OCTETS: usize = 8;
 
 /// How many octets may be under way; more are lost.
 const MOST: usize = 65_536;
 
-/// How many come at once at most behind a stall.
+/// How many octets at most arrive at once after a stall.
 pub const BURST: usize = 4_096;
 
-/// What happens to a line one way.
+/// The condition of one direction of a line.
 #[derive(Clone, Copy, PartialEq, Eq, Debug)]
 pub enum Weather {
-    /// Nothing.
+    /// No fault.
     Fair,
-    /// All that goes is lost.
+    /// All octets sent are lost.
     Cut,
-    /// Of so many bits one is flipped.
+    /// One in so many bits is flipped.
     Noise(u32),
-    /// Nothing moves.
+    /// No octet moves.
     Stall,
 }
 
-/// A line one way.
+/// One direction of a line.
 #[derive(Drop)]
 pub struct Channel {
     queue: VecDeque<u8>,
-    /// Whether so many octets come in each round, as from a card; else as many as went.
+    /// Whether a fixed number of octets arrives in each round, as from a card; otherwise as many as were sent.
     clocked: bool,
     pub weather: Weather,
 }
@@ -47,7 +47,7 @@ fn damaged(octet: u8, often: u32, dice: &mut Dice) -> u8 {
 }
 
 impl Channel {
-    /// Nothing is under way.
+    /// A channel with no octets under way.
     pub fn new(queue: VecDeque<u8>, clocked: bool) -> Channel {
         Channel {
             queue,
@@ -56,7 +56,7 @@ impl Channel {
         }
     }
 
-    /// Octets go.
+    /// Sends octets.
     pub fn put(&mut self, octets: &[u8]) -> Result<(), Stopped> {
         for octet in octets {
             if self.queue.len() < MOST && self.queue.push_back(*octet).is_err() {
@@ -66,7 +66,7 @@ impl Channel {
         Ok(())
     }
 
-    /// How many octets come now.
+    /// How many octets arrive now.
     fn due(&self) -> usize {
         match self.weather {
             Weather::Stall => 0,
@@ -76,7 +76,7 @@ impl Channel {
         }
     }
 
-    /// The next octet, as it comes.
+    /// The next octet, as it arrives.
     fn next(&mut self, dice: &mut Dice) -> u8 {
         let octet = self.queue.pop_front().unwrap_or(0xFF);
         match self.weather {
@@ -86,7 +86,7 @@ impl Channel {
         }
     }
 
-    /// Octets come.
+    /// Lets octets arrive.
     pub fn take(&mut self, part: &mut Vec<u8>, dice: &mut Dice) -> Result<(), Stopped> {
         part.clear();
         if self.weather == Weather::Cut && !self.clocked {

@@ -1,4 +1,4 @@
-//! One end of a pair of sets that tend themselves.
+//! One end of a pair of sets with link management.
 
 use crate::calls::Stopped;
 use crate::counts::Counts;
@@ -7,7 +7,7 @@ use crate::messages::{Way, message};
 use group_changeover::label_of;
 use set_tending::{Command, Msu, Passed, TendError, Tender, Told, Wire};
 
-/// How many octets go ahead on a line.
+/// How many octets are sent first on a line.
 const AHEAD: usize = 8;
 
 /// One end.
@@ -17,13 +17,13 @@ pub struct TendedEnd {
     wires: Vec<Wire>,
     pub counts: Counts,
     way: Way,
-    /// How many messages may have arrived or not, as was told.
+    /// How many messages may be lost, as reported.
     pub unsure: u64,
     pub changeovers: u32,
-    /// How often traffic restart allowed came.
+    /// How often traffic restart allowed was received.
     pub restarts: u32,
     pub silences: u32,
-    /// How often a message wasn't taken.
+    /// How often a message was refused.
     pub refused: u32,
     pub loud: bool,
 }
@@ -36,7 +36,7 @@ fn stopped_by(error: TendError) -> Stopped {
 }
 
 impl TendedEnd {
-    /// An end at which nothing has happened.
+    /// A new end.
     pub fn new(tender: Tender, wires: Vec<Wire>, way: Way, loud: bool) -> TendedEnd {
         TendedEnd {
             tender,
@@ -52,7 +52,7 @@ impl TendedEnd {
         }
     }
 
-    /// All links are switched on, and are to be in service.
+    /// Powers all links on, to come into service.
     pub fn switch_on(&mut self) {
         for link in 0..self.tender.len() {
             let _on = self.tender.obey(link, Command::PowerOn).is_ok();
@@ -76,7 +76,7 @@ impl TendedEnd {
         }
     }
 
-    /// Gives as many messages as are due.
+    /// Gives the messages that are due.
     pub fn give_due(&mut self, rate: u32, dice: &mut Dice) {
         for _message in 0..16u8 {
             let selection = dice.selection();
@@ -86,7 +86,7 @@ impl TendedEnd {
         }
     }
 
-    /// A round of a line.
+    /// One round of a line.
     pub fn pass(&mut self, link: usize, came: &[u8], out: &mut Vec<u8>) -> Result<(), Stopped> {
         out.clear();
         let Some(wire) = self.wires.get_mut(link) else {
@@ -100,7 +100,7 @@ impl TendedEnd {
         Ok(())
     }
 
-    /// Takes note of a message. One of network management is the other end's traffic restart allowed.
+    /// Notes a received message. One of network management is the other end's traffic restart allowed.
     fn heed_message(&mut self, msu: &Msu) {
         let Way { from, to } = self.way;
         if msu.sio % 16 == 0 {
@@ -110,7 +110,7 @@ impl TendedEnd {
         }
     }
 
-    /// Takes note of what is told.
+    /// Notes a report.
     fn heed(&mut self, text: &mut String, told: Told) -> Result<(), Stopped> {
         match &told {
             Told::Message(_, msu) => {
@@ -129,7 +129,7 @@ impl TendedEnd {
         Ok(())
     }
 
-    /// A round behind what came on all lines.
+    /// Completes a round after all lines received.
     pub fn round(&mut self, text: &mut String) -> Result<(), Stopped> {
         self.tender.tick().map_err(stopped_by)?;
         self.tender.tend().map_err(stopped_by)?;
@@ -142,7 +142,7 @@ impl TendedEnd {
         Ok(())
     }
 
-    /// Whether each link is in service and admitted, and nothing is left to do.
+    /// Whether each link is in service and admitted, and no work is left.
     pub fn is_whole(&self) -> bool {
         for link in 0..self.tender.len() {
             match self.tender.set().state(link) {

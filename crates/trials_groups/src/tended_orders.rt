@@ -1,4 +1,4 @@
-//! Orders at both ends by chance, each taken back some time later.
+//! Random orders at both ends, each taken back some time later.
 ghost use Rattle.std.specs.Prelude.{◌<◌};
 
 use crate::calls::Stopped;
@@ -7,19 +7,19 @@ use crate::tended_end::TendedEnd;
 use crate::tended_run::TendedRun;
 use set_tending::Command;
 
-/// In so many rounds links come into service first.
+/// For so many rounds at the beginning links come into service.
 const FIRST: u64 = 15_000;
 
-/// Which orders hold of the links of both ends, and until which round; 0 where none does.
+/// The orders in force on the links of both ends, and until which round; 0 if none is.
 #[derive(Clone, Copy)]
 pub struct Orders {
     until: [u64; 32],
     kinds: [u8; 32],
-    /// How many were given.
+    /// How many orders were given.
     pub count: u32,
 }
 
-/// An order that is to be given of a link at an end.
+/// An order to be given about a link at an end.
 #[derive(Clone, Copy)]
 struct Order {
     at: usize,
@@ -28,7 +28,7 @@ struct Order {
     until: u64,
 }
 
-/// What begins.
+/// The command that begins an order.
 fn order_of(kind: u8) -> Command {
     match kind {
         0 | 1 => Command::Outage,
@@ -39,7 +39,7 @@ fn order_of(kind: u8) -> Command {
     }
 }
 
-/// What ends it.
+/// The command that ends an order.
 fn order_behind(kind: u8) -> Command {
     match kind {
         0 | 1 => Command::Back,
@@ -49,14 +49,14 @@ fn order_behind(kind: u8) -> Command {
     }
 }
 
-/// Where what holds of a link of an end stands.
+/// The place of the order in force on a link of an end.
 fn place_of(at: usize, link: usize) -> usize
     ensures { result < 32 }
 {
     at % 2 * 16 + link % 16
 }
 
-/// How many rounds an order holds at most.
+/// How many rounds at most an order is in force.
 fn longest_of(drawn: u64) -> u64
     ensures { 0 < result }
 {
@@ -68,7 +68,7 @@ fn longest_of(drawn: u64) -> u64
 }
 
 impl Orders {
-    /// None was given.
+    /// No orders were given.
     pub fn new() -> Orders {
         Orders {
             until: [0; 32],
@@ -77,7 +77,7 @@ impl Orders {
         }
     }
 
-    /// What holds no longer is taken back.
+    /// Takes back the orders that are over.
     pub fn take_back(&mut self, end: &mut TendedEnd, at: usize, now: u64) {
         for link in 0..end.tender.len() {
             let place = place_of(at, link);
@@ -92,7 +92,7 @@ impl Orders {
         }
     }
 
-    /// An order is given, unless one holds of that link.
+    /// Gives an order, unless one is in force on that link.
     fn give(
         &mut self,
         end: &mut TendedEnd,
@@ -120,7 +120,7 @@ impl Orders {
         Ok(())
     }
 
-    /// The same at the end that the order names.
+    /// Gives an order at the end that it names.
     fn give_at(
         &mut self,
         near: &mut TendedEnd,
@@ -135,7 +135,7 @@ impl Orders {
         }
     }
 
-    /// Orders of a round: one, and now and then a stop of another link at the other end.
+    /// Gives a round's orders: one, and now and then a stop of another link at the other end.
     pub fn strike(
         &mut self,
         near: &mut TendedEnd,

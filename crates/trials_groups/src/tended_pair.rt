@@ -1,4 +1,4 @@
-//! Two sets that tend themselves, tied by lines, on which faults come.
+//! Two sets with link management, joined by lines with faults.
 
 use crate::calls::Stopped;
 use crate::dice::Dice;
@@ -7,25 +7,25 @@ use crate::tended_end::TendedEnd;
 use crate::tended_orders::Orders;
 use crate::tended_run::TendedRun;
 
-/// For how many rounds lines are fair at the end.
+/// For how many rounds at the end lines have no faults.
 const CALM: u64 = 40_000;
 
-/// A line both ways.
+/// A line in both directions.
 #[derive(Drop)]
 pub struct Tie {
     /// From the near end to the far one.
     pub over: Channel,
     /// From the far end to the near one.
     pub back: Channel,
-    /// The round at which it is fair again.
+    /// The round at which its fault ends.
     pub until: u64,
-    /// The round at which it is cut, where that is to come, else 0.
+    /// The round at which it is to be cut, or 0.
     pub cut_at: u64,
-    /// For how many rounds it is cut then.
+    /// For how many rounds it is then cut.
     pub cut_for: u64,
 }
 
-/// What a round needs room for.
+/// The buffers of a round.
 #[derive(Drop)]
 pub struct Parts {
     pub came: Vec<u8>,
@@ -45,14 +45,14 @@ pub struct Faults {
 }
 
 impl Tie {
-    /// The weather of both ways, up to a round.
+    /// Sets the condition of both directions until a round.
     fn befall(&mut self, over: Weather, back: Weather, until: u64) {
         self.over.weather = over;
         self.back.weather = back;
         self.until = until;
     }
 
-    /// It is cut later, for so many rounds.
+    /// Plans a cut at a round, for so many rounds.
     fn plan(&mut self, at: u64, rounds: u64) {
         self.cut_at = at;
         self.cut_for = rounds;
@@ -84,7 +84,7 @@ impl Faults {
         }
     }
 
-    /// Something befalls a line.
+    /// Causes a fault on a line.
     fn befall(
         &mut self,
         tie: &mut Tie,
@@ -128,7 +128,7 @@ impl Faults {
         Ok(())
     }
 
-    /// All lines are cut.
+    /// Cuts all lines.
     fn cut_all(&mut self, ties: &mut [Tie], now: u64, dice: &mut Dice) {
         self.totals = self.totals.wrapping_add(1);
         for tie in ties {
@@ -137,7 +137,7 @@ impl Faults {
         }
     }
 
-    /// All lines are cut, one after another, each for some 17 seconds.
+    /// Cuts all lines, one after another, each for about 17 seconds.
     fn cut_in_turn(&mut self, ties: &mut [Tie], now: u64, dice: &mut Dice) {
         self.staggered = self.staggered.wrapping_add(1);
         let first = (dice.draw() % 16) as usize;
@@ -150,7 +150,7 @@ impl Faults {
         }
     }
 
-    /// All lines are cut: in turn, where a run says so, else at once.
+    /// Cuts all lines: one after another if the run says so, otherwise at once.
     fn strike_all(&mut self, ties: &mut [Tie], now: u64, run: TendedRun, dice: &mut Dice) {
         if run.staggered {
             self.cut_in_turn(ties, now, dice);
@@ -159,7 +159,7 @@ impl Faults {
         }
     }
 
-    /// Faults of a round.
+    /// Causes the faults of a round.
     fn strike(
         &mut self,
         ties: &mut [Tie],
@@ -192,7 +192,7 @@ impl Faults {
     }
 }
 
-/// A round of one line.
+/// One round of one line.
 fn carry(
     near: &mut TendedEnd,
     far: &mut TendedEnd,

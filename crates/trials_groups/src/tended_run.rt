@@ -1,4 +1,4 @@
-//! Runs of two sets that tend themselves, as they are written.
+//! The runs of two sets with link management, as written in a text.
 
 use set_tending::Mode;
 use std::str::SplitWhitespace;
@@ -7,26 +7,26 @@ use std::str::SplitWhitespace;
 #[derive(Clone, Copy)]
 pub struct TendedRun {
     pub mode: Mode,
-    /// How many links, 1 to 16.
+    /// How many links there are, 1 to 16.
     pub links: usize,
     pub seed: u32,
-    /// For how many seconds faults come; 40 more follow without any.
+    /// For how many seconds faults occur; 40 more follow without any.
     pub seconds: u32,
-    /// How many milliseconds lie between two faults, on average; 0 for none.
+    /// The mean number of milliseconds between two faults; 0 for none.
     pub faults: u32,
-    /// How many messages each end is given in a second.
+    /// How many messages a second each end is given.
     pub rate: u32,
-    /// Whether octets come by a clock; else as many as went.
+    /// Whether octets arrive by a clock; otherwise as many as were sent.
     pub clocked: bool,
     /// Whether links are tested.
     pub tests: bool,
-    /// Whether orders come too, as often as faults.
+    /// Whether orders are given too, as often as faults.
     pub orders: bool,
     /// Whether all lines are cut one after another, and stay cut for long.
     pub staggered: bool,
-    /// Whether it is shown how many messages there were.
+    /// Whether the number of messages is shown.
     pub sums: bool,
-    /// Whether all that is told is shown.
+    /// Whether all reports are shown.
     pub loud: bool,
 }
 
@@ -45,7 +45,7 @@ fn number(words: &mut SplitWhitespace<'_>) -> Option<u32> {
     }
 }
 
-/// A word more. Of which set of processes a run is, whoever opens the sets says: `q703` changes nothing here.
+/// Applies one more word. `q703` changes nothing here: the opener of the sets chooses their processes.
 fn with_word(run: TendedRun, word: &str) -> Option<TendedRun> {
     match word {
         "fifo" => Some(TendedRun {

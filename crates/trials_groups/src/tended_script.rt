@@ -1,4 +1,4 @@
-//! Two sets that tend themselves, as a script says.
+//! Two sets with link management, driven by a script.
 
 use crate::calls::Stopped;
 use crate::dice::Dice;
@@ -11,7 +11,7 @@ use std::alloc::Global;
 use std::collections::VecDeque;
 use turn_check::Verified;
 
-/// How many octets go ahead on a line.
+/// How many octets are sent first on a line.
 const AHEAD: usize = 8;
 
 /// The name of the far end.
@@ -29,12 +29,12 @@ struct Side {
     wires: Vec<Wire>,
 }
 
-/// Lines in memory, octets as they come: from the near end to the far one, and back.
+/// Lines in memory, whose octets arrive as sent: from the near end to the far one, and back.
 #[derive(Drop)]
 struct Ties {
     over: Vec<Channel>,
     back: Vec<Channel>,
-    /// The link whose line comes back to the near end, if there is one: the far one hears nothing there.
+    /// The link whose line is looped back to the near end, if there is one. The far one receives nothing there.
     looped: Option<usize>,
 }
 
@@ -45,7 +45,7 @@ fn stopped_by(error: TendError) -> Stopped {
     }
 }
 
-/// As many lines one way, on each of which octets go ahead.
+/// So many channels, each with some octets sent first.
 fn channels(alloc: Global, links: usize) -> Result<Vec<Channel>, Stopped> {
     let mut channels = Vec::with_capacity(alloc, links)?;
     for _link in 0..links {
@@ -68,7 +68,7 @@ fn wires(alloc: Global, links: usize) -> Result<Vec<Wire>, Stopped> {
     Ok(wires)
 }
 
-/// An end at which nothing has happened.
+/// A new end.
 fn open_side(
     alloc: Global,
     set: &Verified,
@@ -92,7 +92,7 @@ fn open_side(
     })
 }
 
-/// What a word tells a link.
+/// The command that a word names.
 fn command_in(word: &str) -> Option<Command> {
     match word {
         "power" => Some(Command::PowerOn),
@@ -105,7 +105,7 @@ fn command_in(word: &str) -> Option<Command> {
 }
 
 impl Side {
-    /// A link is told something.
+    /// Gives a command to a link.
     fn obey(&mut self, text: &mut String, command: Command, link: usize) -> Result<(), Stopped> {
         if let Err(error) = self.tender.obey(link, command) {
             let name = self.name;
@@ -114,7 +114,7 @@ impl Side {
         Ok(())
     }
 
-    /// A link is, or all are.
+    /// Gives a command to a link or to all links.
     fn obey_word(
         &mut self,
         text: &mut String,
@@ -133,7 +133,7 @@ impl Side {
         }
     }
 
-    /// It is given the first message of a selection.
+    /// Gives the set the first message of a selection.
     fn send(&mut self, text: &mut String, word: &str) -> Result<(), Stopped> {
         let Ok(selection) = word.parse::<u8>() else {
             return Err(Stopped::BadLine);
@@ -149,7 +149,7 @@ impl Side {
         Ok(())
     }
 
-    /// Does what an order says.
+    /// Carries out an order.
     fn order(&mut self, text: &mut String, order: &str) -> Result<(), Stopped> {
         let Some((word, rest)) = order.split_once(' ') else {
             return Err(Stopped::BadLine);
@@ -163,7 +163,7 @@ impl Side {
         }
     }
 
-    /// A round of a line.
+    /// One round of a line.
     fn pass(&mut self, link: usize, came: &[u8], out: &mut Vec<u8>) -> Result<(), Stopped> {
         out.clear();
         let Some(wire) = self.wires.get_mut(link) else {
@@ -175,7 +175,7 @@ impl Side {
         }
     }
 
-    /// A round behind what came on all lines.
+    /// Completes a round after all lines received.
     fn round(&mut self, told: &mut String) -> Result<(), Stopped> {
         self.tender.tick().map_err(stopped_by)?;
         self.tender.tend().map_err(stopped_by)?;
@@ -190,7 +190,7 @@ impl Side {
     }
 }
 
-/// A round of a line.
+/// One round of a line.
 fn carry_one(
     near: &mut Side,
     far: &mut Side,
@@ -209,7 +209,7 @@ fn carry_one(
     back.put(out.as_slice())
 }
 
-/// A round of a line that comes back to the near end.
+/// One round of a line that is looped back to the near end.
 fn carry_back(
     near: &mut Side,
     far: &mut Side,
@@ -225,7 +225,7 @@ fn carry_back(
     far.pass(link, &[], out)
 }
 
-/// A round of all lines.
+/// One round of all lines.
 fn carry(
     near: &mut Side,
     far: &mut Side,
@@ -249,7 +249,7 @@ fn carry(
     Ok(())
 }
 
-/// So many rounds, and then what both ends told.
+/// So many rounds, and then the reports of both ends.
 fn run(
     alloc: Global,
     text: &mut String,
@@ -270,7 +270,7 @@ fn run(
     Ok(())
 }
 
-/// The weather of a line, both ways.
+/// Sets the condition of a line, in both directions.
 fn befall(ties: &mut Ties, link: usize, weather: Weather) {
     if let Some(channel) = ties.over.get_mut(link) {
         channel.weather = weather;
@@ -280,7 +280,7 @@ fn befall(ties: &mut Ties, link: usize, weather: Weather) {
     }
 }
 
-/// Does what a line says of lines, or of time.
+/// Carries out a script's line about lines or time.
 fn step_on(
     alloc: Global,
     text: &mut String,
@@ -312,7 +312,7 @@ fn step_on(
     }
 }
 
-/// Does what a line says.
+/// Carries out a script's line.
 fn step(
     alloc: Global,
     text: &mut String,
@@ -336,7 +336,7 @@ fn step(
     }
 }
 
-/// Does what all lines say.
+/// Carries out all of a script's lines.
 fn steps(
     alloc: Global,
     text: &mut String,
@@ -352,7 +352,7 @@ fn steps(
     Ok(())
 }
 
-/// How many links a script's first line says, and its other lines.
+/// The number of links in a script's first line, and its other lines.
 fn head(script: &str) -> Option<(usize, &str)> {
     let (first, rest) = script.split_once('\n')?;
     let number = first.strip_prefix("links ")?;
@@ -364,7 +364,7 @@ fn head(script: &str) -> Option<(usize, &str)> {
     }
 }
 
-/// The same with a near end.
+/// Runs a script with this near end.
 fn run_near(
     alloc: Global,
     text: &mut String,
@@ -382,14 +382,14 @@ fn run_near(
     steps(alloc, text, set, near, &mut far, &mut ties, lines)
 }
 
-/// Does what a script says, and writes what both ends told: `links N` first; then `near ORDER` and `far ORDER`; `run N`, so many rounds, behind which is
-/// written what was told, near's before far's; `cut L`, `loop L` (its line comes back to the near end) and `heal L`; `far anew`: a far end at which nothing
-/// has happened takes the place of the other. The near point is 1, the far one 2. An ORDER is `power`, `start`, `stop`, `outage` or `back` with a link or
-/// `all`, or `send` with a selection, whose first message is sent.
+/// Runs a script, and writes the reports of both ends. `links N` is first; then `near ORDER` and `far ORDER`; `run N`:
+/// so many rounds, then the reports, near's first; `cut L`, `loop L` (its line returns to the near end), `heal L`; `far
+/// anew`: a new far end. The near point is 1, the far one 2. An ORDER is `power`, `start`, `stop`, `outage` or `back`
+/// with a link or `all`, or `send` with a selection, whose first message is sent.
 ///
 /// # Errors
 ///
-/// Where there is no memory, or a line says nothing.
+/// If memory runs out, or a line isn't valid.
 pub fn run_script(
     alloc: Global,
     text: &mut String,

@@ -1,4 +1,4 @@
-//! What an end does for a link in changeover.
+//! The changeover steps of an end.
 
 use crate::calls::{Stopped, serves};
 use crate::dice::Dice;
@@ -6,7 +6,7 @@ use crate::keeping::{Given, Went, divert, give_up, hand_out};
 use crate::set_end::SetEnd;
 use set_tending::{Group, RetrieveError, Sif};
 
-/// Gives up what may or may not have arrived, now and then: a late answer may still come. Whether the rest is handed out.
+/// Now and then gives up the unsure messages: a late answer may still arrive. Returns whether the rest is retrieved.
 fn give_up_late(group: &mut Group, link: usize, dice: &mut Dice) -> Result<bool, Stopped> {
     if !dice.one_in(4) {
         return Ok(false);
@@ -14,7 +14,7 @@ fn give_up_late(group: &mut Group, link: usize, dice: &mut Dice) -> Result<bool,
     Ok(give_up(group, link)?.is_some())
 }
 
-/// Hands out a link's messages, if that isn't refused. Whether they are.
+/// Retrieves a link's messages, if that isn't refused. Returns whether they are retrieved.
 fn hand_out_late(group: &mut Group, link: usize, dice: &mut Dice) -> Result<bool, Stopped> {
     match hand_out(group, link)? {
         Given::Out(_) => Ok(true),
@@ -24,7 +24,7 @@ fn hand_out_late(group: &mut Group, link: usize, dice: &mut Dice) -> Result<bool
 }
 
 impl SetEnd {
-    /// The next step of a changeover that goes on: messages that are handed out are diverted, and else they are handed out.
+    /// The next step of a changeover that goes on: retrieved messages are diverted; otherwise messages are retrieved.
     fn go_on(&mut self, link: usize, dice: &mut Dice) -> Result<(), Stopped> {
         let place = link % 16;
         match divert(&mut self.group, link) {
@@ -39,7 +39,7 @@ impl SetEnd {
         Ok(())
     }
 
-    /// The next step for a link that is down or in changeover. The order to send, where its changeover begins here.
+    /// The next step for a link that is down or in changeover. Returns the order to send if changeover begins here.
     pub fn tend(&mut self, link: usize, dice: &mut Dice) -> Result<Option<Sif>, Stopped> {
         if self.group.in_changeover(link) {
             self.go_on(link, dice)?;

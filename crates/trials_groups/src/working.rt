@@ -25,7 +25,7 @@ fn open_end(alloc: Global, set: &Verified, run: Run, way: Way) -> Result<SetEnd,
     Ok(SetEnd::new(group, way, mail, late))
 }
 
-/// Makes a run, and writes what came of it.
+/// Makes a run, and writes its result.
 fn make_run(
     text: &mut String,
     near: &mut SetEnd,
@@ -38,7 +38,7 @@ fn make_run(
     Ok(())
 }
 
-/// Makes a run with one end, and the other made anew.
+/// Makes a run with one end; the other is new.
 fn run_with(
     alloc: Global,
     text: &mut String,
@@ -67,12 +67,13 @@ fn run_line(alloc: Global, text: &mut String, set: &Verified, line: &str) -> Res
     run_with(alloc, text, set, &mut near, run)
 }
 
-/// Makes the run of each line, and writes what came of it: `basic` or `cyclic`, how many links, the seed, how many messages each end takes, and one in how
-/// many messages of changeover is lost, 0 for none. `late` behind these has messages of changeover come once more, late, and links fail two at a time.
+/// Makes the run of each line, and writes its result: `basic` or `cyclic`, the links, the seed, the messages for each
+/// end, and one in how many changeover messages is lost (0: none). `late` repeats changeover messages and fails links
+/// in pairs.
 ///
 /// # Errors
 ///
-/// Where there is no memory, a line is no run, or a terminal isn't made over the set or refuses what it is told.
+/// If memory runs out, a line isn't a run, or a terminal isn't made over the set or refuses a command.
 pub fn run_sets(
     alloc: Global,
     text: &mut String,

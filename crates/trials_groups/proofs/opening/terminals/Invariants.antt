@@ -1,4 +1,4 @@
--- The terminals so far.
+-- The terminals made so far.
 use Rattle.trials_groups.specs.Opened.{AreNew}
 use Rattle.trials_groups.proofs.opening.terminals.Given as goal
 
