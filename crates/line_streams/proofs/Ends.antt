@@ -1,4 +1,4 @@
--- What is told at the end.
+-- Reports at the end.
 use Rattle.std.proofs.Common.{◌≡◌, ℕ, ◌+◌, ◌<◌, List, ◌++◌, Option, sym, ap, ◌∙◌, subst}
 use Rattle.rtrb.specs.Ring.{sent}
 use Rattle.line_filter.specs.Reporting.{lossy, GoesOn, went, counted, TellsLine}
@@ -9,7 +9,7 @@ use Rattle.line_streams.specs.declared.opening.ReportStream.{ReportStream}
 use Rattle.line_streams.specs.declared.opening.ReportStream.TheVariants.{Fifo as to_fifo}
 use Rattle.line_streams.specs.declared.outlet.Outlet.{Outlet}
 
--- told behind a look at the ring
+-- Reporting a line after a check of the ring.
 pub told_behind : (line : List ℕ) (a b c : Outlet) → sent b.ring ≡ sent a.ring → b.lost ≡ a.lost → TellsOn line b c → TellsOn line a c
 told_behind line a b c kept lost (goes text whole grown none) =
     let P : ℕ → Type 0 = λ n. IsToGo n line text in
@@ -18,7 +18,7 @@ told_behind line a b c kept lost (is_lost text whole few same more) =
     let P : ℕ → Type 0 = λ n. IsToGo n line text in
     is_lost text (subst P lost whole) few (same ∙ kept) (more ∙ ap (λ n. n + 1) lost)
 
--- a line that was told, as a line sees it
+-- A reported line, in the terms of line_filter's `GoesOn`.
 pub goes_on : (line : List ℕ) (a b : Outlet) → TellsOn line a b → GoesOn line (sent a.ring) a.lost (sent b.ring) b.lost
 goes_on line a b (goes text whole grown none) = went text whole grown none
 goes_on line a b (is_lost text whole few same more) = counted same more

@@ -1,4 +1,4 @@
--- One octet more each way, and what is recorded of it.
+-- One more octet in each direction, and the units recorded for it.
 use Rattle.std.proofs.Common.{◌≡◌, ℕ, ◌+◌, ◌*◌, Bool, true, false, List, [], ◌∷◌, ◌++◌, length, map, reverse, take, drop, Option, Some, None, refl, sym, ap, ◌∙◌, subst, append_assoc, length-append, arith}
 use Rattle.std.specs.List.{flat_map}
 use Rattle.std.specs.Io.KnownBytes.{Appends}
@@ -22,12 +22,12 @@ timed at n is = omega (arith, is)
 counted : (come : List ℕ) (octet : ℕ) → OCTET * (length come + 1) ≡ OCTET * length (come ++ octet ∷ [])
 counted come octet = ap (λ n. OCTET * n) (sym (length-append come (octet ∷ [])))
 
--- a capture before the first octet
+-- A capture before the first octet.
 pub first_captures : (c : Capture) → Stands [] c.gone → Stands [] c.come → c.at ≡ 0 → StandsFor c.link [] c.repeats → Captures [] [] [] c
 unfolding bits_of
 first_captures c out in_ at recalls = record { sees = nothing; out = out; in_ = in_; at = at; recalls = recalls }
 
--- a capture behind one exchange more
+-- A capture after one more exchange.
 pub exchanged : (before after : List ℕ) (seen middle last : List Seen) (gone come : ℕ) (sent heard : Option (List ℕ)) (old new : Capture)
     → Captures before after seen old → Ends before gone sent → Stands (bits_of (before ++ gone ∷ [])) new.gone
     → Ends after come heard → Stands (bits_of (after ++ come ∷ [])) new.come → new.link ≡ old.link → new.at ≡ old.at + 125
@@ -47,7 +47,7 @@ exchanged before after seen middle last gone come sent heard old new captures ou
       recalls = subst S (sym link) recalls;
     }
 
--- ---- the octets of the records
+-- ---- octets of the records
 
 turned_round : (x : Option Seen) → reverse (listed x) ≡ listed x
 turned_round None = refl
@@ -78,9 +78,9 @@ written before a b c every now seen more went came same is first second third =
     (Appends-trans before a c (capture_of every seen) (flat_map record_of (listed went) ++ flat_map record_of (listed came)) first
     (Appends-trans a b c (flat_map record_of (listed went)) (flat_map record_of (listed came)) second third))
 
--- ---- an exchange, from the two ways of it
+-- ---- an exchange, from its two directions
 
--- what is kept of a unit of one way
+-- The recorded unit of one direction.
 abbrev pub IsKeptBy : Capture → Bool → Option (List ℕ) → Option Seen → Repeats → Type 0
 IsKeptBy c went unit result new =
     (seen : List Seen) → StandsFor c.link (kept c.repeats.every seen) c.repeats → (more : List Seen) × IsUnit went c.link c.at unit seen more

@@ -1,4 +1,4 @@
--- Which units are recorded.
+-- The units that are recorded.
 use Rattle.std.proofs.Common.{◌≡◌, ℕ, Bool, true, false, List, ◌∷◌, Option, Some, option_map, refl, sym, ap, ◌∙◌, subst}
 use Rattle.arrayvec.specs.declared.array_vec.ArrayVec.{ArrayVec}
 use Rattle.line_streams.specs.declared.seen.Seen.{Seen}
@@ -6,7 +6,7 @@ use Rattle.line_streams.specs.declared.repeats.Repeats.{Repeats}
 use Rattle.line_streams.specs.Repeats.{is_kept, with_kept, kept, StandsFor}
 use Rattle.line_streams.specs.Capturing.{IsUnit}
 
--- one more unit, which is recorded or isn't
+-- One more unit, recorded or not.
 pub kept_more : (every keeps : Bool) (s : Seen) (seen : List Seen) (r : Repeats) → keeps ≡ is_kept every (kept every seen) s
     → StandsFor s.link (with_kept keeps s (kept every seen)) r → StandsFor s.link (kept every (s ∷ seen)) r
 kept_more every keeps s seen r are stands =

@@ -1,4 +1,4 @@
--- The unit that is reported.
+-- The unit that a receiver reports.
 use Rattle.std.proofs.Common.{◌≡◌, ℕ, ◌+◌, ◌≤◌, ◌<◌, zero, suc, List, [], ◌∷◌, ◌++◌, length, take, get_or, refl, sym, ap, ◌∙◌, subst, arith}
 use Rattle.std.proofs.lemmas.List.{take_more}
 use Rattle.std.proofs.lemmas.Grind.{flat_map-append}
@@ -14,14 +14,14 @@ use Rattle.bit_line.specs.declared.events.LineEvent.{LineEvent}
 use Rattle.bit_line.specs.declared.events.LineEvent.TheVariants as events
 use Rattle.line_streams.specs.Capturing.{Ends, listed, unit_of, units_of, without_check}
 
--- where nothing is closed, no unit is reported
+-- If nothing is closed, no unit is reported.
 none_closed : (es : List LineEvent) → closings es ≡ 0 → units_of es ≡ []
 none_closed [] none = refl
 none_closed (events.Unit octets ∷ es) none = absurd (omega (arith, none))
 none_closed (events.Errored ∷ es) none = absurd (omega (arith, none))
 none_closed (events.SixteenOctets ∷ es) none = none_closed es none
 
--- one event more reports none
+-- One more event without a unit.
 pub none_more : (es : List LineEvent) (i : ℕ) (d e : LineEvent) → i < length es → get_or es i d ≡ e → unit_of e ≡ [] → units_of (take i es) ≡ []
     → units_of (take (i + 1) es) ≡ []
 none_more es i d e within is none before =
@@ -34,7 +34,7 @@ few n h = omega (arith, h)
 fewer : (n : ℕ) → 1 + n ≤ 1 → n ≤ 1
 fewer n h = omega (arith, h)
 
--- the first one is the only one, where one content is closed at most
+-- The first unit is the only one if at most one content is closed.
 pub first_unit : (es : List LineEvent) (i : ℕ) (d e : LineEvent) (unit : List ℕ) → i < length es → get_or es i d ≡ e → unit_of e ≡ unit ∷ []
     → units_of (take i es) ≡ [] → closings es ≤ 1 → units_of es ≡ unit ∷ []
 first_unit [] i d e unit within is one none most = absurd (omega (arith, within))
@@ -49,7 +49,7 @@ first_unit (events.Errored ∷ es) (suc i) d e unit within is one none most =
 first_unit (events.SixteenOctets ∷ es) (suc i) d e unit within is one none most =
     first_unit es i d e unit (omega (arith, within)) is one none most
 
--- ---- the octet that ends a unit
+-- ---- an octet that ends a unit
 
 pub one_octet : (octets : List ℕ) (octet : ℕ) → bits_of octets ++ low_bits 8 octet ≡ bits_of (octets ++ octet ∷ [])
 unfolding bits_of

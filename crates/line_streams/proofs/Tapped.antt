@@ -1,4 +1,4 @@
--- What a tap has recorded, octet by octet.
+-- The records of a tap, octet by octet.
 use Rattle.std.proofs.Common.{◌≡◌, ℕ, ◌+◌, ◌-◌, ◌<◌, ◌≤◌, zero, suc, Bool, List, [], ◌∷◌, ◌++◌, length, map, take, drop, get_or, Option, refl, sym, ap, ◌∙◌, subst, append_assoc, append-nil, arith}
 use Rattle.std.specs.List.{flat_map}
 use Rattle.std.specs.Io.KnownBytes.{Appends}
@@ -18,7 +18,7 @@ turned_one : (bits : Bits) (xs all : List ℕ) (x y : ℕ) → y ≡ turned bits
 turned_one bits xs all x y is are =
     ap (λ z. map (turned bits) xs ++ z ∷ []) is ∙ sym (map_push (turned bits) xs x) ∙ ap (map (turned bits)) (sym are)
 
--- an octet more each way
+-- One more octet in each direction.
 pub tapped_one : {W S : Type 0} (contents : S → Option (List ℕ)) (before : Option (List ℕ)) (gone : List ℕ) (octet octet_in out come : ℕ) (seen : List Seen)
     (old new : OutTap W S) (mid : Option (List ℕ)) (went came : Option Seen) → HasTapped contents before gone seen old → new.bits ≡ old.bits
     → out ≡ turned old.bits octet → come ≡ turned old.bits octet_in → received new.octets ≡ received old.octets ++ octet_in ∷ []
@@ -42,7 +42,7 @@ tapped_one contents before gone octet octet_in out come seen old new mid went ca
       },
     )
 
--- ---- octets, one after another
+-- ---- octets in succession
 
 pub record Went {W S : Type 0} (contents : S → Option (List ℕ)) (octets : List ℕ) (old new : OutTap W S) : Type 0 where
   pub tapped : (before : Option (List ℕ)) (gone : List ℕ) (seen : List Seen) → HasTapped contents before gone seen old
@@ -76,9 +76,9 @@ pub went_all : {W S : Type 0} (contents : S → Option (List ℕ)) (octets : Lis
 went_all contents octets i old new over went =
     let P : List ℕ → Type 0 = λ xs. Went contents xs old new in subst P (take_all i octets over) went
 
--- ---- octets, of which the first go ahead
+-- ---- octets after those that go ahead
 
--- how many go ahead is no matter of what was recorded
+-- The number of octets that go ahead doesn't affect the records.
 pub same_tapped : {W S : Type 0} (contents : S → Option (List ℕ)) (before : Option (List ℕ)) (gone : List ℕ) (seen : List Seen) (ahead : ℕ) (t : OutTap W S)
     → HasTapped contents before gone seen t → HasTapped contents before gone seen (record t { ahead = ahead })
 same_tapped contents before gone seen ahead t has = record { captures = has.captures; file = has.file }

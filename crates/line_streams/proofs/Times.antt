@@ -16,7 +16,7 @@ begins_at line place within none space =
       parts = sym (take-append-drop place line) ∙ ap (λ t. take place line ++ t) (drop-cons line place 0 within ∙ ap (λ b. b ∷ rest) space);
     }
 
--- one octet more that is no space
+-- One more octet that isn't a space.
 pub none_more : (line : List ℕ) (place : ℕ) → place < length line → list_any (λ (b : ℕ). b == 32) (take place line) ≡ false → (get_or line place 0 ≡ 32 → ⊥)
     → list_any (λ (b : ℕ). b == 32) (take (place + 1) line) ≡ false
 none_more line place within none other =

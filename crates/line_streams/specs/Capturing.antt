@@ -1,4 +1,4 @@
--- What is seen of the octets that go each way on a line, one out and one in at a time.
+-- The units seen in the octets of a line, when one is sent and one received at a time.
 use Rattle.std.specs.Prelude.{◌≡◌, ℕ, ◌+◌, ◌*◌, ◌-◌, Bool, true, false, List, [], ◌∷◌, ◌++◌}
 use Rattle.std.specs.Prelude.{length, take, reverse, Option, Some, None}
 use Rattle.std.specs.List.{flat_map}
@@ -12,11 +12,11 @@ use Rattle.line_streams.specs.declared.capture.Capture.{Capture}
 use Rattle.line_streams.specs.Records.{HEADER, record_of}
 use Rattle.line_streams.specs.Repeats.{kept, StandsFor}
 
--- a unit without its two check octets
+-- A unit without its two check octets.
 abbrev pub without_check : List ℕ → List ℕ
 without_check octets = take (length octets - 2) octets
 
--- the units that are reported, without their check octets
+-- The units that are reported, without their check octets.
 abbrev pub unit_of : LineEvent → List (List ℕ)
 unit_of (events.Unit octets) = without_check octets.items ∷ []
 unit_of events.Errored = []
@@ -29,8 +29,8 @@ abbrev pub listed : {A : Type 0} → Option A → List A
 listed None = []
 listed (Some x) = x ∷ []
 
--- Behind these octets of one way this one ends this unit, or none: what a receiver reports of all
--- of them with it, beyond what it reports of those before it, has this unit, or none.
+-- After these octets of one direction, this octet ends this unit, or none: the further events that
+-- a receiver reports with it have this unit, or none.
 pub record Ends (octets : List ℕ) (octet : ℕ) (unit : Option (List ℕ)) : Type 0 where
   pub before : List LineEvent
   pub more : List LineEvent
@@ -38,19 +38,19 @@ pub record Ends (octets : List ℕ) (octet : ℕ) (unit : Option (List ℕ)) : T
   pub are : AreEvents (bits_of (octets ++ octet ∷ [])) (before ++ more)
   pub unit_is : units_of more ≡ listed unit
 
--- how many microseconds an octet takes, on a line of 64 kbit/s
+-- Microseconds per octet on a line of 64 kbit/s.
 abbrev pub OCTET : ℕ
 OCTET = 125
 
--- a unit that was seen, before those of earlier octets
+-- A seen unit is added before those of earlier octets.
 abbrev pub IsUnit : Bool → ℕ → ℕ → Option (List ℕ) → List Seen → List Seen → Type 0
 IsUnit went link at None old new = new ≡ old
 IsUnit went link at (Some octets) old [] = ⊥
 IsUnit went link at (Some octets) old (s ∷ more) =
     (s.went ≡ went) × (s.link ≡ link) × (s.at ≡ at) × (s.octets.items ≡ octets) × (more ≡ old)
 
--- Of the octets that went out and of those that came in these units were seen, the newest first,
--- each at the microsecond of the octet that ends it: of an exchange first what went out.
+-- These units were seen in the octets sent and received, the newest first, each at the microsecond
+-- of the octet that ends it. In an exchange the octet sent comes first.
 pub data Sees (link : ℕ) : List ℕ → List ℕ → List Seen → Type 0 where
   nothing : Sees link [] [] []
   exchange : {gone come : List ℕ} {seen : List Seen} (out octet : ℕ) (sent heard : Option (List ℕ))
@@ -60,11 +60,11 @@ pub data Sees (link : ℕ) : List ℕ → List ℕ → List Seen → Type 0 wher
       → IsUnit false link (OCTET * (length come + 1)) heard middle last
       → Sees link (gone ++ out ∷ []) (come ++ octet ∷ []) last
 
--- the octets of a capture in which these units were seen, the newest first
+-- The octets of a capture in which these units were seen, the newest first.
 abbrev pub capture_of : Bool → List Seen → List ℕ
 capture_of every seen = HEADER ++ flat_map record_of (reverse (kept every seen))
 
--- a capture on its way: what it has of these octets and units
+-- A capture in progress: its state after these octets and units.
 pub record Captures (gone come : List ℕ) (seen : List Seen) (c : Capture) : Type 0 where
   pub sees : Sees c.link gone come seen
   pub out : Stands (bits_of gone) c.gone

@@ -1,9 +1,9 @@
--- The records of a capture, in the classic format of pcap: numbers have their lowest octet first,
--- and the link type is 139, MTP2 with a pseudo-header.
+-- The records of a capture, in the classic format of pcap. Numbers have their lowest octet first;
+-- the link type is 139, MTP2 with a pseudo-header.
 use Rattle.std.specs.Prelude.{ℕ, ◌+◌, ◌/◌, ◌%◌, if◌then◌else◌, List, [], ◌∷◌, ◌++◌, length}
 use Rattle.line_streams.specs.declared.seen.Seen.{Seen}
 
--- the four octets of a number, the lowest first
+-- The four octets of a number, the lowest first.
 abbrev pub four : ℕ → List ℕ
 four n = n % 256 ∷ n / 256 % 256 ∷ n / 65536 % 256 ∷ n / 16777216 % 256 ∷ []
 
@@ -11,7 +11,7 @@ four n = n % 256 ∷ n / 256 % 256 ∷ n / 65536 % 256 ∷ n / 16777216 % 256 �
 abbrev pub MAGIC : ℕ
 MAGIC = 2712847316
 
--- the most octets of a record that a reader has to expect
+-- The most octets of a record that a reader must expect.
 abbrev pub LONGEST : ℕ
 LONGEST = 65535
 
@@ -19,19 +19,18 @@ LONGEST = 65535
 abbrev pub LINK_TYPE : ℕ
 LINK_TYPE = 139
 
--- what a capture begins with; its version is 2.4, its times are those of Greenwich, and no accuracy
--- is said
+-- The beginning of a capture: its version is 2.4, its times are in UTC, and it states no accuracy.
 abbrev pub HEADER : List ℕ
 HEADER =
     four MAGIC ++ (2 ∷ 0 ∷ 4 ∷ 0 ∷ []) ++ four 0 ++ four 0 ++ four LONGEST ++ four LINK_TYPE
 
--- the pseudo-header: whether it was sent, that numbers of annex A aren't used, and the number of
--- its link, the highest octet first; then the unit
+-- The pseudo-header: whether the unit was sent, that annex A isn't used, and the number of the
+-- link, highest octet first; then the unit.
 abbrev pub packet_of : Seen → List ℕ
 packet_of s =
     (if s.went then 1 else 0) ∷ 0 ∷ s.link / 256 ∷ s.link % 256 ∷ s.octets.items
 
--- seconds and microseconds, and how many octets there are: in the record, and of the packet
+-- Seconds and microseconds, then the number of octets twice: in the record, and of the packet.
 abbrev pub record_of : Seen → List ℕ
 record_of s =
     four (s.at / 1000000 % 4294967296) ++ four (s.at % 1000000) ++ four (length (packet_of s))

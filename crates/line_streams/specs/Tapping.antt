@@ -1,4 +1,4 @@
--- What taps on the octets of a line have recorded.
+-- What the taps on a line have recorded.
 use Rattle.std.specs.Prelude.{◌≡◌, ◌⊎◌, ℕ, ◌<◌, List, [], ◌++◌, length, map, Option}
 use Rattle.std.specs.Io.KnownBytes.{Appends}
 use Rattle.rtrb.specs.Ring.{sent, received, known_free, IsPair}
@@ -10,21 +10,21 @@ use Rattle.line_streams.specs.declared.taps.OutTap.{OutTap}
 use Rattle.line_streams.specs.declared.taps.Plan.{Plan}
 use Rattle.line_streams.specs.Capturing.{Captures, capture_of}
 
--- octets are handed on, all of them, or none where there is no room
+-- Octets are passed on, all of them, or none if there is no room.
 abbrev pub Pushes : {A P : Type 0} → List ℕ → Producer ℕ A P → Producer ℕ A P → Type 0
 Pushes octets old new =
     (sent new ≡ sent old ++ octets)
     ⊎ ((known_free new < length octets) × (sent new ≡ sent old))
 
--- A tap has captured these octets that went out, behind those that go ahead, and as many that came
--- in. Behind what a sink had before, it has what a capture has in which these units were seen.
+-- A tap has captured these octets sent after those that go ahead, and as many received. After its
+-- earlier contents, the sink has the capture in which these units were seen.
 pub record HasTapped {W S : Type 0} (contents : S → Option (List ℕ)) (before : Option (List ℕ))
     (gone : List ℕ) (seen : List Seen) (t : OutTap W S) : Type 0 where
   pub captures : Captures (map (turned t.bits) gone) (map (turned t.bits) (received t.octets)) seen
       t.capture
   pub file : Appends before (contents t.sink) (capture_of t.capture.repeats.every seen)
 
--- a line is tapped, and nothing was read or written on it since
+-- A line is tapped, and nothing was read or written on it since.
 pub record IsTapped {R W S : Type 0} (plan : Plan) (reader : R) (writer : W) (in_tap : InTap R)
     (out_tap : OutTap W S) : Type 0 where
   pub reader_is : in_tap.reader ≡ reader

@@ -1,4 +1,4 @@
-//! Octets of orders, read on while an order waits for its millisecond.
+//! Octets of orders, read ahead while an order waits for its millisecond.
 ghost use Rattle.std.specs.Prelude.{◌≤◌, IfOk, length};
 
 use crate::arrivals::Arrivals;
@@ -8,18 +8,18 @@ use std::collections::VecDeque;
 use std::fs::File;
 use std::io::{self, ErrorKind, Read, Seek};
 
-/// How many octets are read at once.
+/// The most octets per read.
 const PART: usize = 1_024;
 
-/// How many octets may be read on while an order waits.
+/// The most octets read ahead while an order waits.
 const MOST: usize = 65_536;
 
-/// Where octets of orders come from.
+/// The source of the octets of orders.
 #[derive(Drop)]
 pub(crate) enum Source {
-    /// A regular file, read on as it grows.
+    /// A regular file, read as it grows.
     File(File),
-    /// What may keep a reader waiting, as a FIFO.
+    /// A file that may keep a reader waiting, for example a FIFO.
     Fifo(Arrivals),
 }
 
@@ -32,22 +32,22 @@ impl Read for Source {
     }
 }
 
-/// Octets of orders, as they are asked for; those that come meanwhile are read on.
+/// Octets of orders, with those read ahead.
 #[derive(Drop)]
 pub(crate) struct Ahead {
     source: Source,
-    /// How many octets were read since the beginning of the file.
+    /// The number of octets read since the beginning of the file.
     count: u64,
-    /// Octets that were read and not asked for yet, the oldest first.
+    /// The octets read ahead, the oldest first.
     waiting: VecDeque<u8>,
     /// The millisecond of the run.
     pub now: u64,
-    /// What the lines say of the run's end.
+    /// The information about the run's end in the lines read.
     pub watch: Watch,
 }
 
 impl Ahead {
-    /// Nothing was read.
+    /// The octets before any read.
     pub fn new(alloc: Global, source: Source) -> Ahead {
         Ahead {
             source,
@@ -58,7 +58,7 @@ impl Ahead {
         }
     }
 
-    /// Reads octets of the source, if there are some; 0 where there are none now.
+    /// Reads octets from the source; returns 0 if there are none now.
     fn fetch(&mut self, part: &mut [u8]) -> io::Result<usize>
         ensures { IfOk result (λ n. n ≤ length part.new) }
     {
@@ -76,7 +76,7 @@ impl Ahead {
         }
     }
 
-    /// Octets that were read wait to be asked for.
+    /// Stores octets that were read ahead.
     fn keep(&mut self, octets: &[u8]) -> io::Result<()> {
         for octet in octets {
             if self.waiting.push_back(*octet).is_err() {
@@ -86,7 +86,7 @@ impl Ahead {
         Ok(())
     }
 
-    /// Reads on, as long as there is something and room for it, up to a read that is interrupted.
+    /// Reads ahead as long as there are octets and room, or until a read is interrupted.
     pub fn read_on(&mut self) -> io::Result<()> {
         let mut part = [0; PART];
         for _part in 0..MOST / PART {
@@ -103,7 +103,7 @@ impl Ahead {
         Ok(())
     }
 
-    /// Octets that wait go to the front of a part, as many as find room there. How many.
+    /// Moves stored octets to the front of `part`, as many as fit. Returns their number.
     fn hand_out(&mut self, part: &mut [u8]) -> usize
         ensures { result ≤ length part.new }
     {
@@ -119,7 +119,7 @@ impl Ahead {
         count
     }
 
-    /// Whether the source is a file that was truncated: it is shorter than what was read of it. It is looked at where all was read that there was.
+    /// Whether the source is a truncated file: shorter than what was read. Only checked once all octets were read.
     fn is_truncated(&self) -> io::Result<bool> {
         if !self.watch.rests() {
             return Ok(false);
@@ -130,7 +130,7 @@ impl Ahead {
         }
     }
 
-    /// Goes back to the beginning of a file that was truncated. Whether it was.
+    /// Goes back to the beginning of a truncated file. Returns whether it was truncated.
     pub fn rewind(&mut self, alloc: Global) -> io::Result<bool> {
         if !self.is_truncated()? {
             return Ok(false);

@@ -1,4 +1,4 @@
-//! Octets that a thread reads, as far as they have come.
+//! Octets that a thread reads from a file.
 ghost use Rattle.std.specs.Prelude.{◌≤◌, IfOk, length};
 
 use rtrb::{Consumer, Producer, RingBuffer};
@@ -9,26 +9,26 @@ use std::rt::Files;
 use std::thread;
 use std::thread::Threads;
 
-/// How many octets are read at once.
+/// The most octets per read.
 const PART: usize = 4096;
 
-/// Octets that a thread reads: a read gives those that are there, none where there are none yet, and never waits. It fails once a read of the
-/// thread's has failed and all that it read before was taken.
+/// Octets that a thread reads. A read returns those that have arrived, or none, and never waits. It fails once a read
+/// of the thread has failed and all octets before it were taken.
 ///
-/// The thread isn't joined: it may wait for what never comes, and is left as the program ends.
+/// The thread isn't joined: it may wait forever, and is left when the program ends.
 #[derive(Drop)]
 pub struct Arrivals {
     ring: Consumer<u8>,
-    /// Where the thread is told that all that it read was taken.
+    /// Tells the thread that all its octets were taken.
     taken: PipeWriter,
 }
 
 impl Arrivals {
-    /// Has a thread read a file.
+    /// Starts a thread that reads a file.
     ///
     /// # Errors
     ///
-    /// Where there is no memory, no pipe or no thread.
+    /// If there is no memory, no pipe or no thread.
     pub fn start<R: Files + Threads>(rt: &R, alloc: Global, file: File) -> io::Result<Arrivals> {
         let (producer, consumer) = RingBuffer::new(alloc, PART)?;
         let (reader, writer) = rt.pipe()?;
@@ -56,7 +56,7 @@ impl Read for Arrivals {
     }
 }
 
-/// Reads what there is into a part; none at the end. An interrupted read is tried again.
+/// Reads available octets into a part; returns 0 at the end. Retries an interrupted read.
 fn read_part(file: &mut File, part: &mut [u8]) -> io::Result<usize>
     ensures { IfOk result (λ n. n ≤ length part.new) }
 {
@@ -73,7 +73,7 @@ fn read_part(file: &mut File, part: &mut [u8]) -> io::Result<usize>
     Err(io::Error::from(ErrorKind::Other))
 }
 
-/// Waits until what was read has been taken.
+/// Waits until the octets read have been taken.
 fn wait_until_taken(taken: &mut PipeReader) -> bool {
     let mut one = [0; 1];
     match taken.read_exact(&mut one) {
@@ -82,8 +82,8 @@ fn wait_until_taken(taken: &mut PipeReader) -> bool {
     }
 }
 
-/// Reads a file into a ring, a part at a time, each once the one before has been taken. It ends where a read fails, which the other side
-/// finds; at the file's end it waits for the end of the program.
+/// Reads a file into a ring, part by part; each read waits until the part before was taken. It ends when a read fails,
+/// which the other side notices. At the end of the file it waits for the end of the program.
 fn carry_in(file: File, ring: Producer<u8>, taken: PipeReader) {
     let (mut file, mut ring, mut taken) = (file, ring, taken);
     let mut part = [0; PART];

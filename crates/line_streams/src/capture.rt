@@ -1,4 +1,4 @@
-//! What is captured of a line.
+//! Captures of a line.
 ghost use Rattle.std.specs.Prelude.{◌≡◌, ◌++◌, ◌∷◌, [], ℕ, List, IfOk, OnErr, option_map};
 ghost use Rattle.line_streams.specs.Capturing.{Captures, IsUnit, listed};
 ghost use Rattle.line_streams.specs.Repeats.{kept, StandsFor};
@@ -11,15 +11,15 @@ use arrayvec::ArrayVec;
 use bit_line::Deframer;
 use std::io::{self, ErrorKind};
 
-/// How many microseconds an octet takes, on a line of 64 kbit/s.
+/// Microseconds per octet on a line of 64 kbit/s.
 const OCTET: u64 = 125;
 
-/// What is recorded of an exchange of octets.
+/// The units recorded for an exchange of octets.
 #[derive(Debug, Drop)]
 pub struct Kept {
-    /// The unit that ended with the octet that went out.
+    /// The unit that ended with the octet sent.
     pub went: Option<Seen>,
-    /// The unit that ended with the octet that came in.
+    /// The unit that ended with the octet received.
     pub came: Option<Seen>,
 }
 
@@ -27,7 +27,7 @@ pub struct Kept {
 #[derive(Drop)]
 pub struct Capture {
     link: u16,
-    /// The microseconds gone by.
+    /// The microseconds passed.
     at: u64,
     gone: Deframer,
     come: Deframer,
@@ -35,7 +35,7 @@ pub struct Capture {
 }
 
 impl Capture {
-    /// Before the first octet of a link's line. Either every unit is recorded, or repeats are left out.
+    /// A capture of a link's line before its first octet. If `every`, all units are recorded; else repeats are omitted.
     pub fn new(link: u16, every: bool) -> Capture
         ensures link { result.link ≡ link }
         ensures every { result.repeats.every ≡ every }
@@ -50,14 +50,14 @@ impl Capture {
         }
     }
 
-    /// How many microseconds went by.
+    /// The microseconds passed.
     pub fn at(&self) -> u64
         ensures { result ≡ self.now.at }
     {
         self.at
     }
 
-    /// What is recorded of a unit, if one ended.
+    /// Records a unit, if one ended and it isn't omitted. Returns the recorded unit.
     fn keep(&mut self, went: bool, unit: Option<ArrayVec<u8, 278>>) -> Option<Seen>
         ensures kept { (seen : List OneSeen) → StandsFor self.old.link (kept self.old.repeats.every seen) self.old.repeats → (more : List OneSeen)
             × IsUnit went self.old.link self.old.at (option_map (λ unit. unit.items) unit) seen more
@@ -80,11 +80,11 @@ impl Capture {
         }
     }
 
-    /// One octet goes out, and one comes in, the first bit of each its lowest. What is recorded of that.
+    /// Captures one octet sent and one received, with the first bit of each lowest. Returns the recorded units.
     ///
     /// # Errors
     ///
-    /// Where 2^64 microseconds went by.
+    /// If 2^64 microseconds have passed.
     pub fn exchange(&mut self, gone: u8, come: u8) -> io::Result<Kept>
         ensures kept { IfOk result (λ k. (before after : List ℕ) (seen : List OneSeen) → Captures before after seen self.old → (more : List OneSeen)
             × Captures (before ++ gone ∷ []) (after ++ come ∷ []) more self.new

@@ -19,7 +19,7 @@ fn without_check(octets: &[u8]) -> ArrayVec<u8, 278>
     unit
 }
 
-/// The unit that is reported, if one is.
+/// The unit among these events, if there is one.
 fn unit_in(events: &[LineEvent]) -> Option<ArrayVec<u8, 278>>
     ensures { closings events.now ≤ 1 → units_of events.now ≡ listed (option_map (λ unit. unit.items) result) }
 {
@@ -33,7 +33,7 @@ fn unit_in(events: &[LineEvent]) -> Option<ArrayVec<u8, 278>>
     None
 }
 
-/// Takes an octet of a line. The unit that it ends, without check octets, if it ends one.
+/// Takes an octet of a line. Returns the unit that it ends, without check octets, if it ends one.
 pub fn ended(deframer: &mut Deframer, octet: u8) -> Option<ArrayVec<u8, 278>>
     ensures stands { (octets : List ℕ) → Stands (bits_of octets) deframer.old → Stands (bits_of (octets ++ octet ∷ [])) deframer.new }
     ensures unit { (octets : List ℕ) → Stands (bits_of octets) deframer.old → Ends octets octet (option_map (λ unit. unit.items) result) }

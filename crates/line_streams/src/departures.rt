@@ -1,4 +1,4 @@
-//! Lines that a thread has go on.
+//! Lines that a thread writes.
 ghost use Rattle.std.specs.Prelude.{◌≡◌, OnOk};
 ghost use Rattle.rtrb.specs.Ring.{sent};
 ghost use Rattle.line_streams.specs.Departing.{GoesWhole, TellsOn, TellsLost};
@@ -15,38 +15,38 @@ use std::thread;
 use std::thread::Threads;
 use std::time::{Clock, Duration};
 
-/// How often, a millisecond apart, it is asked at the end whether all went on.
+/// How often, a millisecond apart, the end checks whether all octets were written.
 const MOST_WAITS: u32 = 1_000;
 
-/// How many octets may wait to go on.
+/// The most octets that may wait to be written.
 const ROOM: usize = 65_536;
 
-/// How many octets go on at once.
+/// The most octets per write.
 const PART: usize = 4096;
 
-/// Lines that a thread has go on. Where it can't, since nobody takes them at the other end, lines are lost and counted, and nothing waits.
+/// Lines that a thread writes. If it can't, since the other end takes none, lines are lost and counted; nothing waits.
 ///
-/// The thread isn't joined: it is left as the program ends.
+/// The thread isn't joined: it is left when the program ends.
 #[derive(Drop)]
 pub struct Departures {
     alloc: Global,
     outlet: Outlet,
-    /// How many octets went into the outlet.
+    /// The number of octets put into the outlet.
     put: u64,
-    /// How many the thread has had go on.
+    /// The number of octets that the thread has written.
     gone: Arc<AtomicU64>,
-    /// 1 where the thread sleeps, and nobody has waked it.
+    /// 1 while the thread sleeps and wasn't woken.
     sleeps: Arc<AtomicU64>,
-    /// Where it is waked.
+    /// The pipe that wakes the thread.
     wakes: PipeWriter,
 }
 
 impl Departures {
-    /// Has a thread write to a file.
+    /// Starts a thread that writes to a file.
     ///
     /// # Errors
     ///
-    /// Where there is no memory, no pipe or no thread.
+    /// If there is no memory, no pipe or no thread.
     pub fn start<R: Files + Threads>(rt: &R, alloc: Global, file: File) -> io::Result<Departures> {
         let (producer, consumer) = RingBuffer::new(alloc, ROOM)?;
         let (reader, writer) = rt.pipe()?;
@@ -83,12 +83,12 @@ impl Departures {
         Ok(())
     }
 
-    /// Has a line go on whole, or counts it as lost.
+    /// Queues a whole line for writing, or counts it as lost.
     ///
     /// # Errors
     ///
-    /// Where there is no memory, a line behind lost ones has no space, or the thread can't be waked (then the line has gone on, or is counted,
-    /// all the same).
+    /// If memory runs out, a line after lost ones has no space character, or the thread can't be woken; in the last
+    /// case the line was still queued or counted.
     pub fn tell(&mut self, line: &[u8]) -> io::Result<()>
         ensures { OnOk result (TellsOn line.now self.old.outlet self.new.outlet) }
     {
@@ -98,11 +98,11 @@ impl Departures {
         Ok(())
     }
 
-    /// Has a line of reports go on whole, or counts it as lost.
+    /// Queues a whole line of reports for writing, or counts it as lost.
     ///
     /// # Errors
     ///
-    /// Where a write of the thread's failed, and as [`Departures::tell`] says.
+    /// If a write of the thread failed, and those of [`Departures::tell`].
     pub fn report(&mut self, line: &[u8]) -> io::Result<()>
         ensures { OnOk result (TellsOn line.now self.old.outlet self.new.outlet) }
     {
@@ -113,11 +113,11 @@ impl Departures {
         Ok(())
     }
 
-    /// Has octets go on whole, or counts them as one that is lost.
+    /// Queues octets as a whole for writing, or counts them as one loss.
     ///
     /// # Errors
     ///
-    /// Where a write of the thread's failed, or it can't be waked (then the octets have gone on, or are counted, all the same).
+    /// If a write of the thread failed, or it can't be woken; then the octets were still queued or counted.
     pub fn put_whole(&mut self, octets: &[u8]) -> io::Result<()>
         ensures { OnOk result (GoesWhole octets.now self.old.outlet self.new.outlet) }
     {
@@ -127,18 +127,18 @@ impl Departures {
         Ok(())
     }
 
-    /// How many were lost since what was lost was last told.
+    /// The number of losses since the last report of losses.
     pub fn lost(&self) -> u64
         ensures { result ≡ self.now.outlet.lost }
     {
         self.outlet.lost
     }
 
-    /// Waits at the end until all has gone on, a second at most.
+    /// Waits at the end until all octets are written, for a second at most.
     ///
     /// # Errors
     ///
-    /// Where a write of the thread's failed.
+    /// If a write of the thread failed.
     pub fn settle<R: Clock>(&mut self, rt: &R) -> io::Result<()>
         ensures { self.new.outlet.lost ≡ self.old.outlet.lost }
     {
@@ -154,12 +154,12 @@ impl Departures {
         Ok(())
     }
 
-    /// Whether all that was put has gone on.
+    /// Whether all queued octets were written.
     pub fn are_gone(&self) -> bool {
         self.gone.load(Ordering::SeqCst) == self.put
     }
 
-    /// Whether the thread has ended, which it does where a write of its own failed.
+    /// Whether the thread has ended, as it does after a failed write.
     pub fn has_failed(&mut self) -> bool
         ensures sent { sent self.new.outlet.ring ≡ sent self.old.outlet.ring }
         ensures lost { self.new.outlet.lost ≡ self.old.outlet.lost }
@@ -167,7 +167,7 @@ impl Departures {
         self.outlet.ring.is_abandoned()
     }
 
-    /// Has it told, with this millisecond, how many lines were lost behind the last that went on, if some were and there is room.
+    /// Reports, with this millisecond, how many lines were lost after the last one queued, if any and if there is room.
     fn tell_lost(&mut self, now: u64) -> io::Result<()>
         ensures { OnOk result (TellsLost now self.old.outlet self.new.outlet) }
     {
@@ -177,12 +177,12 @@ impl Departures {
         Ok(())
     }
 
-    /// Waits at the end until all has gone on, a second at most. As soon as there is room it is told, with this millisecond, how many
-    /// lines were lost behind the last that went on.
+    /// Waits at the end until all octets are written, for a second at most. As soon as there is room it reports, with
+    /// this millisecond, how many lines were lost after the last one queued.
     ///
     /// # Errors
     ///
-    /// Where there is no memory, a write of the thread's failed, or it can't be waked.
+    /// If memory runs out, a write of the thread failed, or it can't be woken.
     pub fn end<R: Clock>(&mut self, rt: &R, now: u64) -> io::Result<()>
         ensures { OnOk result (TellsLost now self.old.outlet self.new.outlet) }
     {
@@ -201,7 +201,7 @@ impl Departures {
     }
 }
 
-/// What the thread has.
+/// The state of the thread.
 #[derive(Drop)]
 struct Bed {
     ring: Consumer<u8>,
@@ -211,7 +211,7 @@ struct Bed {
 }
 
 impl Bed {
-    /// Sleeps until there may be more. Whether it was waked, and not left alone.
+    /// Sleeps until there may be more octets. Returns whether it was woken, rather than abandoned.
     fn sleep(&mut self) -> bool {
         self.sleeps.store(1, Ordering::SeqCst);
         if !self.ring.is_empty() && self.sleeps.swap(0, Ordering::SeqCst) == 1 {
@@ -222,7 +222,7 @@ impl Bed {
     }
 }
 
-/// Has all go on that comes, up to a write that fails.
+/// Writes all arriving octets, until a write fails.
 fn carry_out(file: &mut File, bed: &mut Bed) {
     let mut part = [0; PART];
     for _part in 0..u64::MAX {

@@ -1,4 +1,4 @@
-//! Octets of a line that a thread reads, as far as they have come, and the end of the line.
+//! Octets of a line that a thread reads, and the end of the line.
 ghost use Rattle.std.specs.Prelude.{◌≡◌, ◌≤◌, ◌++◌, true, IfOk, length};
 ghost use Rattle.rtrb.specs.Ring.{sent, received};
 ghost use Rattle.line_streams.specs.Feeding.{Gives};
@@ -13,42 +13,42 @@ use std::sync::atomic::{AtomicU64, Ordering};
 use std::thread;
 use std::thread::Threads;
 
-/// How many octets are read at once.
+/// The most octets per read.
 const PART: usize = 4096;
 
-/// What the thread says of its line as it ends: that it ended, or that a read failed.
+/// The values that the thread stores when it ends: the line ended, or a read failed.
 const ENDED: u64 = 1;
 
 const FAILED: u64 = 2;
 
-/// What came.
+/// The result of taking octets.
 #[derive(Clone, Copy, Debug, PartialEq, Eq)]
 pub enum Fed {
-    /// So many octets; none where none are there yet.
+    /// So many octets; 0 if none have arrived yet.
     Octets(usize),
-    /// No more: the line has ended.
+    /// No more octets: the line has ended.
     Ended,
-    /// No more: a read of it failed.
+    /// No more octets: a read failed.
     Failed,
 }
 
 /// Octets of a line that a thread reads.
 ///
-/// The thread isn't joined: it may wait for what never comes, and is left as the program ends.
+/// The thread isn't joined: it may wait forever, and is left when the program ends.
 #[derive(Drop)]
 pub struct Feed {
     ring: Consumer<u8>,
-    /// Where the thread is told that all that it read was taken.
+    /// Tells the thread that all its octets were taken.
     taken: PipeWriter,
     over: Arc<AtomicU64>,
 }
 
 impl Feed {
-    /// Has a thread read a line.
+    /// Starts a thread that reads a line.
     ///
     /// # Errors
     ///
-    /// Where there is no memory, no pipe or no thread.
+    /// If there is no memory, no pipe or no thread.
     pub fn start<R: Files + Threads>(rt: &R, alloc: Global, file: File) -> io::Result<Feed> {
         let (producer, consumer) = RingBuffer::new(alloc, PART)?;
         let (reader, writer) = rt.pipe()?;
@@ -67,7 +67,7 @@ impl Feed {
         })
     }
 
-    /// Takes octets that have come, as far as there is room for them. It never waits.
+    /// Takes octets that have arrived, as many as `part` has room for. It never waits.
     pub fn take(&mut self, part: &mut [u8]) -> Fed
         ensures { Gives result part.new (received self.old.ring) (received self.new.ring) }
     {
@@ -87,7 +87,7 @@ impl Feed {
     }
 }
 
-/// What the thread has.
+/// The state of the thread.
 #[derive(Drop)]
 struct Bed {
     ring: Producer<u8>,
@@ -95,7 +95,7 @@ struct Bed {
     over: Arc<AtomicU64>,
 }
 
-/// Reads what there is into a part; none at the end. An interrupted read is tried again.
+/// Reads available octets into a part; returns 0 at the end. Retries an interrupted read.
 fn read_part(file: &mut File, part: &mut [u8]) -> io::Result<usize>
     ensures { IfOk result (λ n. n ≤ length part.new) }
 {
@@ -113,7 +113,7 @@ fn read_part(file: &mut File, part: &mut [u8]) -> io::Result<usize>
 }
 
 impl Bed {
-    /// Hands on what was read, and waits until it has been taken.
+    /// Delivers the octets read, and waits until they have been taken.
     fn hand_on(&mut self, octets: &[u8]) -> bool
         ensures { result ≡ true → sent self.new.ring ≡ sent self.old.ring ++ octets.now }
     {
@@ -122,7 +122,7 @@ impl Bed {
     }
 }
 
-/// Reads a line into a ring, a part at a time, each once the one before has been taken, up to its end.
+/// Reads a line into a ring to its end, part by part; each read waits until the part before was taken.
 fn carry_in(file: &mut File, bed: &mut Bed) {
     let mut part = [0; PART];
     for _part in 0..u64::MAX {

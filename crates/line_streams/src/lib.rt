@@ -1,5 +1,5 @@
-//! What stands beside a line: where its orders come from, and where its reports and what is captured of it go, by a thread each where that may keep its other
-//! side waiting; and captures, in pcap's classic format: which units are seen, which of them are recorded, and the octets of a record.
+//! The files and FIFOs of a line's orders, reports and captures, with a thread for each that may keep the line waiting.
+//! Captures are in pcap's classic format: the units seen, which of them are recorded, and the octets of a record.
 #![tactic(auto)]
 
 mod ahead;

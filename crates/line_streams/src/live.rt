@@ -1,25 +1,25 @@
-//! Orders of a file or of a FIFO.
+//! Orders in a file or a FIFO.
 
 use crate::ahead::{Ahead, Source};
 use line_filter::{LineOrders, OrderLines, Orders};
 use std::alloc::Global;
 use std::io;
 
-/// Orders of a file or of a FIFO, read on as it grows. A `quit` doesn't wait for the millisecond of an order that was given a second before it, or earlier.
+/// Orders in a file or FIFO, read as it grows. `quit` doesn't wait for orders given a second or more before it.
 #[derive(Drop)]
 pub struct LiveOrders {
     orders: LineOrders<Ahead>,
 }
 
 impl LiveOrders {
-    /// Nothing was read.
+    /// Orders before any read.
     pub(crate) fn new(alloc: Global, source: Source) -> LiveOrders {
         LiveOrders {
             orders: LineOrders::new(alloc, Ahead::new(alloc, source)),
         }
     }
 
-    /// A `quit` that needn't wait for what stands in front of it, if one came.
+    /// A `quit` that needn't wait for the orders before it, if one has arrived.
     fn quit(&mut self, alloc: Global, now: u64) -> io::Result<Option<String>> {
         if self.orders.lines.waiting.is_none() {
             return Ok(None);
@@ -42,7 +42,7 @@ impl LiveOrders {
         }
     }
 
-    /// Goes back to the beginning of a file that was truncated, and gives up what was read of it. Whether it was.
+    /// Goes back to the beginning of a truncated file, and drops all that was read of it. Returns whether it was.
     pub(crate) fn rewind(&mut self, alloc: Global) -> io::Result<bool> {
         if !self.orders.reader.rewind(alloc)? {
             return Ok(false);

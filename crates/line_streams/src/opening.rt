@@ -1,4 +1,4 @@
-//! What is opened for orders and for reports.
+//! Opening the files of orders and reports.
 ghost use Rattle.std.specs.Prelude.{IfOk, OnOk};
 ghost use Rattle.line_filter.specs.Reporting.{TellsLine};
 ghost use Rattle.line_streams.specs.Known.{left_of, stand_of, ComeFrom, GoTo, IsReported, EndsTold};
@@ -15,7 +15,7 @@ use std::rt::Files;
 use std::thread::Threads;
 use std::time::Clock;
 
-/// Where orders come from.
+/// The source of orders.
 #[derive(Drop)]
 pub enum OrderStream {
     /// There are none.
@@ -51,14 +51,14 @@ impl Orders for OrderStream {
     }
 }
 
-/// Opens a file to read and to write: a FIFO then neither waits for its other side nor ends as that goes.
+/// Opens a file for reading and writing: a FIFO then neither waits for its other side nor ends when that closes.
 pub fn open_both<R: Files<File = File>>(rt: &R, path: &str) -> io::Result<File> {
     let mut how = OpenOptions::new();
     how.read(true).write(true);
     how.open(rt, path)
 }
 
-/// Opens a file or a FIFO that orders come from.
+/// Opens a file or a FIFO as a source of orders.
 fn open_source<R: Files<File = File> + Threads>(
     rt: &R,
     alloc: Global,
@@ -71,11 +71,11 @@ fn open_source<R: Files<File = File> + Threads>(
     Ok(Source::Fifo(Arrivals::start(rt, alloc, file)?))
 }
 
-/// Opens what orders come from; none without a path.
+/// Opens the source of orders; there are none without a path.
 ///
 /// # Errors
 ///
-/// Where the path can't be opened, or there is no memory, no pipe or no thread.
+/// If the path can't be opened, or there is no memory, no pipe or no thread.
 pub fn open_orders<R: Files<File = File> + Threads>(
     rt: &R,
     alloc: Global,
@@ -90,14 +90,14 @@ pub fn open_orders<R: Files<File = File> + Threads>(
     Ok(OrderStream::Live(LiveOrders::new(alloc, source)))
 }
 
-/// Where reports go.
+/// The destination of reports.
 #[derive(Drop)]
 pub enum ReportStream<E> {
-    /// Standard error, or what stands in its place.
+    /// Standard error, or a writer in its place.
     Errors(E),
     /// A regular file.
     File(File),
-    /// What may keep a writer waiting, as a FIFO.
+    /// A file that may keep a writer waiting, for example a FIFO.
     Fifo(Departures),
 }
 
@@ -117,12 +117,12 @@ impl<E: Write> Reports for ReportStream<E> {
 }
 
 impl<E> ReportStream<E> {
-    /// Waits at the end for reports that are still to go on, a second at most, and has it told with this millisecond how many were lost behind
-    /// the last that went on, once there is room for that.
+    /// Waits at the end until pending reports are written, for a second at most. It reports with this millisecond how
+    /// many were lost after the last one queued, once there is room for that.
     ///
     /// # Errors
     ///
-    /// Where there is no memory, or a write of them failed.
+    /// If memory runs out, or a write of a report failed.
     pub fn end<R: Clock>(&mut self, rt: &R, now: u64) -> io::Result<()>
         ensures { OnOk result (EndsTold now self.old self.new) }
     {
@@ -133,11 +133,11 @@ impl<E> ReportStream<E> {
     }
 }
 
-/// Opens where reports go: without a path there where `errors` writes. A regular file is made, or emptied.
+/// Opens the destination of reports: `errors` without a path. A regular file is created, or emptied.
 ///
 /// # Errors
 ///
-/// Where the path can't be opened, or there is no memory, no pipe or no thread.
+/// If the path can't be opened, or there is no memory, no pipe or no thread.
 pub fn open_reports<R: Files<File = File> + Threads, E: Drop>(
     rt: &R,
     alloc: Global,

@@ -1,4 +1,4 @@
-//! Lines that go on as far as there is room.
+//! A queue of lines that are lost if there is no room.
 ghost use Rattle.std.specs.Prelude.{◌≡◌, ◌<◌, ◌++◌, ◌+◌, length, true, false, OnOk, OnErr, IfOk, IfSome};
 ghost use Rattle.rtrb.specs.Ring.{sent, known_free};
 ghost use Rattle.line_streams.specs.Departing.{Begins, GoesWhole, IsLossTold, IsToGo, TellsOn, TellsLost};
@@ -7,12 +7,12 @@ use rtrb::Producer;
 use std::alloc::Global;
 use std::io::{self, ErrorKind};
 
-/// Lines that go on, as far as there is room.
+/// A queue of lines to be written; lines without room are lost and counted.
 #[derive(Drop)]
 pub struct Outlet {
-    /// What waits to go on.
+    /// The octets waiting to be written.
     pub ring: Producer<u8>,
-    /// How many lines found no room since the last that did.
+    /// The number of lines that found no room since the last one that did.
     pub lost: u64,
 }
 
@@ -28,7 +28,7 @@ fn time_of(line: &[u8]) -> Option<&[u8]>
     None
 }
 
-/// A line, and before it how many were lost.
+/// A line, with the number of lost lines before it.
 fn loss_told(alloc: Global, lost: u64, time: &[u8], line: &[u8]) -> io::Result<Vec<u8>>
     requires { Begins line.now time.now }
     ensures { IfOk result (λ text. IsLossTold lost line.now text.items) }
@@ -40,7 +40,7 @@ fn loss_told(alloc: Global, lost: u64, time: &[u8], line: &[u8]) -> io::Result<V
     Ok(text)
 }
 
-/// What is to go on for a line.
+/// The octets to queue for a line.
 fn to_go(alloc: Global, lost: u64, line: &[u8]) -> io::Result<Vec<u8>>
     ensures { IfOk result (λ text. IsToGo lost line.now text.items) }
 {
@@ -54,7 +54,7 @@ fn to_go(alloc: Global, lost: u64, line: &[u8]) -> io::Result<Vec<u8>>
 }
 
 impl Outlet {
-    /// Octets go on, all or none. Whether they do.
+    /// Queues octets, all or none. Returns whether they were queued.
     fn send(&mut self, octets: &[u8]) -> bool
         ensures sent { result ≡ true → sent self.new.ring ≡ sent self.old.ring ++ octets.now }
         ensures same { result ≡ false → sent self.new.ring ≡ sent self.old.ring }
@@ -64,11 +64,11 @@ impl Outlet {
         self.ring.push_entire_slice(octets).is_ok()
     }
 
-    /// Has a line go on whole, behind how many were lost before it, if there is room for that; else it is lost. How many octets go on.
+    /// Queues a line, after the number of lost lines, if both fit; else the line is lost. Returns the octets queued.
     ///
     /// # Errors
     ///
-    /// Where there is no memory, a line behind lost ones has no space, or 2^64 - 1 are lost. Nothing goes on then, and the line isn't counted.
+    /// If memory runs out, a line after lost ones has no space, or 2^64 - 1 are lost; nothing is queued or counted.
     pub fn put(&mut self, alloc: Global, line: &[u8]) -> io::Result<usize>
         ensures told { OnOk result (TellsOn line.now self.old self.new) }
         ensures count { IfOk result (λ n. length (sent self.new.ring) ≡ length (sent self.old.ring) + n) }
@@ -87,7 +87,7 @@ impl Outlet {
         }
     }
 
-    /// Has octets go on whole if there is room for them; else they are lost, and counted, as far as 64 bits count. How many octets go on.
+    /// Queues all octets if there is room; else counts them as one loss, up to 2^64 - 1. Returns the octets queued.
     pub fn put_whole(&mut self, octets: &[u8]) -> usize
         ensures whole { GoesWhole octets.now self.old self.new }
         ensures count { length (sent self.new.ring) ≡ length (sent self.old.ring) + result }
@@ -100,12 +100,12 @@ impl Outlet {
         }
     }
 
-    /// Has a line go on that tells, with this millisecond, how many lines were lost behind the last that went on: if some were, and there is
-    /// room. How many octets go on.
+    /// Queues a line that reports, with this millisecond, how many lines were lost after the last one queued, if any
+    /// were lost and there is room. Returns the octets queued.
     ///
     /// # Errors
     ///
-    /// Where there is no memory. Nothing goes on then.
+    /// If memory runs out. Nothing is queued then.
     pub fn put_lost(&mut self, alloc: Global, now: u64) -> io::Result<usize>
         ensures told { OnOk result (TellsLost now self.old self.new) }
         ensures count { IfOk result (λ n. length (sent self.new.ring) ≡ length (sent self.old.ring) + n) }

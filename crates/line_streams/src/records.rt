@@ -1,4 +1,4 @@
-//! Where records go, each whole.
+//! The destination of records, each written whole.
 ghost use Rattle.std.specs.Prelude.{◌≡◌};
 ghost use Rattle.line_streams.specs.Known.{lost_of};
 
@@ -11,12 +11,12 @@ use std::rt::Files;
 use std::thread::Threads;
 use std::time::Clock;
 
-/// Where records go. A `write` of it is one record.
+/// The destination of records. Each `write` is one record.
 #[derive(Drop)]
 pub enum RecordStream {
     /// A regular file.
     File(File),
-    /// What may keep a writer waiting, as a FIFO: a record for which it has no room is lost, and counted.
+    /// A file that may keep a writer waiting, for example a FIFO: a record without room is lost and counted.
     Fifo(Departures),
 }
 
@@ -40,7 +40,7 @@ impl Write for RecordStream {
 }
 
 impl RecordStream {
-    /// How many records were lost.
+    /// The number of lost records.
     pub fn lost(&self) -> u64
         ensures { result ≡ lost_of self.now }
     {
@@ -50,11 +50,11 @@ impl RecordStream {
         }
     }
 
-    /// Waits at the end for records that are still to go on, a second at most.
+    /// Waits at the end until pending records are written, for a second at most.
     ///
     /// # Errors
     ///
-    /// Where a write of them failed.
+    /// If a write of a record failed.
     pub fn end<R: Clock>(&mut self, rt: &R) -> io::Result<()>
         ensures { lost_of self.new ≡ lost_of self.old }
     {
@@ -65,11 +65,11 @@ impl RecordStream {
     }
 }
 
-/// Opens where records go. A regular file is made, or emptied.
+/// Opens the destination of records. A regular file is created, or emptied.
 ///
 /// # Errors
 ///
-/// Where the path can't be opened, or there is no memory, no pipe or no thread.
+/// If the path can't be opened, or there is no memory, no pipe or no thread.
 pub fn open_records<R: Files<File = File> + Threads>(
     rt: &R,
     alloc: Global,

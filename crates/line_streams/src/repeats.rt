@@ -1,4 +1,4 @@
-//! Units that say nothing new.
+//! Units that are repeats, which a capture may omit.
 ghost use Rattle.std.specs.Prelude.{◌≡◌, ◌≤◌, ◌&&◌, ◌||◌, not, true, false, [], List, length};
 ghost use Rattle.line_streams.specs.Repeats.{is_message, is_same, is_repeat, is_kept, StandsFor, with_kept};
 ghost use Rattle.line_streams.specs.declared.seen.Seen.{Seen as OneSeen};
@@ -13,12 +13,12 @@ fn is_message(octets: &[u8]) -> bool
     5 < octets.len()
 }
 
-/// What is recalled of one way of a link.
+/// The state kept of one direction of a link.
 #[derive(Drop)]
 struct Latest {
-    /// The octets of its last record; none before the first.
+    /// The octets of its last record; empty before the first.
     octets: ArrayVec<u8, 278>,
-    /// Whether the other way has recorded news since.
+    /// Whether the other direction has recorded news since.
     news: bool,
 }
 
@@ -41,14 +41,14 @@ impl Latest {
         self.octets.as_slice() == octets
     }
 
-    /// Whether a unit is no message, like the last record, and the other way had no news since.
+    /// Whether a unit is no message, equals the last record, and the other direction had no news since.
     fn is_repeat(&self, octets: &[u8]) -> bool
         ensures { result ≡ (not (is_message octets.now) && (is_same self.now.octets.items octets.now && not self.now.news)) }
     {
         !is_message(octets) && (self.is_same(octets) && !self.news)
     }
 
-    /// A unit is recorded. Whether it is news: a message, or not like the record before it.
+    /// Records a unit. Returns whether it is news: a message, or different from the record before it.
     fn take(&mut self, octets: &[u8]) -> bool
         requires { length octets.now ≤ 278 }
         ensures news { result ≡ (is_message octets.now || not (is_same self.old.octets.items octets.now)) }
@@ -62,7 +62,7 @@ impl Latest {
         news
     }
 
-    /// A unit of the other way is recorded, and it is news, or it isn't.
+    /// Notes whether a recorded unit of the other direction is news.
     fn hear(&mut self, news: bool)
         ensures octets { self.new.octets ≡ self.old.octets }
         ensures news { self.new.news ≡ (news || self.old.news) }
@@ -71,10 +71,10 @@ impl Latest {
     }
 }
 
-/// Tells which units of a link are recorded.
+/// Decides which units of a link are recorded.
 #[derive(Drop)]
 pub struct Repeats {
-    /// Whether all are.
+    /// Whether all units are recorded.
     every: bool,
     went: Latest,
     came: Latest,
@@ -93,7 +93,7 @@ impl Repeats {
         }
     }
 
-    /// Whether a unit repeats what was recorded.
+    /// Whether a unit is a repeat.
     fn is_repeat(&self, seen: &Seen) -> bool
         ensures { (h : List OneSeen) → StandsFor seen.now.link h self.now → result ≡ is_repeat h seen.now }
     {
@@ -104,7 +104,7 @@ impl Repeats {
         }
     }
 
-    /// A unit is recorded.
+    /// Notes a recorded unit.
     fn note(&mut self, seen: &Seen)
         ensures stands { (h : List OneSeen) → StandsFor seen.now.link h self.old → StandsFor seen.now.link (with_kept true seen.now h) self.new }
         ensures every { self.new.every ≡ self.old.every }
@@ -118,7 +118,7 @@ impl Repeats {
         }
     }
 
-    /// Whether a unit is recorded, which follows those that were.
+    /// Whether a unit that follows the earlier ones is recorded.
     pub fn keeps(&mut self, seen: &Seen) -> bool
         ensures kept { (h : List OneSeen) → StandsFor seen.now.link h self.old → result ≡ is_kept self.old.every h seen.now }
         ensures stands { (h : List OneSeen) → StandsFor seen.now.link h self.old → StandsFor seen.now.link (with_kept result seen.now h) self.new }

@@ -1,14 +1,14 @@
-//! Units that were seen, and their records.
+//! Units seen on a link, and their records.
 ghost use Rattle.std.specs.Prelude.{◌≡◌, ◌≤◌, ◌+◌, ◌++◌};
 ghost use Rattle.arrayvec.specs.ArrayVec.{array_vec_len};
 ghost use Rattle.line_streams.specs.Records.{HEADER, four, record_of};
 
 use arrayvec::ArrayVec;
 
-/// A unit that was seen on a link.
+/// A unit seen on a link.
 #[derive(Debug, Drop, PartialEq, Eq)]
 pub struct Seen {
-    /// Whether it went out; else it came in.
+    /// Whether it was sent; else it was received.
     pub went: bool,
     /// The number of its link.
     pub link: u16,
@@ -18,8 +18,8 @@ pub struct Seen {
     pub octets: ArrayVec<u8, 278>,
 }
 
-/// What a capture begins with: pcap's magic number, its version 2.4, the most octets of a record, and the link type 139, MTP2 with a
-/// pseudo-header. The lowest octet of a number comes first.
+/// The beginning of a capture: pcap's magic number, its version 2.4, the most octets of a record, and the link type
+/// 139, MTP2 with a pseudo-header. Numbers have their lowest octet first.
 pub fn header() -> [u8; 24]
     ensures { result ≡ HEADER }
 {
@@ -28,7 +28,7 @@ pub fn header() -> [u8; 24]
     ]
 }
 
-/// Puts the four octets of a number at the end, the lowest first.
+/// Appends the four octets of a number, the lowest first.
 fn push_four(number: u32, octets: &mut ArrayVec<u8, 298>)
     requires { array_vec_len octets.old + 4 ≤ 298 }
     ensures items { octets.new.items ≡ octets.old.items ++ four number }
@@ -40,8 +40,8 @@ fn push_four(number: u32, octets: &mut ArrayVec<u8, 298>)
     octets.push((number / 16_777_216 % 256) as u8);
 }
 
-/// The record of a unit: its seconds and microseconds, twice the number of the octets that follow, and these: the way, a 0 (there are no
-/// numbers of annex A), the number of the link, whose highest octet comes first, and the unit.
+/// The record of a unit: its seconds and microseconds, then twice the number of the octets that follow, and these
+/// octets. They are the direction, a 0 (no numbers of annex A), the link's number, highest octet first, and the unit.
 pub fn record(seen: &Seen) -> ArrayVec<u8, 298>
     ensures { result.items ≡ record_of seen.now }
 {

@@ -1,4 +1,4 @@
-//! Taps on the octets of a line: what is read and written goes through them as it is, and what was seen in it is recorded.
+//! Taps on a line: they pass on the octets read and written unchanged, and record the units seen.
 ghost use Rattle.std.specs.Prelude.{◌≡◌, ◌-◌, ◌++◌, ◌∷◌, [], ℕ, List, Option, length, take, drop, IfOk, OnOk};
 ghost use Rattle.std.specs.Io.{ReadsAtMost};
 ghost use Rattle.std.specs.Io.KnownBytes.{Appends, ReadConsumes};
@@ -16,53 +16,53 @@ use rtrb::{Consumer, Producer, RingBuffer};
 use std::alloc::Global;
 use std::io::{self, ErrorKind, Read, Write};
 
-/// How many octets may be read before as many are written.
+/// The most octets that may be read before as many are written.
 const ROOM: usize = 8192;
 
-/// What is read of a line.
+/// The tap on the octets read from a line.
 #[derive(Drop)]
 pub struct InTap<R> {
     reader: R,
-    /// What was read.
+    /// The octets read.
     octets: Producer<u8>,
 }
 
-/// What is written to a line.
+/// The tap on the octets written to a line.
 #[derive(Drop)]
 pub struct OutTap<W, S> {
     writer: W,
-    /// What was read, of which the first octets were captured.
+    /// The octets read and not yet captured.
     octets: Consumer<u8>,
-    /// Which bit of an octet is the first on the line.
+    /// Which bit of an octet is sent first on the line.
     bits: Bits,
-    /// How many octets are still to go out before the first that is captured.
+    /// The number of octets still to be written before the first one captured.
     ahead: usize,
-    /// What was seen.
+    /// The capture of the line.
     pub capture: Capture,
-    /// Where records go.
+    /// The destination of records.
     pub sink: S,
-    /// What failed: from then on nothing is captured, and a write fails.
+    /// A failure: after it nothing is captured, and a write fails.
     pub trouble: Option<io::Error>,
 }
 
-/// How a line is tapped.
+/// The parameters of a tap.
 #[derive(Clone, Copy)]
 pub struct Plan {
     /// The number of its link.
     pub link: u16,
-    /// Which bit of an octet is the first on the line.
+    /// Which bit of an octet is sent first on the line.
     pub bits: Bits,
-    /// How many octets go out before any came in; these aren't captured.
+    /// The number of octets written before any is received; these aren't captured.
     pub ahead: usize,
-    /// Whether every unit is recorded; else repeats are left out.
+    /// Whether every unit is recorded; else repeats are omitted.
     pub every: bool,
 }
 
-/// Taps a line: what a reader gives and what a writer takes. The records go to a sink, which has pcap's header from now on.
+/// Taps a line, given as a reader and a writer. Records go to a sink, to which `tap` writes pcap's header.
 ///
 /// # Errors
 ///
-/// Where there is no memory, or the header can't be written.
+/// If memory runs out, or the header can't be written.
 pub fn tap<R: Drop, W: Drop, S: Write + Drop>(
     alloc: Global,
     reader: R,
@@ -93,7 +93,7 @@ pub fn tap<R: Drop, W: Drop, S: Write + Drop>(
 }
 
 impl<R: Read> InTap<R> {
-    /// Reads octets, which are kept to be captured where there is room for all of them; else none of them is.
+    /// Reads octets, and keeps them for the capture if there is room for all of them; else it keeps none.
     fn take(&mut self, part: &mut [u8]) -> io::Result<usize>
         ensures bound { ReadsAtMost result part.new }
         ensures read { ReadConsumes (R.remaining self.old.reader) (R.remaining self.new.reader) result part.new }
@@ -113,7 +113,7 @@ impl<R: Read> Read for InTap<R> {
     }
 }
 
-/// An octet as it stands on the line, its first bit the lowest.
+/// An octet as it is on the line, with its first bit lowest.
 fn turned(bits: Bits, octet: u8) -> u8
     ensures { result ≡ turned bits octet }
 {
@@ -134,7 +134,7 @@ fn put<S: Write>(seen: &Option<Seen>, sink: &mut S) -> io::Result<()>
 }
 
 impl<W, S: Write> OutTap<W, S> {
-    /// An octet went out: one that came in is captured with it.
+    /// Captures an octet that was written, paired with one that was read.
     fn capture_one(&mut self, octet: u8) -> io::Result<()>
         ensures tapped { OnOk result ((before : Option (List ℕ)) (gone : List ℕ) (seen : List OneSeen) → HasTapped S.contents before gone seen self.old
             → (more : List OneSeen) × HasTapped S.contents before (gone ++ octet ∷ []) more self.new) }
@@ -150,7 +150,7 @@ impl<W, S: Write> OutTap<W, S> {
         put(&kept.came, &mut self.sink)
     }
 
-    /// Octets went out.
+    /// Captures octets that were written.
     fn capture_all(&mut self, octets: &[u8]) -> io::Result<()>
         ensures tapped { OnOk result ((before : Option (List ℕ)) (gone : List ℕ) (seen : List OneSeen) → HasTapped S.contents before gone seen self.old
             → (more : List OneSeen) × HasTapped S.contents before (gone ++ octets.now) more self.new) }
@@ -163,7 +163,7 @@ impl<W, S: Write> OutTap<W, S> {
         Ok(())
     }
 
-    /// Octets went out, of which the first may be of those that go ahead.
+    /// Captures octets that were written, after those that go ahead.
     fn note(&mut self, octets: &[u8]) -> io::Result<()>
         ensures tapped { OnOk result ((before : Option (List ℕ)) (gone : List ℕ) (seen : List OneSeen) → HasTapped S.contents before gone seen self.old
             → (more : List OneSeen) × HasTapped S.contents before (gone ++ drop self.old.ahead octets.now) more self.new) }

@@ -1,29 +1,29 @@
-//! Which `quit` needn't wait.
+//! Finding a `quit` that needn't wait.
 
 use line_filter::{LineSays, MOST_OCTETS, line_says};
 use std::alloc::{AllocError, Global};
 use std::str;
 
-/// Lines between which so many milliseconds nothing came weren't given together.
+/// Milliseconds without octets after which lines no longer count as given together.
 const APART: u64 = 1_000;
 
-/// Looks at lines of orders as they come, for the millisecond at which `quit` ends the run. A `quit` waits for what stands in front of it, as any order, but
-/// only for the milliseconds of lines that were given together with it.
+/// Examines lines of orders as they arrive, for the millisecond at which `quit` ends the run. Like any order, `quit`
+/// waits for the time of earlier lines, but only of those given together with it.
 #[derive(Drop)]
 pub(crate) struct Watch {
     alloc: Global,
-    /// The line under way; of one that is too long, no more than shows that.
+    /// The current line; of a line that is too long, one octet more than the limit.
     line: Vec<u8>,
-    /// The millisecond for which lines that were given together make those after them wait.
+    /// The millisecond until which lines given together make later ones wait.
     since: u64,
-    /// The millisecond from which on nothing came, if nothing comes now.
+    /// The millisecond since which no octet has arrived, if none arrives now.
     resting: Option<u64>,
-    /// The first millisecond for which some `quit` waits.
+    /// The first millisecond for which a `quit` waits.
     quit: Option<u64>,
 }
 
 impl Watch {
-    /// No line came.
+    /// The state before any line.
     pub fn new(alloc: Global) -> Watch {
         Watch {
             alloc,
@@ -34,19 +34,19 @@ impl Watch {
         }
     }
 
-    /// Nothing comes at this millisecond.
+    /// Notes that no octet arrives at this millisecond.
     pub fn rest(&mut self, now: u64) {
         if self.resting.is_none() {
             self.resting = Some(now);
         }
     }
 
-    /// Whether nothing came when something was last asked for.
+    /// Whether no octet arrived at the last read.
     pub fn rests(&self) -> bool {
         self.resting.is_some()
     }
 
-    /// Whether the run ends at this millisecond, whatever waits.
+    /// Whether the run ends at this millisecond, even if orders wait.
     pub fn is_quit(&self, now: u64) -> bool {
         match self.quit {
             Some(millisecond) => millisecond <= now,
@@ -54,7 +54,7 @@ impl Watch {
         }
     }
 
-    /// An order is given, for which lines that were given together with it make it wait.
+    /// Notes an order, which waits for lines given together with it.
     fn order(&mut self, order: &str) {
         if order != "quit" {
             return;
@@ -65,7 +65,7 @@ impl Watch {
         };
     }
 
-    /// The end of the line under way.
+    /// Ends the current line.
     fn end_line(&mut self) -> Result<(), AllocError> {
         let said = match str::from_utf8(self.line.as_slice()) {
             Ok(text) if self.line.len() <= MOST_OCTETS => line_says(self.alloc, text)?,
@@ -84,7 +84,7 @@ impl Watch {
         Ok(())
     }
 
-    /// One octet more.
+    /// Takes one octet.
     fn look(&mut self, octet: u8) -> Result<(), AllocError> {
         if octet == b'\n' {
             return self.end_line();
@@ -95,7 +95,7 @@ impl Watch {
         Ok(())
     }
 
-    /// Octets come at this millisecond.
+    /// Takes octets that arrive at this millisecond.
     pub fn see(&mut self, now: u64, octets: &[u8]) -> Result<(), AllocError> {
         if let Some(millisecond) = self.resting {
             if now.saturating_sub(millisecond) >= APART {

@@ -1,4 +1,4 @@
--- What was told so far.
+-- The reports so far.
 use Rattle.line_streams.specs.Departing.{TellsLost}
 use Rattle.line_streams.proofs.departures.Departures.end.Given as goal
 
