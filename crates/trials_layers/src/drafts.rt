@@ -1,4 +1,4 @@
-//! The draft that stands for a set of plain data, and what `verify` says of it.
+//! The draft for a set of plain data, and the result of `verify`.
 use crate::plans::{Claim, P, Plan, Recipe, UP, Verdict};
 use std::alloc::{AllocError, Global};
 use turn_check::{Verified, verify};
@@ -134,7 +134,7 @@ fn routes(alloc: Global) -> Result<Sequence<DraftRoute>, AllocError> {
     Ok(Sequence::from(both))
 }
 
-/// The draft of a set, with this START in the place of its own.
+/// The draft of a set with this START in place of its own.
 fn draft_with(alloc: Global, recipe: &Recipe, start: DraftPiece) -> Result<Draft, AllocError> {
     Ok(Draft {
         processes: one(alloc, process(alloc, recipe, start)?)?,
@@ -154,7 +154,7 @@ fn judged(draft: Draft) -> Verdict {
     }
 }
 
-/// What `verify` says of a set.
+/// The result of `verify` for a set.
 pub fn tried(alloc: Global, recipe: &Recipe) -> Verdict {
     match draft(alloc, recipe) {
         Ok(draft) => judged(draft),
@@ -162,7 +162,7 @@ pub fn tried(alloc: Global, recipe: &Recipe) -> Verdict {
     }
 }
 
-/// What `verify` says of a set with this START in the place of its own.
+/// The result of `verify` for a set with this START in place of its own.
 pub fn tried_with(alloc: Global, recipe: &Recipe, start: DraftPiece) -> Verdict {
     match draft_with(alloc, recipe, start) {
         Ok(draft) => judged(draft),
@@ -170,7 +170,7 @@ pub fn tried_with(alloc: Global, recipe: &Recipe, start: DraftPiece) -> Verdict 
     }
 }
 
-/// The set, where it's accepted.
+/// The set, if it is accepted.
 pub fn made(alloc: Global, recipe: &Recipe) -> Option<Verified> {
     verify(draft(alloc, recipe).ok()?).ok()
 }

@@ -1,7 +1,7 @@
-//! Tests of the lower layers over their public calls: units and lines, orders for a line, stores and one side of a link, ports, timers,
-//! tokens, unset paths and code; valid sets and turns, on sets that are written as plain data.
-//! They stand in a crate of their own so that the layers aren't proved a second time with them, and in one, so that these are loaded and
-//! compiled once.
+//! Tests of the lower layers through their public calls: units and lines, orders for a line, stores and one side of a
+//! link, ports, timers, tokens, unset paths and code; valid sets and turns, on sets written as plain data. They are in
+//! a crate of their own, so that the layers aren't proved again with them, and in one crate, so that these are loaded
+//! and compiled once.
 #![tactic(auto)]
 
 #[cfg(test)]

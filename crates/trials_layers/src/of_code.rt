@@ -1,11 +1,11 @@
-//! What each instruction does on operands, row by row.
+//! The effect of each instruction on operands, row by row.
 ghost use Rattle.std.specs.Prelude.{◌≡◌, ◌≤◌, IsTrue};
 ghost use Rattle.turn_code.specs.Code.{sends};
 
 use arrayvec::ArrayVec;
 use turn_code::*;
 
-/// An instruction, the operands (the topmost last), what follows, and the topmost operand then.
+/// An instruction, the operands (the topmost last), how it continues, and the topmost operand after it.
 #[derive(Clone, Copy)]
 struct Does(Instruction, &'static [Value], After, Option<Value>);
 
@@ -33,7 +33,7 @@ const LEAST: Value = Value::Int(-2_147_483_648);
 
 const HALF: Value = Value::Int(65_536);
 
-/// Instructions that go on, and the ends of a turn.
+/// Instructions that continue, and the ends of a turn.
 const GOES_ON: [Does; 10] = [
     Does(Instruction::Int(3), &[], GOES, Some(Value::Int(3))),
     Does(
@@ -110,7 +110,7 @@ const DIVIDES: [Does; 4] = [
     ),
 ];
 
-/// Truth values are joined and compared.
+/// Truth values are combined and compared.
 const JOINS: [Does; 6] = [
     Does(Instruction::Not, &[YES], GOES, Some(NO)),
     Does(Instruction::And, &[YES, NO], GOES, Some(NO)),
@@ -125,7 +125,7 @@ const JOINS: [Does; 6] = [
     ),
 ];
 
-/// Branches jump to place 9, or go on.
+/// Branches jump to place 9, or continue.
 const JUMPS: [Does; 7] = [
     Does(OVER_9, &[Value::Int(10)], THERE, None),
     Does(OVER_9, &[Value::Int(9)], GOES, Some(Value::Int(9))),
@@ -154,7 +154,7 @@ const WRAPS: [Does; 4] = [
     Does(Instruction::Neg, &[LEAST], GOES, Some(LEAST)),
 ];
 
-/// Each trouble is named, and the operands stay.
+/// Each trouble is named, and the operands are kept.
 const TROUBLES: [Does; 10] = [
     Does(Instruction::Load(VariableNumber(1)), &[], UNSET, None),
     Does(Instruction::Load(VariableNumber(2)), &[], UNSET, None),
@@ -214,7 +214,7 @@ const FROM: Address = Address {
     instance: Some(InstanceNumber(2)),
 };
 
-/// An input with the parameter 5 from there.
+/// An input from there, with the parameter 5.
 fn input() -> Input {
     let mut parameters = ArrayVec::new();
     parameters.push(Value::Int(5));
@@ -225,7 +225,7 @@ fn input() -> Input {
     }
 }
 
-/// Whether an instruction sends no more than 4 parameters.
+/// Whether an instruction sends at most 4 parameters.
 fn sends_few(instruction: Instruction) -> bool
     ensures { IsTrue result → sends instruction ≤ 4 }
 {
@@ -235,7 +235,7 @@ fn sends_few(instruction: Instruction) -> bool
     }
 }
 
-/// What follows an instruction with the parameter 5, and the topmost operand then.
+/// How an instruction with the parameter 5 continues, and the topmost operand after it.
 fn done(instruction: Instruction, values: &[Value]) -> Option<(After, Option<Value>)> {
     let mut machine = machine(values);
     if machine.operands.len() >= 16 || machine.effects.len() >= 32 || !sends_few(instruction) {
@@ -245,7 +245,7 @@ fn done(instruction: Instruction, values: &[Value]) -> Option<(After, Option<Val
     Some((follows, machine.operands.pop()))
 }
 
-/// The number of the first row of which something else comes.
+/// The index of the first row with another result.
 fn first_other(rows: &[Does]) -> Option<usize> {
     for (number, row) in rows.iter().enumerate() {
         let Does(instruction, values, after, top) = *row;
@@ -281,7 +281,7 @@ fn arithmetic_wraps_round(rt: HostRuntime) {
     assert_eq!(rt; first_other(&WRAPS), None);
 }
 
-/// What comes of an addition behind the end of the code; nothing where there is no room for it.
+/// The result of an addition after the end of the code; `None` if there is no room for it.
 fn outside() -> Option<After> {
     let mut machine = machine(&[]);
     if machine.operands.len() >= 16 {
@@ -296,7 +296,7 @@ fn each_trouble_is_named(rt: HostRuntime) {
     assert_eq!(rt; outside(), Some(After::Stuck(Trouble::Outside)));
 }
 
-/// What the one effect sends, and where: three values at most.
+/// The signal, receiver and parameters (at most three) of the only effect.
 fn sent(effects: &[Effect]) -> Option<(SignalNumber, Address, [Option<Value>; 3])> {
     match effects {
         [Effect::Output(sending)] => {
@@ -314,7 +314,7 @@ fn sent(effects: &[Effect]) -> Option<(SignalNumber, Address, [Option<Value>; 3]
 
 const OUTPUT: Instruction = Instruction::Output(SignalNumber(4), Receiver::Sender, 2);
 
-/// What follows an output of two of three operands, the topmost one then, and what was sent.
+/// How an output of two of three operands continues, the topmost operand after it, and what was sent.
 fn answered() -> Option<
     (
         After,
@@ -342,7 +342,7 @@ fn an_answer_goes_to_its_sender(rt: HostRuntime) {
     assert_eq!(rt; answered(), Some((GOES, Some(Value::Int(1)), Some(ANSWER))));
 }
 
-/// What follows a store of 4 in variable 1, whether the variables are 7 and 4 then, and how many instructions were counted.
+/// How a store of 4 in variable 1 continues, whether the variables are then 7 and 4, and the count of instructions.
 fn stored() -> Option<(After, bool, u32)> {
     let mut machine = machine(&[Value::Int(4)]);
     if machine.operands.len() >= 16 {

@@ -1,4 +1,4 @@
-//! Lines by hand: how a unit is stuffed, and what comes of the octets of a line, however they are cut.
+//! Lines written by hand: the stuffing of a unit, and the events for the octets of a line, however they are cut.
 use bit_line::{Deframer, LineEvent, NoMemory, Stuffer};
 use std::alloc::Global;
 use su_octets::{Head, Unit};
@@ -22,7 +22,7 @@ const STUFFED: [u8; 7] = [0x7e, 0xdf, 0xf7, 0x05, 0xf8, 0xbe, 0xaf];
 /// A flag, the FISU, a flag and a bit, then another flag.
 const LINE: [u8; 9] = [0x7e, 0xdf, 0xf7, 0x05, 0xf8, 0xbe, 0xaf, 0x1f, 0x7e];
 
-/// How many bits are left before the FISU, whether it becomes these octets, and how many bits are left then.
+/// How many bits are left before the FISU, whether it becomes these octets, and how many bits are left after it.
 fn stuffed() -> Option<(u8, bool, u8)> {
     let mut stuffer = Stuffer::new();
     let before = stuffer.rest().1;
@@ -39,7 +39,7 @@ fn known_stuffing(rt: HostRuntime) {
     assert_eq!(rt; stuffed(), Some((0, true, 6)));
 }
 
-/// What is told of what came: the FISU, an errored unit, 16 octets of counting mode.
+/// An event: the FISU, an errored unit, or 16 octets in counting mode.
 #[derive(Clone, Copy, PartialEq, Eq, Debug)]
 enum Told {
     Fisu,
@@ -77,7 +77,7 @@ const OTHER: [Option<Told>; 3] = [Some(Told::Errored), None, None];
 
 const BOTH: [Option<Told>; 3] = [Some(Told::Fisu), Some(Told::Errored), None];
 
-/// What comes of the octets before a place, and of those from there on.
+/// The events for the octets before an index, and for those from there on.
 fn cut(alloc: Global, place: usize) -> Option<[[Option<Told>; 3]; 2]> {
     let mut deframer = Deframer::new();
     let (front, back) = LINE.as_slice().split_at_checked(place)?;
@@ -86,7 +86,7 @@ fn cut(alloc: Global, place: usize) -> Option<[[Option<Told>; 3]; 2]> {
     Some([three(&early), three(&late)])
 }
 
-/// The first place at which something else comes where the line is cut there.
+/// The first index at which cutting the line changes the events.
 fn first_other_cut(alloc: Global) -> Option<usize> {
     for place in 0..=LINE.len() {
         let wanted = match place {
@@ -101,13 +101,13 @@ fn first_other_cut(alloc: Global) -> Option<usize> {
     None
 }
 
-/// The unit comes at the eighth octet and an errored one at the ninth, for every cutting.
+/// The unit is reported at the eighth octet and an errored one at the ninth, however the line is cut.
 #[test]
 fn known_events(rt: HostRuntime) {
     assert_eq!(rt; first_other_cut(rt.alloc()), None);
 }
 
-/// The number of the first octet with which, one by one, something else comes.
+/// The index of the first octet with other events if the octets are fed one by one.
 fn first_other_octet() -> Option<usize> {
     let mut deframer = Deframer::new();
     for (place, octet) in LINE.iter().enumerate() {
@@ -128,20 +128,20 @@ fn known_events_by_octet(rt: HostRuntime) {
     assert_eq!(rt; first_other_octet(), None);
 }
 
-/// What comes of these octets first.
+/// The events for these octets at the start of a line.
 fn fed(alloc: Global, octets: &[u8]) -> Option<[Option<Told>; 3]> {
     let events = Deframer::new().feed(alloc, octets).ok()?;
     Some(three(&events))
 }
 
-/// 128 bits of counting mode, which is on at first.
+/// 128 bits in counting mode, which is on at first.
 #[test]
 fn sixteen_octets(rt: HostRuntime) {
     let wanted = [Some(Told::SixteenOctets), None, None];
     assert_eq!(rt; fed(rt.alloc(), &[0xff; 16]), Some(wanted));
 }
 
-/// What comes of the line; where memory is refused once, of the same octets after that.
+/// The events for the line; if memory runs out once, those for the same octets fed again.
 fn fed_at_last(alloc: Global) -> Option<[Option<Told>; 3]> {
     let mut deframer = Deframer::new();
     let events = match deframer.feed(alloc, &LINE) {
@@ -151,8 +151,8 @@ fn fed_at_last(alloc: Global) -> Option<[Option<Told>; 3]> {
     Some(three(&events))
 }
 
-/// With ample memory the call succeeds at once. Where memory is refused, no bit was taken: the same octets give all their
-/// events after that.
+/// With ample memory the call succeeds at once. If memory runs out, no bit is taken: the same octets fed again return
+/// all their events.
 #[test]
 fn refused_memory_takes_no_bit(rt: HostRuntime) {
     assert_eq!(rt; fed_at_last(rt.alloc()), Some(BOTH));

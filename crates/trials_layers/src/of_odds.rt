@@ -1,7 +1,7 @@
-//! Units behind those at fault, and buffers that are emptied.
+//! Units after faulty ones, and buffers that are emptied.
 use crate::of_sides::{Step, first_others};
 
-/// The unit behind one at fault acknowledges nothing and isn't accepted; where it is at fault itself it is told of, and so is the next.
+/// The unit after a faulty one doesn't acknowledge and isn't accepted. If faulty itself, it and the next are reported.
 const DISCARDS_BEHIND_ODD: [Step; 10] = [
     Step::Odd,
     Step::Put(0x80),
@@ -15,7 +15,7 @@ const DISCARDS_BEHIND_ODD: [Step; 10] = [
     Step::Hear(0x80, 0x80, true, None, false),
 ];
 
-/// What was out is no abnormal number until a message goes out, and acknowledges nothing; the numbers go on.
+/// The numbers of cleared messages aren't abnormal until a message goes out, and acknowledge nothing; numbers continue.
 const CLEARS: [Step; 10] = [
     Step::Put(1),
     Step::Put(2),

@@ -1,9 +1,9 @@
-//! Streams of orders, read in parts of some sizes.
+//! Streams of orders, read in parts of several sizes.
 use line_filter::{LineOrders, Orders};
 use std::alloc::Global;
 use std::io::{self, ErrorKind, Read};
 
-/// A reader that gives so many octets at once, and is interrupted before each read.
+/// A reader that returns at most so many octets at once, and is interrupted before each read.
 #[derive(Drop)]
 struct Parts<'a> {
     rest: &'a [u8],
@@ -22,7 +22,7 @@ impl Read for Parts<'_> {
     }
 }
 
-/// The orders that are due at the first milliseconds, a line each behind the millisecond.
+/// The orders that are due in the first milliseconds, each on a line after its millisecond.
 fn obeyed(alloc: Global, stream: &[u8], most: usize) -> io::Result<String> {
     let reader = Parts {
         rest: stream,
@@ -74,7 +74,7 @@ fn orders_are_those_of_whole_lines(rt: HostRuntime) -> io::Result<()> {
     Ok(())
 }
 
-/// What comes of a line of so many octets, and of one behind it.
+/// The length of the output for a line of so many octets and a line after it.
 fn long_line(alloc: Global, octets: usize, most: usize) -> io::Result<usize> {
     let mut stream = vec![in alloc; b'x'; octets]?;
     stream.extend_from_slice(b"\nfree\n")?;

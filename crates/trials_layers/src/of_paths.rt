@@ -1,8 +1,8 @@
-//! Graphs by hand, each with the path that the rule names, or with the states that may be entered with a variable unset.
+//! Graphs written by hand, with the path that the rule names, or the states that may be entered with a variable unset.
 use sdl_unset::{Graph, Passage, Summary, first_unset};
 use std::alloc::{AllocError, Global};
 
-/// A transition with one way through it: what it reads, the state that it leads to, and what it keeps.
+/// A transition with one path: the variables it reads, the state it leads to, and the variables it doesn't set.
 #[derive(Clone, Copy)]
 struct Way(u32, usize, u32);
 
@@ -10,14 +10,14 @@ struct Way(u32, usize, u32);
 #[derive(Clone, Copy)]
 struct Plan(Way, &'static [&'static [Way]]);
 
-/// Input 0 of state 0 sets variable 0 and leads to state 1, and input 1 leads there too; in state 1 input 0 reads the variable.
+/// Input 0 of state 0 sets variable 0, input 1 doesn't; both lead to state 1, where input 0 reads the variable.
 const TWO_ROWS: &[&[Way]] = &[&[Way(0, 1, 0), Way(0, 1, 1)], &[Way(1, 1, 0)]];
 
 /// START leads to state 0.
 const TWO_STATES: Plan = Plan(Way(0, 0, 1), TWO_ROWS);
 
-/// START leads to state 1. Its inputs lead to states 0 and 2; state 2 reads the variable on its second input, state 0
-/// on its first; state 3 reads it too, and nothing leads there.
+/// START leads to state 1. Its inputs lead to states 0 and 2. State 2 reads the variable on its second input, state 0
+/// on its first. State 3 reads it too, but nothing leads there.
 const FOUR_STATES: Plan = Plan(
     Way(0, 1, 3),
     &[
@@ -28,10 +28,10 @@ const FOUR_STATES: Plan = Plan(
     ],
 );
 
-/// A graph, a variable, and what `Debug` shows of its fate: the path by which it is read unset, or marks of the states that may be entered
-/// with it unset.
+/// A graph, a variable, and its fate as `Debug` prints it: the path by which it is read unset, or marks of the states
+/// that may be entered with it unset.
 const ROWS: [(Plan, u32, &str); 7] = [
-    // the path that sets nothing
+    // the path without a setting of the variable
     (TWO_STATES, 0, "Unset([Start, Input(0, 1), Input(1, 0)])"),
     (TWO_STATES, 1, "Set([false, false])"),
     // START sets neither of two variables, and each input of state 0 sets variable 1
@@ -39,9 +39,9 @@ const ROWS: [(Plan, u32, &str); 7] = [
     (Plan(Way(0, 0, 3), TWO_ROWS), 2, "Set([false, false])"),
     // the first transition reads it
     (Plan(Way(2, 0, 1), TWO_ROWS), 1, "Unset([Start])"),
-    // of paths of one length the first in the text
+    // of paths of equal length the first in the text
     (FOUR_STATES, 0, "Unset([Start, Input(1, 0), Input(2, 1)])"),
-    // what nothing leads to doesn't count
+    // a state to which nothing leads doesn't count
     (FOUR_STATES, 1, "Set([false, true, false, false])"),
 ];
 
@@ -75,7 +75,7 @@ fn graph(alloc: Global, plan: &Plan) -> Result<Graph, AllocError> {
     })
 }
 
-/// What is shown of the fate of a variable, of those that there may be.
+/// The printed fate of a variable, if there may be such a variable.
 fn shown(alloc: Global, plan: &Plan, variable: u32) -> Option<String> {
     if variable >= 32 {
         return None;
@@ -85,7 +85,7 @@ fn shown(alloc: Global, plan: &Plan, variable: u32) -> Option<String> {
     format!(in alloc; "{fate:?}").ok()
 }
 
-/// Whether that is shown.
+/// Whether this is printed.
 fn is_shown(alloc: Global, plan: &Plan, variable: u32, wanted: &str) -> bool {
     match shown(alloc, plan, variable) {
         Some(found) => found.as_str() == wanted,
@@ -93,7 +93,7 @@ fn is_shown(alloc: Global, plan: &Plan, variable: u32, wanted: &str) -> bool {
     }
 }
 
-/// The number of the first row of which something else is shown.
+/// The index of the first row for which something else is printed.
 fn first_other(alloc: Global, rows: &[(Plan, u32, &str)]) -> Option<usize> {
     for (number, (plan, variable, wanted)) in rows.iter().enumerate() {
         if !is_shown(alloc, plan, *variable, wanted) {

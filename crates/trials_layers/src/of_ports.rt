@@ -1,33 +1,33 @@
-//! Ports with save: what waits, what is taken, what is full, step by step.
+//! Ports with save: which signals wait, are taken or find the port full, step by step.
 use arrayvec::ArrayVec;
 use input_port::{Arrival, Item, Port, Saved};
 use std::alloc::Global;
 use turn_code::{Address, Party, ProcessNumber, SignalNumber, TimerNumber, Value};
 
-/// A signal by its number, a timer by 200 and its own.
+/// A signal by its number, a timer by 200 and its own number.
 type Name = u8;
 
-/// What is done to a port, and what comes of it. Signals carry a number, and come from the environment or, with a number from 100 on, from
-/// process 3.
+/// A call of a port, and its result. Signals carry a number, and come from the environment or, with a number from 100
+/// on, from process 3.
 #[derive(Clone, Copy)]
 enum Step {
     /// A signal with a number is put.
     Put(Name, i32),
     /// There is no room for a signal (Q1).
     Full(Name),
-    /// A timer's signal is put, which isn't there.
+    /// The signal of a timer is put that isn't there.
     PutTimer(Name),
-    /// Where these are saved that is found first, and not taken.
+    /// If these are saved, this is found first, and not taken.
     Finds(&'static [Name], Option<Name>),
-    /// Where these are saved that is taken, with its number.
+    /// If these are saved, this is taken, with its number.
     Takes(&'static [Name], Option<(Name, i32)>),
-    /// A timer's signal is taken out, if it is there.
+    /// The signal of a timer is removed, if it is there.
     Drops(Name),
-    /// All is taken out.
+    /// All is removed.
     Clears,
     /// These wait, in this order.
     Holds(&'static [Name]),
-    /// So many wait, so many of them signals; so many signals may.
+    /// So many items wait, so many of them signals; so many signals may wait.
     Counts(usize, usize, usize),
 }
 
@@ -51,7 +51,7 @@ fn arrival(signal: Name, number: i32) -> Arrival {
     }
 }
 
-/// The name of what waits.
+/// The name of an item that waits.
 fn name_of(item: &Item) -> Name {
     match item {
         Item::Signal(arrival) => arrival.signal.0,
@@ -59,7 +59,7 @@ fn name_of(item: &Item) -> Name {
     }
 }
 
-/// Whether it is what was put with this name and number.
+/// Whether an item is the one that was put with this name and number.
 fn is_that(item: &Item, name: Name, number: i32) -> bool {
     match item {
         Item::Signal(found) => {
@@ -72,7 +72,7 @@ fn is_that(item: &Item, name: Name, number: i32) -> bool {
     }
 }
 
-/// What is saved where these are.
+/// A set of saved signals and timers with these names.
 fn saved(names: &[Name]) -> Saved {
     let mut saved = Saved::nothing();
     for name in names {
@@ -95,7 +95,7 @@ fn puts_timer(port: &mut Port, name: Name) -> bool {
     port.has_timer(timer)
 }
 
-/// Whether that is taken.
+/// Whether this is taken.
 fn takes(port: &mut Port, names: &[Name], wanted: Option<(Name, i32)>) -> bool {
     match port.take(&saved(names)) {
         Some(item) => match wanted {
@@ -139,7 +139,7 @@ fn does(port: &mut Port, step: Step) -> bool {
     }
 }
 
-/// A saved signal waits, and comes before newer ones.
+/// A saved signal waits, and is taken before newer ones.
 const SAVES: [Step; 9] = [
     Step::Put(0, 0),
     Step::Put(127, 1),
@@ -152,7 +152,7 @@ const SAVES: [Step; 9] = [
     Step::Takes(&[0], None),
 ];
 
-/// Timers have places of their own beside one signal.
+/// Timers have places of their own besides one signal.
 const HAS_TIMERS: [Step; 17] = [
     Step::Put(0, 0),
     Step::PutTimer(200),
@@ -173,7 +173,7 @@ const HAS_TIMERS: [Step; 17] = [
     Step::Counts(0, 0, 1),
 ];
 
-/// One signal has room, again and again.
+/// There is room for one signal, again and again.
 const HAS_ROOM_FOR_ONE: [Step; 13] = [
     Step::Takes(&[], None),
     Step::Put(0, 0),
@@ -190,7 +190,7 @@ const HAS_ROOM_FOR_ONE: [Step; 13] = [
     Step::Holds(&[2]),
 ];
 
-/// What waits in the one that is copied.
+/// The items in the port that is copied.
 const PUTS_FIVE: [Step; 5] = [
     Step::Put(0, 0),
     Step::Put(127, 1),
@@ -199,7 +199,7 @@ const PUTS_FIVE: [Step; 5] = [
     Step::PutTimer(207),
 ];
 
-/// What waits in the copy then.
+/// The items in the copy.
 const HAS_FIVE: [Step; 8] = [
     Step::Holds(&[0, 127, 0, 127, 207]),
     Step::Counts(5, 4, 64),
@@ -211,7 +211,7 @@ const HAS_FIVE: [Step; 8] = [
     Step::Holds(&[207, 127]),
 ];
 
-/// The number of the first step at which a port does something else.
+/// The index of the first step with another result.
 fn first_other(port: &mut Port, steps: &[Step]) -> Option<usize> {
     for (number, step) in steps.iter().enumerate() {
         if !does(port, *step) {
@@ -221,7 +221,7 @@ fn first_other(port: &mut Port, steps: &[Step]) -> Option<usize> {
     None
 }
 
-/// A port; where memory is refused once, one that is asked for again.
+/// A port; if memory runs out once, a second try.
 fn made(alloc: Global, capacity: usize) -> Option<Port> {
     let capacity = capacity.clamp(1, 64);
     match Port::new(alloc, capacity) {
@@ -230,7 +230,7 @@ fn made(alloc: Global, capacity: usize) -> Option<Port> {
     }
 }
 
-/// The same of a new port.
+/// As `first_other`, for a new port.
 fn first_other_of_new(alloc: Global, capacity: usize, steps: &[Step]) -> Option<usize> {
     match made(alloc, capacity) {
         Some(mut port) => first_other(&mut port, steps),
@@ -257,7 +257,7 @@ fn full_names(signals: Name) -> ArrayVec<Name, 72> {
     names
 }
 
-/// Puts what has this name, with its name as the number of a signal.
+/// Puts the item of this name; a signal carries its name as its number.
 fn puts(port: &mut Port, name: Name) -> bool {
     if name < 200 {
         does(port, Step::Put(name, i32::from(name)))
@@ -266,7 +266,7 @@ fn puts(port: &mut Port, name: Name) -> bool {
     }
 }
 
-/// Puts all that have these names.
+/// Puts the items of these names.
 fn puts_all(port: &mut Port, names: &[Name]) -> bool {
     for name in names {
         if !puts(port, *name) {
@@ -276,7 +276,7 @@ fn puts_all(port: &mut Port, names: &[Name]) -> bool {
     true
 }
 
-/// Whether an item is taken from a place, where those before it are saved, and the others stay in their order. Then it is put again.
+/// Whether an item is taken after saved ones, and the others stay in their order. Then it is put again.
 fn takes_from(port: &mut Port, names: &mut ArrayVec<Name, 72>, place: usize) -> bool {
     let Some(name) = names.get(place).copied() else {
         return false;
@@ -289,8 +289,8 @@ fn takes_from(port: &mut Port, names: &mut ArrayVec<Name, 72>, place: usize) -> 
     taken && left && puts(port, name) && holds(port, names.as_slice())
 }
 
-/// The first place from which an item isn't taken as it should be, in a full port where eight timers' signals wait, and whose ring goes
-/// round twice.
+/// The first index at which an item isn't taken as it should be, in a full port where eight timers' signals wait, and
+/// whose ring wraps twice.
 fn first_wrong_take(alloc: Global, signals: Name) -> Option<usize> {
     let mut names = full_names(signals);
     let mut port = made(alloc, usize::from(signals))?;
@@ -315,7 +315,7 @@ fn an_item_is_taken_from_each_place(rt: HostRuntime) {
     assert_eq!(rt; first_wrong_take(rt.alloc(), 64), None);
 }
 
-/// A copy; where memory is refused once, one that is asked for again, of what is still as it was.
+/// A copy; if memory runs out once, a second try, with the port unchanged.
 fn copied(port: &Port) -> Option<Port> {
     match port.copy() {
         Ok(copy) => Some(copy),
@@ -324,7 +324,7 @@ fn copied(port: &Port) -> Option<Port> {
     }
 }
 
-/// The number of the first step at which the copy of a port, which is emptied then, does something else.
+/// The index of the first step with another result for the copy of a port that is emptied after copying.
 fn first_other_of_copy(alloc: Global) -> Option<usize> {
     let mut port = made(alloc, 64)?;
     if first_other(&mut port, &PUTS_FIVE).is_some() {
@@ -337,13 +337,13 @@ fn first_other_of_copy(alloc: Global) -> Option<usize> {
     first_other(&mut copy, &HAS_FIVE)
 }
 
-/// With ample memory each call succeeds at once. Where memory is refused, nothing has changed, and the next call succeeds.
+/// With ample memory each call succeeds at once. If memory runs out, nothing changes, and the next call succeeds.
 #[test]
 fn a_copy_has_the_same_items(rt: HostRuntime) {
     assert_eq!(rt; first_other_of_copy(rt.alloc()), None);
 }
 
-/// Whether these are saved that are named, and the numbers behind the greatest are nowhere.
+/// Whether only the named ones are saved, and numbers above the greatest never are.
 fn is_saved_alone() -> bool {
     let found = saved(&[0, 200]);
     found.has_signal(SignalNumber(0))

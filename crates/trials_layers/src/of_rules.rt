@@ -1,4 +1,4 @@
-//! For each rule sets that break it alone, and where; and sets that break none.
+//! For each rule, sets that break only that rule, and where; and sets that break no rule.
 use crate::drafts::{facts, tried, tried_with};
 use crate::plans::*;
 use std::alloc::{AllocError, Global};
@@ -8,7 +8,7 @@ use turn_code::{
     Sequence, SignalNumber, Sort, StateNumber, TimerNumber, Trigger, Value,
 };
 
-/// `STOP;` where n is set from the beginning.
+/// `STOP;` if n is set from the beginning.
 const STOP_WITH_N: Plan = Plan {
     code: &[Instruction::Stop],
     claims: &[Claim(&[], 1, 1, 0)],
@@ -30,23 +30,23 @@ const ANSWER: Plan = Plan {
     counts: (3, 1, 1),
 };
 
-/// What is other in a set than in the counter.
+/// What differs in a set from the counter.
 #[derive(Clone, Copy)]
 pub(crate) enum Change {
     Nothing,
     /// START has this code.
     Start(Plan),
-    /// n begins so, and START stops.
+    /// n has this initial value, and START stops.
     Initial(Value),
     /// Run saves these.
     Saves(&'static [Trigger]),
-    /// Run saves nothing and waits for this, which has that code.
+    /// Run saves nothing and waits for this, with this code.
     Input(Trigger, Plan),
-    /// Both: START has this code, and Run saves nothing and waits for this, which has that code.
+    /// Both: START has this code, and Run saves nothing and waits for this, with that code.
     Both(Plan, Trigger, Plan),
     /// Up has these parameters.
     Parameters(&'static [Sort]),
-    /// So many states stand behind Run.
+    /// There are so many further states after Run.
     More(u32),
     /// So many instances run.
     Instances(u32),
@@ -80,7 +80,7 @@ pub(crate) fn changed(change: Change) -> Recipe {
     recipe
 }
 
-/// The place of an answer to SENDER behind what Run waits for.
+/// Place 1 of the transition for which Run waits: that of an answer to SENDER.
 const INPUT_1: Spot = Spot {
     process: P,
     state: Place::State(RUN),
@@ -88,7 +88,7 @@ const INPUT_1: Spot = Spot {
     place: 1,
 };
 
-/// Changes, and what becomes of the counter with each.
+/// Changes, and the result for the counter with each.
 const SETS: [(Change, Verdict); 17] = [
     (Change::Nothing, Verdict::Accepted),
     (Change::Initial(Value::Int(1)), Verdict::Accepted),
@@ -96,7 +96,7 @@ const SETS: [(Change, Verdict); 17] = [
         Change::Initial(Value::Bool(true)),
         Verdict::Refused(Rule::Sort, START_0),
     ),
-    // START says that total is set as it begins
+    // START claims that total is set at its beginning
     (Change::Start(STOP), Verdict::Refused(Rule::Unset, START_0)),
     // no such signal
     (
@@ -118,7 +118,7 @@ const SETS: [(Change, Verdict); 17] = [
         Change::Input(Trigger::Timer(TICK), ANSWER),
         Verdict::Refused(Rule::Number, INPUT_1),
     ),
-    // of two that are broken the first is named: START stands before Run, and place 0 before place 1
+    // the first of two broken rules is named: START is before Run, and place 0 before place 1
     (
         Change::Both(STOP, Trigger::Timer(TimerNumber(1)), STOP),
         Verdict::Refused(Rule::Unset, START_0),
@@ -127,7 +127,7 @@ const SETS: [(Change, Verdict); 17] = [
         Change::Input(Trigger::Timer(TimerNumber(1)), ANSWER),
         Verdict::Refused(Rule::Number, INPUT_0),
     ),
-    // a signal has 4 parameters at most, a process 64 states and 8 instances
+    // a signal has at most 4 parameters, a process at most 64 states and 8 instances
     (
         Change::Parameters(&[Sort::Integer; 5]),
         Verdict::Refused(Rule::Limit, START_0),
@@ -142,7 +142,7 @@ const SETS: [(Change, Verdict); 17] = [
     ),
 ];
 
-/// The number of the first of these changes with which something else becomes of the counter.
+/// The index of the first change with another result for the counter.
 fn first_other_change(alloc: Global, rows: &[(Change, Verdict)]) -> Option<usize> {
     for (number, (change, wanted)) in rows.iter().enumerate() {
         if tried(alloc, &changed(*change)) != *wanted {
@@ -157,14 +157,14 @@ fn a_rule_of_the_whole_is_named(rt: HostRuntime) {
     assert_eq!(rt; first_other_change(rt.alloc(), &SETS), None);
 }
 
-/// A long START: so many steps of a kind, and STOP.
+/// A long START: so many steps of one kind, and STOP.
 #[derive(Clone, Copy)]
 enum Long {
-    /// Each goes on at the next place.
+    /// Each step continues at the next place.
     Jumps(u16),
-    /// Each stops the timer.
+    /// Each step stops the timer.
     Resets(u16),
-    /// So many Integers are put onto one another and taken away again.
+    /// So many Integers are pushed and then popped.
     Piles(u16),
 }
 
@@ -187,7 +187,7 @@ impl Long {
         }
     }
 
-    /// What is claimed of a place with so many steps from there to STOP.
+    /// The claims about a place that is so many steps before STOP.
     fn claim(self, place: u16, left: u16) -> Claim {
         let count = u32::from(left) + 1;
         match self {
@@ -213,7 +213,7 @@ impl Long {
     }
 }
 
-/// So many sorts of Integers, none where there are more than 17.
+/// So many sorts, all Integer; empty if there are more than 17.
 fn integers(count: u16) -> &'static [Sort] {
     INTEGERS.get(..usize::from(count)).unwrap_or(&[])
 }
@@ -244,7 +244,7 @@ fn long_start(alloc: Global, long: Long) -> Result<DraftPiece, AllocError> {
     })
 }
 
-/// What becomes of the counter with a long START.
+/// The result for the counter with a long START.
 fn tried_long(alloc: Global, long: Long) -> Verdict {
     match long_start(alloc, long) {
         Ok(start) => tried_with(alloc, &counter(), start),
@@ -252,7 +252,7 @@ fn tried_long(alloc: Global, long: Long) -> Verdict {
     }
 }
 
-/// A piece has 512 instructions, 32 effects and 16 operands at most.
+/// A transition has at most 512 instructions, 32 effects and 16 operands.
 const LONG: [(Long, Verdict); 6] = [
     (Long::Jumps(511), Verdict::Accepted),
     (Long::Jumps(512), Verdict::Refused(Rule::Limit, START_0)),
@@ -262,7 +262,7 @@ const LONG: [(Long, Verdict); 6] = [
     (Long::Piles(17), Verdict::Refused(Rule::Limit, START_0)),
 ];
 
-/// The number of the first of these of which something else becomes.
+/// The index of the first row with another result.
 fn first_other_long(alloc: Global, rows: &[(Long, Verdict)]) -> Option<usize> {
     for (number, (long, wanted)) in rows.iter().enumerate() {
         if tried_long(alloc, *long) != *wanted {
@@ -277,7 +277,7 @@ fn a_piece_has_its_limits(rt: HostRuntime) {
     assert_eq!(rt; first_other_long(rt.alloc(), &LONG), None);
 }
 
-/// Faults, and what is printed of each.
+/// Faults, and their printed text.
 const LINES: [(VerifyFault, &str); 9] = [
     (
         VerifyFault::Jump(START_0),
@@ -325,13 +325,13 @@ const ELSEWHERE: Spot = Spot {
     place: 511,
 };
 
-/// Whether a fault is printed so.
+/// Whether this is the printed text of a fault.
 fn is_printed(alloc: Global, fault: VerifyFault, line: &str) -> Result<bool, AllocError> {
     let printed = format!(in alloc; "{fault}")?;
     Ok(printed.as_str() == line)
 }
 
-/// The number of the first fault of which something else is printed.
+/// The index of the first fault with another printed text.
 fn first_other_line(alloc: Global, rows: &[(VerifyFault, &str)]) -> Option<usize> {
     for (number, (fault, line)) in rows.iter().enumerate() {
         if is_printed(alloc, *fault, line) != Ok(true) {

@@ -1,4 +1,4 @@
-//! What a valid set answers by numbers and by names, and its copy.
+//! What a valid set returns by numbers and by names, and its copy.
 use crate::drafts::made;
 use crate::plans::*;
 use std::alloc::Global;
@@ -8,13 +8,13 @@ use turn_code::{
     VariableNumber,
 };
 
-/// A process that isn't there.
+/// A process that doesn't exist.
 const Q: ProcessNumber = ProcessNumber(1);
 
-/// How many processes, signals, states, variables, timers and inputs the counter has, and what it saves.
+/// How many processes, signals, states, variables, timers, inputs and saves the counter has.
 const COUNTS: [usize; 7] = [1, 1, 1, 2, 1, 1, 1];
 
-/// How many processes, signals, and of a process states, variables, timers, inputs of Run and saves of Run there are.
+/// How many processes and signals a set has, and a process states, variables, timers, inputs and saves of Run.
 fn counts(set: &Verified, process: ProcessNumber) -> [usize; 7] {
     [
         set.process_count(),
@@ -47,7 +47,7 @@ fn named_right(set: &Verified) -> [bool; 6] {
     ]
 }
 
-/// Whether what isn't there has no name.
+/// Whether things that don't exist have no name.
 fn unnamed(set: &Verified) -> [bool; 6] {
     [
         set.process_name(Q).is_none(),
@@ -59,7 +59,7 @@ fn unnamed(set: &Verified) -> [bool; 6] {
     ]
 }
 
-/// Whether names have their numbers, in whatever case they are written, and what is no name has none.
+/// Whether names have their numbers, in upper and lower case, and whether other words have none.
 fn numbered_right(set: &Verified) -> [bool; 6] {
     [
         set.process_of("p") == Some(P),
@@ -83,7 +83,7 @@ const UP_CERTIFICATE: Cert = Cert {
     effects: 0,
 };
 
-/// Whether START and Run's input have their certificates, and no second one, no other state and no other process has one.
+/// Whether START and Run's input have their certificates, and no second input, other state or other process has one.
 fn certified_right(set: &Verified) -> [bool; 6] {
     [
         set.certificate(P, Place::Start, 0) == Some(START_CERTIFICATE),
@@ -96,7 +96,7 @@ fn certified_right(set: &Verified) -> [bool; 6] {
     ]
 }
 
-/// Whether routes carry Up to P alone and to ENV alone, and no other signal; whether P is there, and no other process.
+/// Whether routes carry Up only to P and to ENV, and no other signal; whether P exists, and no other process.
 fn carried_right(set: &Verified) -> [bool; 6] {
     let own = Party::Process(P);
     [
@@ -121,7 +121,7 @@ fn waits_right(set: &Verified) -> [bool; 6] {
     ]
 }
 
-/// What the counter answers, nothing where there was no memory for it.
+/// What the counter returns; `None` if memory runs out.
 fn answers(alloc: Global) -> Option<[[bool; 6]; 6]> {
     match made(alloc, &counter()) {
         Some(set) => Some([
@@ -141,7 +141,7 @@ fn a_set_answers_by_names_and_numbers(rt: HostRuntime) {
     assert_eq!(rt; answers(rt.alloc()), Some([[true; 6]; 6]));
 }
 
-/// What is counted of the counter's process, and of one that isn't there.
+/// The counts of the counter's process, and of one that doesn't exist.
 fn counts_of_counter(alloc: Global) -> Option<[[usize; 7]; 2]> {
     match made(alloc, &counter()) {
         Some(set) => Some([counts(&set, P), counts(&set, Q)]),
@@ -157,7 +157,7 @@ fn a_set_counts_what_it_has(rt: HostRuntime) {
     );
 }
 
-/// Whether a copy has what the counter has, nothing where there was no memory for one.
+/// Whether a copy has what the counter has; `None` if memory for it runs out.
 fn copied_right(set: &Verified) -> Option<bool> {
     match set.copy() {
         Ok(copy) => Some(counts(&copy, P) == COUNTS),
@@ -165,7 +165,7 @@ fn copied_right(set: &Verified) -> Option<bool> {
     }
 }
 
-/// The same of the counter, and whether it still has all that once it was copied; nothing where there was no memory for it.
+/// As `copied_right`, for the counter, and whether it still has all that after copying; `None` if memory runs out.
 fn copied_counter(alloc: Global) -> Option<(Option<bool>, bool)> {
     match made(alloc, &counter()) {
         Some(set) => {
@@ -181,7 +181,7 @@ fn a_copy_is_made(rt: HostRuntime) {
     assert_eq!(rt; copied_counter(rt.alloc()), Some((Some(true), true)));
 }
 
-/// Whichever request for memory is refused: there is no set, or no copy of it, and the set stays as it is.
+/// Whichever request for memory is refused: there is no set, or no copy of it, and the set is unchanged.
 #[test]
 fn want_of_memory_changes_nothing(rt: HostRuntime) {
     if let Some((copied, stays)) = copied_counter(rt.alloc()) {

@@ -1,4 +1,4 @@
-//! Exchanges of a link, as the recommendation's procedures have them.
+//! Exchanges of a link by the procedures of the recommendation.
 ghost use Rattle.std.specs.Prelude.{◌≡◌, length};
 
 use arrayvec::ArrayVec;
@@ -7,29 +7,29 @@ use resend_store::{Mode, Msu, RetrieveError};
 use std::alloc::Global;
 use su_octets::{Head, Unit};
 
-/// One line of an exchange.
+/// One step of an exchange.
 #[derive(Clone, Copy)]
 pub(crate) enum Step {
-    /// An actor tells that.
+    /// An actor sends this signal.
     Tell(EnvSignal),
-    /// Level 3 holds the link so.
+    /// Level 3 holds the link in this way.
     Hold(Hold),
     /// A message with this service information octet is to be sent.
     Put(u8),
-    /// A unit with these first two octets comes, a message where the third word says so. Messages were acknowledged of which
-    /// some are left, or all; two units were at fault.
+    /// A unit with these first two octets arrives, with a message if the third value says so. The fourth says whether
+    /// messages were acknowledged and some are left, the fifth whether two units were at fault.
     Hear(u8, u8, bool, Option<bool>, bool),
-    /// Odd tells of units at fault from now on.
+    /// Odd reports faulty units from now on.
     Odd,
-    /// Such a unit comes, and Odd tells of it with this number, behind Bad or alone; or nothing does.
+    /// Such a unit arrives and is discarded. Odd reports it with this number, after Bad if that is set, or not at all.
     Discard(u8, u8, bool, Option<u8>, bool),
     /// The buffers are emptied.
     Clear,
-    /// A unit goes out that is printed so.
+    /// A unit with this printed text goes out.
     Out(&'static str),
-    /// That is reported.
+    /// This status is reported.
     Report(LinkStatus),
-    /// Such a message is delivered.
+    /// A message with this service information octet is delivered.
     Deliver(u8),
     /// Nothing is reported.
     Rest,
@@ -46,7 +46,7 @@ fn message(sio: u8) -> Msu
     Msu { sio, sif }
 }
 
-/// The unit that begins so.
+/// The unit with these first two octets.
 fn unit(first: u8, second: u8, has_msu: bool) -> Unit {
     let head = Head {
         bsn: first % 128,
@@ -66,7 +66,7 @@ fn told(to: Party, notice: Notice) -> Offer {
     Offer { to, notice }
 }
 
-/// What is offered for a unit.
+/// The notices for a unit.
 fn offered(seen: Option<bool>, bad: bool) -> Offers {
     let mut offers = Offers::new();
     offers.push(told(Party::Aerm, Notice::Good));
@@ -81,7 +81,7 @@ fn offered(seen: Option<bool>, bad: bool) -> Offers {
     offers
 }
 
-/// What is offered for one that is discarded.
+/// The notices for a unit that is discarded.
 fn discarded(code: Option<u8>, bad: bool) -> Offers {
     let mut offers = Offers::new();
     offers.push(told(Party::Aerm, Notice::Good));
@@ -95,12 +95,12 @@ fn discarded(code: Option<u8>, bad: bool) -> Offers {
     offers
 }
 
-/// Whether that is offered for a unit, which is whole and for which there is room.
+/// Whether these notices result from a unit, which is whole and for which there is room.
 fn hears(transceiver: &mut Transceiver, unit: Unit, offers: &[Offer]) -> bool {
     unit.whole() && transceiver.has_room() && transceiver.on_unit(unit).as_slice() == offers
 }
 
-/// The next unit as it is printed, and whether something is offered with it.
+/// The printed text of the next unit, and whether there is a notice with it.
 fn given(alloc: Global, transceiver: &mut Transceiver) -> Option<String> {
     match transceiver.unit_out() {
         Some(UnitOut { unit, offer }) => format!(in alloc; "{unit} {}", offer.is_some()).ok(),
@@ -108,7 +108,7 @@ fn given(alloc: Global, transceiver: &mut Transceiver) -> Option<String> {
     }
 }
 
-/// Whether the next unit is printed so.
+/// Whether this is the printed text of the next unit.
 fn gives(alloc: Global, transceiver: &mut Transceiver, text: &str) -> bool {
     match given(alloc, transceiver) {
         Some(printed) => printed.as_str() == text,
@@ -151,7 +151,7 @@ fn does(alloc: Global, transceiver: &mut Transceiver, step: Step) -> bool {
     }
 }
 
-/// The number of the first step at which a side does something else.
+/// The index of the first step with another result.
 fn first_other(alloc: Global, transceiver: &mut Transceiver, steps: &[Step]) -> Option<usize> {
     for (number, step) in steps.iter().enumerate() {
         if !does(alloc, transceiver, *step) {
@@ -161,7 +161,7 @@ fn first_other(alloc: Global, transceiver: &mut Transceiver, steps: &[Step]) -> 
     None
 }
 
-/// What the actors tell until the link is in service.
+/// The signals of the actors until the link is in service.
 const COMES_UP: [Step; 11] = [
     Step::Out("silent"),
     Step::Tell(EnvSignal::Line(3)),
@@ -194,7 +194,7 @@ const LOSES_ONE_EACH_WAY: [Step; 15] = [
     Step::Report(LinkStatus::Down(2)),
 ];
 
-/// One fault of each kind is none; two of one kind are told; a fresh start forgets them.
+/// One fault of each kind isn't reported, two of one kind are; a restart forgets them.
 const HAS_FAULTS: [Step; 10] = [
     Step::Hear(0x85, 0xff, false, None, false),
     Step::Hear(0xff, 0x7f, false, None, false),
@@ -208,7 +208,7 @@ const HAS_FAULTS: [Step; 10] = [
     Step::Hear(0x85, 0x7f, false, None, false),
 ];
 
-/// What is lost meanwhile is asked for at the end. Asked for again, number and bit are read anew; a fresh start makes them 127 and 1.
+/// Lost messages are requested at the end. Withheld again, number and bit are read anew; a restart resets them.
 const IS_CONGESTED: [Step; 22] = [
     Step::Tell(EnvSignal::Line(5)),
     Step::Tell(EnvSignal::Withhold(true)),
@@ -234,7 +234,7 @@ const IS_CONGESTED: [Step; 22] = [
     Step::Report(LinkStatus::InService),
 ];
 
-/// No message goes out or is accepted; acknowledgements and negative ones are obeyed, and faults counted, until both directions begin anew.
+/// No message is sent or accepted until both sides start over. Acknowledgements, negative ones too, and faults count.
 const IS_HELD: [Step; 19] = [
     Step::Put(0x80),
     Step::Out("MSU bsn 127 bib 1 fsn 0 fib 1 sio 80 octets 3 true"),
@@ -257,7 +257,7 @@ const IS_HELD: [Step; 19] = [
     Step::Report(LinkStatus::InService),
 ];
 
-/// What was asked for stays, and so does a hold that level 3 has to end; other units go out as ever.
+/// A request stays, and so does a hold that level 3 must end; other units go out as always.
 const IS_KEPT: [Step; 19] = [
     Step::Hear(0xff, 0x82, true, None, false),
     Step::Out("FISU bsn 127 bib 0 fsn 127 fib 1 false"),
@@ -280,7 +280,7 @@ const IS_KEPT: [Step; 19] = [
     Step::Rest,
 ];
 
-/// What is to go once more waits, and goes as the hold ends.
+/// Messages to be repeated wait, and go out when the hold ends.
 const WAITS_TO_REPEAT: [Step; 10] = [
     Step::Put(1),
     Step::Put(2),
@@ -294,7 +294,7 @@ const WAITS_TO_REPEAT: [Step; 10] = [
     Step::Out("MSU bsn 127 bib 1 fsn 1 fib 0 sio 02 octets 3 true"),
 ];
 
-/// The numbers of the first steps at which a new side does something else as it comes up, and then; nothing where it can't be made.
+/// The first steps with another result, while a new side comes up and after that; `None` if it can't be made.
 pub(crate) fn first_others(alloc: Global, steps: &[Step]) -> Option<[Option<usize>; 2]> {
     let mut transceiver = Transceiver::new(alloc, Mode::Basic).ok()?;
     let coming = first_other(alloc, &mut transceiver, &COMES_UP);
@@ -317,7 +317,7 @@ fn holds_messages_back(rt: HostRuntime) {
     assert_eq!(rt; first_others(rt.alloc(), &WAITS_TO_REPEAT), well);
 }
 
-/// Whether the next reports are that the link went down for each of these reasons, and then there is none.
+/// Whether the next reports are that the link went down for each of these reasons, and whether no other follows.
 fn reports_down(transceiver: &mut Transceiver, first: i32, end: i32) -> bool {
     for reason in first..end {
         if transceiver.report() != Some(Report::Status(LinkStatus::Down(reason))) {
@@ -327,7 +327,7 @@ fn reports_down(transceiver: &mut Transceiver, first: i32, end: i32) -> bool {
     transceiver.report().is_none()
 }
 
-/// Whether of seventy statuses the latest 64 are kept; nothing where there is no side.
+/// Whether the latest 64 of seventy statuses are kept; `None` if there is no side.
 fn keeps_latest(alloc: Global) -> Option<bool> {
     let mut transceiver = Transceiver::new(alloc, Mode::Cyclic).ok()?;
     for reason in 0..70 {
@@ -341,7 +341,7 @@ fn keeps_the_latest_statuses(rt: HostRuntime) {
     assert_eq!(rt; keeps_latest(rt.alloc()), Some(true));
 }
 
-/// A side; where memory is refused once, one that is asked for again.
+/// A side; if memory runs out once, a second try.
 fn made(alloc: Global) -> Option<Transceiver> {
     match Transceiver::new(alloc, Mode::Basic) {
         Ok(transceiver) => Some(transceiver),
@@ -349,7 +349,7 @@ fn made(alloc: Global) -> Option<Transceiver> {
     }
 }
 
-/// How many messages are handed out.
+/// The number of messages handed out.
 fn handed(transceiver: &mut Transceiver) -> Result<usize, RetrieveError> {
     match transceiver.retrieve(Some(127)) {
         Ok(messages) => Ok(messages.len()),
@@ -357,7 +357,7 @@ fn handed(transceiver: &mut Transceiver) -> Result<usize, RetrieveError> {
     }
 }
 
-/// The same; where memory is refused once and one is kept, when they are asked for again.
+/// As `handed`; if memory runs out once and one message is kept, a second try.
 fn handed_at_last(transceiver: &mut Transceiver) -> Option<usize> {
     match handed(transceiver) {
         Ok(count) => Some(count),
@@ -366,7 +366,7 @@ fn handed_at_last(transceiver: &mut Transceiver) -> Option<usize> {
     }
 }
 
-/// How many messages a side hands out that took one, and how many it keeps then.
+/// The number of messages that a side with one message hands out, and the number that it keeps.
 fn hands_out(alloc: Global) -> Option<(usize, usize)> {
     let mut transceiver = made(alloc)?;
     transceiver.put_diverted(message(7)).ok()?;
@@ -374,7 +374,7 @@ fn hands_out(alloc: Global) -> Option<(usize, usize)> {
     Some((count, transceiver.held()))
 }
 
-/// Where memory is refused nothing has changed, and the next call succeeds.
+/// If memory runs out nothing changes, and the next call succeeds.
 #[test]
 fn keeps_all_where_memory_is_refused(rt: HostRuntime) {
     assert_eq!(rt; hands_out(rt.alloc()), Some((1, 0)));

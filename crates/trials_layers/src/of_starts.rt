@@ -1,4 +1,4 @@
-//! Codes of START that break one rule alone, and where; and codes that break none.
+//! Codes of START that break only one rule, and where; and codes that break no rule.
 use crate::drafts::tried;
 use crate::of_rules::{Change, changed};
 use crate::plans::*;
@@ -9,7 +9,7 @@ use turn_code::{
 
 const BOTH_WAYS: Instruction = Instruction::Pick(CodePlace(2), CodePlace(3));
 
-/// Codes of START that go on or leave operands where they may not, and what becomes of the counter with each.
+/// Codes of START that continue or leave operands where they may not, and the result for the counter with each.
 const WAYS: [(Plan, Verdict); 7] = [
     // no code
     (
@@ -20,7 +20,7 @@ const WAYS: [(Plan, Verdict); 7] = [
         },
         Verdict::Refused(Rule::Jump, START_0),
     ),
-    // the end is run over
+    // the code runs past its end
     (
         Plan {
             code: &[Instruction::Reset(TICK)],
@@ -38,7 +38,7 @@ const WAYS: [(Plan, Verdict); 7] = [
         },
         Verdict::Refused(Rule::Jump, START_0),
     ),
-    // two ways to place 3 leave other operands there
+    // two paths to place 3 leave different operands there
     (
         Plan {
             code: &[
@@ -78,7 +78,7 @@ const WAYS: [(Plan, Verdict); 7] = [
         },
         Verdict::Refused(Rule::Under, START_0),
     ),
-    // an Integer where a Boolean is wanted
+    // an Integer is used as a Boolean
     (
         Plan {
             code: &[
@@ -97,7 +97,7 @@ const WAYS: [(Plan, Verdict); 7] = [
     ),
 ];
 
-/// Codes of START that rest on what isn't set, or end where no state is, and what becomes of the counter with each.
+/// Codes of START that use unset variables or end in no state, and the result for the counter with each.
 const UNSET: [(Plan, Verdict); 4] = [
     // n is read and not set
     (
@@ -128,7 +128,7 @@ const UNSET: [(Plan, Verdict); 4] = [
         },
         Verdict::Refused(Rule::Unset, START_2),
     ),
-    // total is set on one of two ways
+    // total is set on one of two paths
     (
         Plan {
             code: &[
@@ -160,9 +160,9 @@ const UNSET: [(Plan, Verdict); 4] = [
     ),
 ];
 
-/// Codes of START whose counts are wrong, and what becomes of the counter with each.
+/// Codes of START whose counts are wrong, and the result for the counter with each.
 const COUNTED: [(Plan, Verdict); 4] = [
-    // a way that comes back
+    // a path that returns
     (
         Plan {
             code: &[Instruction::Jump(CodePlace(0))],
@@ -171,7 +171,7 @@ const COUNTED: [(Plan, Verdict); 4] = [
         },
         Verdict::Refused(Rule::Budget, START_0),
     ),
-    // the shorter of two ways is counted
+    // the shorter of two paths is counted
     (
         Plan {
             code: &[
@@ -190,7 +190,7 @@ const COUNTED: [(Plan, Verdict); 4] = [
         },
         Verdict::Refused(Rule::Budget, START_1),
     ),
-    // a certificate that says more than the code takes
+    // a certificate with greater counts than the code has
     (
         Plan {
             counts: (512, 1, 0),
@@ -207,7 +207,7 @@ const COUNTED: [(Plan, Verdict); 4] = [
     ),
 ];
 
-/// An Integer, an effect that takes it, and STOP: it goes out to ENV.
+/// An Integer, an effect that takes it, and STOP: the Integer goes out to ENV.
 const EFFECT: Plan = Plan {
     code: &[
         Instruction::Int(0),
@@ -222,7 +222,7 @@ const EFFECT: Plan = Plan {
     counts: (3, 1, 1),
 };
 
-/// An Integer, what leaves an Integer in its place, and STOP.
+/// An Integer, an instruction that replaces it by an Integer, and STOP.
 const QUOTIENT: Plan = Plan {
     code: &[
         Instruction::Int(7),
@@ -239,7 +239,7 @@ const QUOTIENT: Plan = Plan {
     counts: (4, 1, 0),
 };
 
-/// The second instruction in the place of that of [`EFFECT`] or [`QUOTIENT`], and what becomes of the counter with that START.
+/// A second instruction in place of that of [`EFFECT`] or [`QUOTIENT`], and the result for the counter with that START.
 const SECONDS: [(Plan, Verdict); 10] = [
     (EFFECT, Verdict::Accepted),
     (QUOTIENT, Verdict::Accepted),
@@ -343,7 +343,7 @@ const SECONDS: [(Plan, Verdict); 10] = [
     ),
 ];
 
-/// The number of the first of these codes of START with which something else becomes of the counter.
+/// The index of the first code of START with another result for the counter.
 fn first_other_start(alloc: Global, rows: &[(Plan, Verdict)]) -> Option<usize> {
     for (number, (start, wanted)) in rows.iter().enumerate() {
         if tried(alloc, &changed(Change::Start(*start))) != *wanted {

@@ -1,4 +1,4 @@
-//! The stores of a link: what goes out, what is heard, what is kept, step by step.
+//! The stores of a link: units sent, units received and messages kept, step by step.
 ghost use Rattle.std.specs.Prelude.{◌≡◌, length};
 
 use arrayvec::ArrayVec;
@@ -6,7 +6,7 @@ use resend_store::{AckError, Mode, Msu, Receiver, RetrieveError, Sender, Verdict
 use std::alloc::Global;
 use std::collections::VecDeque;
 
-/// What a sender is asked, and what it does then. SIOs and FSNs are from a number on, up to one that isn't among them.
+/// A call of a sender, and its result. SIOs and FSNs run from the first number up to the second, exclusive.
 #[derive(Clone, Copy)]
 enum Step {
     /// It takes messages of 3 octets with these SIOs.
@@ -19,25 +19,25 @@ enum Step {
     FullForOthers,
     /// Messages go out with these FSNs and this FIB.
     Sends(u8, u8, u8),
-    /// A message goes out with this FSN, the one with this SIO.
+    /// The message with this SIO goes out with this FSN.
     SendsOne(u8, u8),
-    /// A unit goes out that has no message, with this FSN and this FIB.
+    /// A unit without a message goes out with this FSN and this FIB.
     Idles(u8, u8),
     /// It takes messages with these FSNs, each goes out and is acknowledged at once.
     Passes(u8, u8),
-    /// A BSN and a BIB come, by which so many messages are acknowledged.
+    /// A BSN and a BIB arrive that acknowledge so many messages.
     Hears(u8, u8, usize),
-    /// A BSN and a BIB come, of what wasn't sent (E2).
+    /// A BSN and a BIB arrive that acknowledge unsent messages (E2).
     HearsBad(u8, u8),
     /// It keeps so many messages, so many of which were sent.
     Keeps(usize, usize),
     /// At this place it keeps the message with this SIO.
     KeepsAt(usize, u8),
-    /// It hands out what stands behind this FSN, or what was never sent: the messages with these SIOs.
+    /// It hands out the messages after this FSN, or those never sent: the messages with these SIOs.
     HandsOut(Option<u8>, u8, u8),
-    /// It hands out nothing, since that wasn't sent (E2).
+    /// It hands out nothing, since this FSN wasn't sent (E2).
     HandsOutNone(u8),
-    /// It begins anew.
+    /// It starts over.
     Fresh,
 }
 
@@ -81,7 +81,7 @@ fn takes_long(sender: &mut Sender, first: u8, end: u8) -> bool {
     true
 }
 
-/// Whether the next unit has that number and bit, and a message where it should.
+/// Whether the next unit has this number and bit, and a message if it should.
 fn gives(sender: &mut Sender, fsn: u8, fib: u8, has_msu: bool) -> bool {
     let unit = sender.next_unit();
     unit.fsn == fsn && unit.fib == fib && unit.msu.is_some() == has_msu
@@ -103,12 +103,12 @@ fn sends_one(sender: &mut Sender, fsn: u8, sio: u8) -> bool {
     unit.fsn == fsn && unit.msu == Some(short(sio))
 }
 
-/// How many messages a BSN and a BIB acknowledge.
+/// The number of messages that a BSN and a BIB acknowledge.
 fn hears(sender: &mut Sender, bsn: u8, bib: u8) -> Result<usize, AckError> {
     sender.on_back(bsn % 128, bib % 2)
 }
 
-/// What is handed out behind this FSN, or what was never sent.
+/// The messages handed out after this FSN, or those never sent.
 fn retrieved(sender: &mut Sender, behind: Option<u8>) -> Result<VecDeque<Msu>, RetrieveError> {
     match behind {
         Some(fsn) => sender.retrieve(Some(fsn % 128)),
@@ -173,7 +173,7 @@ fn does(sender: &mut Sender, step: Step) -> bool {
     }
 }
 
-/// A message is asked for again, and acknowledged then.
+/// A message is requested again, and then acknowledged.
 const BY_REQUEST: [Step; 10] = [
     Step::Idles(127, 1),
     Step::HearsBad(5, 0),
@@ -187,7 +187,7 @@ const BY_REQUEST: [Step; 10] = [
     Step::Idles(0, 0),
 ];
 
-/// 127 messages are sent, 1,024 wait; behind a fresh start 1,151 wait.
+/// 127 messages are sent and 1,024 wait; after a restart 1,151 wait.
 const FULL: [Step; 15] = [
     Step::Takes(0, 127),
     Step::Sends(0, 127, 1),
@@ -206,7 +206,7 @@ const FULL: [Step; 15] = [
     Step::SendsOne(0, 0),
 ];
 
-/// The numbers 126, 127, 0 and 1 are unacknowledged, two messages wait, and the far side has what comes before 0.
+/// The numbers 126, 127, 0 and 1 are unacknowledged, two messages wait, and the far side has the messages before 0.
 const LACKS_FOUR: [Step; 10] = [
     Step::Passes(0, 126),
     Step::Takes(0, 6),
@@ -220,7 +220,7 @@ const LACKS_FOUR: [Step; 10] = [
     Step::Sends(0, 1, 1),
 ];
 
-/// The same, and what the far side has isn't known.
+/// As `LACKS_FOUR`, but it isn't known what the far side has.
 const LACKS_NOBODY_KNOWS: [Step; 7] = [
     Step::Passes(0, 126),
     Step::Takes(0, 6),
@@ -231,7 +231,7 @@ const LACKS_NOBODY_KNOWS: [Step; 7] = [
     Step::Sends(126, 127, 1),
 ];
 
-/// The far side has none of a hundred that were sent, and more wait.
+/// The far side has none of a hundred messages sent, and more wait.
 const LACKS_MANY: [Step; 4] = [
     Step::Takes(0, 255),
     Step::Sends(0, 100, 1),
@@ -239,7 +239,7 @@ const LACKS_MANY: [Step; 4] = [
     Step::Keeps(0, 0),
 ];
 
-/// What is unacknowledged goes out in turn while nothing new waits.
+/// Unacknowledged messages go out in turn while no new one waits.
 const IN_TURN: [Step; 14] = [
     Step::Takes(0, 3),
     Step::Sends(0, 3, 1),
@@ -257,7 +257,7 @@ const IN_TURN: [Step; 14] = [
     Step::Sends(3, 4, 1),
 ];
 
-/// With 31 messages of 273 octets nothing new goes out before all of them went out once more, again and again.
+/// With 31 messages of 273 octets no new one goes out before all went out once more, again and again.
 const BY_FORCE: [Step; 8] = [
     Step::TakesLong(0, 32),
     Step::Sends(0, 31, 1),
@@ -269,7 +269,7 @@ const BY_FORCE: [Step; 8] = [
     Step::Sends(1, 32, 1),
 ];
 
-/// The number of the first step at which a new sender does something else; as many as there are steps where it can't be made.
+/// The index of the first step with another result for a new sender; the number of steps if it can't be made.
 fn first_other(alloc: Global, mode: Mode, steps: &[Step]) -> Option<usize> {
     let Ok(mut sender) = Sender::new(alloc, mode) else {
         return Some(steps.len());
@@ -296,11 +296,11 @@ fn senders_exchange_units(rt: HostRuntime) {
     assert_eq!(rt; first_other(rt.alloc(), Mode::Cyclic, &BY_FORCE), None);
 }
 
-/// A unit that comes: its FSN, its FIB, and whether it has a message. What becomes of it (nothing: E3), and the BSN and BIB then.
+/// A unit: its FSN, its FIB, and whether it has a message. Then the verdict (`None`: E3), and the BSN and BIB after it.
 #[derive(Clone, Copy)]
 struct Heard(u8, u8, bool, Option<Verdict>, u8, u8);
 
-/// Messages 1 and 2 come before 0; 0 comes as it was asked for, and once more; then a unit says that 1 is missing, and it comes.
+/// Messages 1 and 2 arrive before 0; 0 arrives on request, and again. A unit shows that 1 is missing; it arrives.
 const ASKED_FOR: [Heard; 8] = [
     Heard(127, 1, false, Some(Verdict::Discard), 127, 1),
     Heard(1, 1, true, Some(Verdict::Nack), 127, 0),
@@ -312,7 +312,7 @@ const ASKED_FOR: [Heard; 8] = [
     Heard(2, 0, true, None, 1, 1),
 ];
 
-/// Indicators say nothing in cyclic mode.
+/// Indicators have no meaning in cyclic mode.
 const REPEATED: [Heard; 4] = [
     Heard(1, 0, true, Some(Verdict::Discard), 127, 1),
     Heard(0, 0, true, Some(Verdict::Accept), 0, 1),
@@ -320,7 +320,7 @@ const REPEATED: [Heard; 4] = [
     Heard(1, 0, true, Some(Verdict::Accept), 1, 1),
 ];
 
-/// The number of the first unit of which something else becomes.
+/// The index of the first unit with another result.
 fn first_heard_otherwise(receiver: &mut Receiver, units: &[Heard]) -> Option<usize> {
     for (number, heard) in units.iter().enumerate() {
         let Heard(fsn, fib, has_msu, verdict, bsn, bib) = *heard;
@@ -342,7 +342,7 @@ fn receivers_hear_units(rt: HostRuntime) {
     assert_eq!(rt; first_heard_otherwise(&mut cyclic, &REPEATED), None);
 }
 
-/// A sender; where memory is refused once, one that is asked for again.
+/// A sender; if memory runs out once, a second try.
 fn made(alloc: Global) -> Option<Sender> {
     match Sender::new(alloc, Mode::Basic) {
         Ok(sender) => Some(sender),
@@ -350,7 +350,7 @@ fn made(alloc: Global) -> Option<Sender> {
     }
 }
 
-/// Whether two messages, one of which was sent, are handed out; where memory is refused once, that they are kept until asked for again.
+/// Whether two messages, one of them sent, are handed out; if memory runs out once, they are kept until then.
 fn hands_out_at_last(alloc: Global) -> bool {
     let Some(mut sender) = made(alloc) else {
         return false;
@@ -362,7 +362,7 @@ fn hands_out_at_last(alloc: Global) -> bool {
         || sender.held() == 2 && sender.sent() == 1 && hands_out(&mut sender, Some(127), 0, 2)
 }
 
-/// With ample memory each call succeeds at once. Where one is refused, nothing has changed, and the next one succeeds.
+/// With ample memory each call succeeds at once. If memory runs out, nothing changes, and the next call succeeds.
 #[test]
 fn senders_keep_all_where_memory_is_refused(rt: HostRuntime) {
     assert!(rt; hands_out_at_last(rt.alloc()));

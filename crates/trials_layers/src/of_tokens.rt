@@ -1,4 +1,4 @@
-//! Texts with the tokens and faults that the lexical rules give them.
+//! Texts, and their tokens and faults by the lexical rules.
 use sdl_lex::{LexFault, Name, Token, line_of, tokens};
 use std::alloc::{AllocError, Global};
 use std::collections::HashMap;
@@ -18,14 +18,14 @@ PROCESS P ( 1 , 1 ) ; DCL n , total Integer ; START ; TASK total := 0 ; NEXTSTAT
 STATE Run ; INPUT Up ( n ) ; TASK total := total + n ; NEXTSTATE Run ; \
 ENDSTATE Run ; ENDPROCESS P ; ENDBLOCK B ;";
 
-/// Whether a token stands where a piece of a text does.
+/// Whether a token is at the place of a piece of a text.
 fn is_piece(text: &str, token: &Token, piece: &str) -> bool {
     text.as_bytes()
         .get(token.start as usize..token.end as usize)
         == Some(piece.as_bytes())
 }
 
-/// Whether these tokens stand where those pieces do, and no other does.
+/// Whether exactly these tokens are at the places of these pieces.
 fn are_pieces(text: &str, found: &[Token], pieces: &str) -> bool {
     let mut places = found.iter();
     for piece in pieces.split(' ') {
@@ -37,7 +37,7 @@ fn are_pieces(text: &str, found: &[Token], pieces: &str) -> bool {
     places.next().is_none()
 }
 
-/// Whether a text is cut so.
+/// Whether a text is cut in this way.
 fn is_cut(alloc: Global, text: &str, pieces: &str) -> bool {
     match tokens(alloc, text) {
         Ok(found) => are_pieces(text, found.as_slice(), pieces),
@@ -50,13 +50,13 @@ fn counter_text(rt: HostRuntime) {
     assert!(rt; is_cut(rt.alloc(), COUNTER, CUT));
 }
 
-/// Texts, and what `Debug` shows of their lexemes, without places.
+/// Texts, and their lexemes as `Debug` prints them, without places.
 const LEXEMES: [(&str, &str); 4] = [
     (
         "BLOCK B; SIGNAL Up(Integer",
         "[Word(Block), Name(\"B\"), Symbol(Semicolon), Word(Signal), Name(\"Up\"), Symbol(Open), Word(Integer)]",
     ),
-    // `*/` outside a comment, and a colon that a space parts from its `=`
+    // `*/` outside a comment, and a colon with a space before its `=`
     (
         ";,::=()+-*/ =/=<<=>>=/**/*/: /* :=\n /* ' é **/=",
         "[Symbol(Semicolon), Symbol(Comma), Symbol(Colon), Symbol(Assign), Symbol(Open), Symbol(Close), Symbol(Plus), \
@@ -74,7 +74,7 @@ Name(\"ENDBLOCKS\"), Name(\"x_9\")]",
     ),
 ];
 
-/// Texts, and what is shown of their tokens with places.
+/// Texts, and the printed text of their tokens with places.
 const PLACES: [(&str, &str); 4] = [
     ("''", "[Token { lexeme: Quoted, start: 0, end: 2 }]"),
     (" 'a''b'", "[Token { lexeme: Quoted, start: 1, end: 7 }]"),
@@ -85,13 +85,13 @@ const PLACES: [(&str, &str); 4] = [
     ),
 ];
 
-/// What is shown of the tokens of a text.
+/// The printed text of a text's tokens.
 fn shown_tokens(alloc: Global, text: &str) -> Option<String> {
     let found = tokens(alloc, text).ok()?;
     format!(in alloc; "{:?}", found.as_slice()).ok()
 }
 
-/// What is shown of their lexemes.
+/// The printed text of their lexemes.
 fn shown_lexemes(alloc: Global, text: &str) -> Option<String> {
     let found = tokens(alloc, text).ok()?;
     let mut lexemes = Vec::new(alloc);
@@ -101,7 +101,7 @@ fn shown_lexemes(alloc: Global, text: &str) -> Option<String> {
     format!(in alloc; "{:?}", lexemes.as_slice()).ok()
 }
 
-/// Whether that is shown.
+/// Whether this is the printed text.
 fn is_text(shown: Option<String>, wanted: &str) -> bool {
     match shown {
         Some(found) => found.as_str() == wanted,
@@ -109,7 +109,7 @@ fn is_text(shown: Option<String>, wanted: &str) -> bool {
     }
 }
 
-/// The number of the first text with other lexemes.
+/// The index of the first text with other lexemes.
 fn first_other_lexemes(alloc: Global, rows: &[(&str, &str)]) -> Option<usize> {
     for (number, (text, wanted)) in rows.iter().enumerate() {
         if !is_text(shown_lexemes(alloc, text), wanted) {
@@ -119,7 +119,7 @@ fn first_other_lexemes(alloc: Global, rows: &[(&str, &str)]) -> Option<usize> {
     None
 }
 
-/// The number of the first text with other tokens.
+/// The index of the first text with other tokens.
 fn first_other_tokens(alloc: Global, rows: &[(&str, &str)]) -> Option<usize> {
     for (number, (text, wanted)) in rows.iter().enumerate() {
         if !is_text(shown_tokens(alloc, text), wanted) {
@@ -135,7 +135,7 @@ fn lexemes_and_places(rt: HostRuntime) {
     assert_eq!(rt; first_other_tokens(rt.alloc(), &PLACES), None);
 }
 
-/// Texts and their faults; the longest name has none.
+/// Texts and their faults; a name of the greatest length has no fault.
 const REFUSED: [(&str, Option<LexFault>); 17] = [
     ("x := 'a;", Some(LexFault::OpenComment(5))),
     ("'''", Some(LexFault::OpenComment(0))),
@@ -159,7 +159,7 @@ const REFUSED: [(&str, Option<LexFault>); 17] = [
     ("aaaaaaaaaabbbbbbbbbbcccccccccc12", None),
 ];
 
-/// The number of the first text with another fault.
+/// The index of the first text with another fault.
 fn first_other_fault(alloc: Global, rows: &[(&str, Option<LexFault>)]) -> Option<usize> {
     for (number, (text, fault)) in rows.iter().enumerate() {
         if tokens(alloc, text).err() != *fault {
@@ -174,7 +174,7 @@ fn faults(rt: HostRuntime) {
     assert_eq!(rt; first_other_fault(rt.alloc(), &REFUSED), None);
 }
 
-/// So many bytes: one that is set apart, and spaces.
+/// So many bytes: this first one, and spaces.
 fn spaces(alloc: Global, first: u8, count: usize) -> Option<Vec<u8>> {
     let mut bytes = Vec::from_elem(alloc, b' ', count).ok()?;
     match bytes.first_mut() {
@@ -184,7 +184,7 @@ fn spaces(alloc: Global, first: u8, count: usize) -> Option<Vec<u8>> {
     Some(bytes)
 }
 
-/// How many tokens these bytes have as a text, or the fault.
+/// The number of tokens of these bytes as a text, or the fault.
 fn counted(alloc: Global, bytes: &[u8]) -> Option<Result<usize, LexFault>> {
     match tokens(alloc, str::from_utf8(bytes).ok()?) {
         Ok(found) => Some(Ok(found.len())),
@@ -192,7 +192,7 @@ fn counted(alloc: Global, bytes: &[u8]) -> Option<Result<usize, LexFault>> {
     }
 }
 
-/// The same of a byte and spaces behind it.
+/// As `counted`, for a byte and spaces after it.
 fn counted_long(alloc: Global, first: u8, count: usize) -> Option<Result<usize, LexFault>> {
     let bytes = spaces(alloc, first, count)?;
     counted(alloc, bytes.as_slice())
@@ -226,7 +226,7 @@ fn lines(rt: HostRuntime) {
     assert_eq!(rt; first_other_line("a\r\nb\rc\n\nd", &PLACED), None);
 }
 
-/// What is no name.
+/// Words that are no names.
 const NAMELESS: [&str; 6] = [
     "",
     "9a",
@@ -236,7 +236,7 @@ const NAMELESS: [&str; 6] = [
     "aaaaaaaaaabbbbbbbbbbcccccccccc123",
 ];
 
-/// The number of the first of these that is a name.
+/// The index of the first word that is a name.
 fn first_name(texts: &[&str]) -> Option<usize> {
     for (number, text) in texts.iter().enumerate() {
         if Name::new(text.as_bytes()).is_some() {
@@ -246,7 +246,7 @@ fn first_name(texts: &[&str]) -> Option<usize> {
     None
 }
 
-/// Whether two names that differ in case alone are unlike, the same where case doesn't count, and that is in small letters.
+/// Whether two names that differ only in case are unlike, equal without case, and in small letters then.
 fn are_folded(total: &Name, other: &Name) -> [bool; 3] {
     [
         total != other,
@@ -255,7 +255,7 @@ fn are_folded(total: &Name, other: &Name) -> [bool; 3] {
     ]
 }
 
-/// What a table has for a name and for another once the first was put in as 4, without its case.
+/// The values of a name and of another one in a table in which the first has the value 4, without its case.
 fn looked_up(alloc: Global, total: &Name, other: &Name) -> Result<[Option<u32>; 2], AllocError> {
     let mut table = HashMap::new(alloc);
     table.insert(total.folded(), 4)?;
@@ -265,7 +265,7 @@ fn looked_up(alloc: Global, total: &Name, other: &Name) -> Result<[Option<u32>; 
     ])
 }
 
-/// What is told of two names that differ in case alone.
+/// The results for two names that differ only in case.
 fn told(alloc: Global) -> Option<([bool; 3], [Option<u32>; 2], bool)> {
     let total = Name::new(b"Total_1")?;
     let other = Name::new(b"tOTAL_1")?;

@@ -1,4 +1,4 @@
-//! Turns: what they give, which inputs don't fit, and copies of what goes into them.
+//! Turns: their results, inputs that don't fit, and copies of their parts.
 use crate::drafts::made;
 use crate::plans::*;
 use arrayvec::ArrayVec;
@@ -39,7 +39,7 @@ const SQUARE: Plan = Plan {
     counts: (10, 2, 0),
 };
 
-/// Up: Tick is set to as much after the clock as Up says, 3 goes to whoever sent it, Tick is reset, and P stops.
+/// Up: Tick is set to the clock plus the parameter, 3 goes to the sender, Tick is reset, and P stops.
 const EFFECTS: Plan = Plan {
     code: &[
         Instruction::Param(0),
@@ -81,7 +81,7 @@ fn variables(n: Option<i32>, total: Option<i32>) -> ArrayVec<Option<Value>, 32> 
     all
 }
 
-/// What comes with at most one value, from a sender or from none.
+/// An input with at most one value, with or without a sender.
 fn received(value: Option<i32>, sender: Option<Address>) -> Received {
     let mut parameters = ArrayVec::new();
     if let Some(number) = value {
@@ -90,7 +90,7 @@ fn received(value: Option<i32>, sender: Option<Address>) -> Received {
     Received { parameters, sender }
 }
 
-/// The job of actor 4 in turn 9 that takes Up from ENV in Run, where that fits.
+/// The job of actor 4 in turn 9 that takes Up from ENV in Run, if that fits.
 fn job(set: &Verified, total: i32, n: i32) -> Option<Job> {
     let variables = variables(None, Some(total));
     let received = received(Some(n), OUTSIDE);
@@ -101,12 +101,12 @@ fn job(set: &Verified, total: i32, n: i32) -> Option<Job> {
     }
 }
 
-/// An equal thing, by the trait alone.
+/// A copy of a thing, made by its trait.
 fn once_more<T: Clone>(thing: &T) -> Result<T, AllocError> {
     thing.clone()
 }
 
-/// The counter with this code behind Up has run it, on a total and a number that come from ENV.
+/// The counter, with this code for Up, after it ran it on a total and a number from ENV.
 fn ran(alloc: Global, up: Plan, total: i32, n: i32) -> Option<Done> {
     let set = made(alloc, &Recipe { up, ..counter() })?;
     Some(run(job(&set, total, n)?))
@@ -132,7 +132,7 @@ fn turn(done: &Done) -> Turn {
     )
 }
 
-/// Code behind Up, the total before, the number that comes, and the turn.
+/// Code for Up, the total before, the number received, and the turn.
 const TURNS: [(Plan, i32, i32, Turn); 3] = [
     (
         ADD,
@@ -161,7 +161,7 @@ const TURNS: [(Plan, i32, i32, Turn); 3] = [
     (EFFECTS, 5, 7, (End::Stop, None, Some(Value::Int(5)), 6, 3)),
 ];
 
-/// What a row's turn gives.
+/// The result of a row's turn.
 fn gives(alloc: Global, row: &(Plan, i32, i32, Turn)) -> Option<Turn> {
     match ran(alloc, row.0, row.1, row.2) {
         Some(done) => Some(turn(&done)),
@@ -169,7 +169,7 @@ fn gives(alloc: Global, row: &(Plan, i32, i32, Turn)) -> Option<Turn> {
     }
 }
 
-/// The number of the first row whose turn gives something else.
+/// The index of the first row whose turn has another result.
 fn first_other_turn(alloc: Global, rows: &[(Plan, i32, i32, Turn)]) -> Option<usize> {
     for (number, row) in rows.iter().enumerate() {
         if gives(alloc, row) != Some(row.3) {
@@ -221,7 +221,7 @@ const IN_ORDER: [Option<Told>; 3] = [
     Some(Told::Reset(TICK)),
 ];
 
-/// The effects of Up with the number 7, and of an equal turn; nothing where there was no memory for the set.
+/// The effects of Up with the number 7, and of an equal turn; `None` if memory for the set runs out.
 fn effects_twice(alloc: Global) -> Option<[[Option<Told>; 3]; 2]> {
     let done = ran(alloc, EFFECTS, 5, 7)?;
     let again = once_more(&done).ok()?;
@@ -233,7 +233,7 @@ fn effects_stand_in_order(rt: HostRuntime) {
     assert_eq!(rt; effects_twice(rt.alloc()), Some([IN_ORDER; 2]));
 }
 
-/// What a job is told: its actor, its turn, its process, its place, the number of the input, the length of its code and its counts.
+/// The data of a job: actor, turn, process, place, number of the input, length of the code, and counts.
 fn about(job: &Job) -> (u16, u64, ProcessNumber, Place, usize, usize, Cert) {
     (
         job.actor(),
@@ -246,7 +246,7 @@ fn about(job: &Job) -> (u16, u64, ProcessNumber, Place, usize, usize, Cert) {
     )
 }
 
-/// What the counter's job is told.
+/// The data of the counter's job.
 const ABOUT: (u16, u64, ProcessNumber, Place, usize, usize, Cert) = (
     4,
     9,
@@ -266,7 +266,7 @@ fn counter_job(alloc: Global) -> Option<Job> {
     job(&made(alloc, &counter())?, 5, 7)
 }
 
-/// Whether the counter's job and an equal one are told the same, with the same input.
+/// Whether the counter's job and an equal one have the same data, with the same input.
 fn told_twice(alloc: Global) -> Option<[bool; 3]> {
     let job = counter_job(alloc)?;
     let again = once_more(&job).ok()?;
@@ -282,7 +282,7 @@ fn a_job_has_all_that_it_needs(rt: HostRuntime) {
     assert_eq!(rt; told_twice(rt.alloc()), Some([true; 3]));
 }
 
-/// A place, the number of an input, values of n and the total, a parameter, a sender, and whether all that fits.
+/// A place, the number of an input, values of n and total, a parameter, a sender, and whether all that fits.
 type Fit = (
     Place,
     usize,
@@ -316,7 +316,7 @@ fn does_fit(set: &Verified, row: &Fit) -> bool {
     fits(set, P, row.0, row.1, &variables, &received)
 }
 
-/// The number of the first row of which the other is true.
+/// The index of the first row with another result.
 fn first_other_fit(set: &Verified, rows: &[Fit]) -> Option<usize> {
     for (number, row) in rows.iter().enumerate() {
         if does_fit(set, row) != row.6 {
@@ -326,13 +326,13 @@ fn first_other_fit(set: &Verified, rows: &[Fit]) -> Option<usize> {
     None
 }
 
-/// Whether Up fits where there are no variables.
+/// Whether Up fits without variables.
 fn bare_fit(set: &Verified) -> bool {
     let received = received(Some(1), OUTSIDE);
     fits(set, P, IN_RUN, 0, &ArrayVec::new(), &received)
 }
 
-/// The number of the first row of which the counter says the other, and whether Up fits it without variables.
+/// The index of the first row with another result for the counter, and whether Up fits it without variables.
 fn fits_of_counter(alloc: Global, rows: &[Fit]) -> Option<(Option<usize>, bool)> {
     match made(alloc, &counter()) {
         Some(set) => Some((first_other_fit(&set, rows), bare_fit(&set))),
@@ -345,7 +345,7 @@ fn a_wrong_input_does_not_fit(rt: HostRuntime) {
     assert_eq!(rt; fits_of_counter(rt.alloc(), &FITS), Some((None, false)));
 }
 
-/// Whether 1 from ENV is the same as an equal thing, and as what is other in its value, in its sender, in both.
+/// Whether 1 from ENV equals its copy, and inputs that differ in value, in sender, or in both.
 fn compared() -> Result<[bool; 4], AllocError> {
     let one = received(Some(1), OUTSIDE);
     Ok([

@@ -1,4 +1,4 @@
-//! Units by hand: their octets, how they are printed and refused.
+//! Units written by hand: their octets, their printed text and their refusals.
 use arrayvec::ArrayVec;
 use std::alloc::Global;
 use su_octets::{Head, Unit, UnitFault, check_bits, decode, encode};
@@ -31,7 +31,7 @@ fn known_check_octets(rt: HostRuntime) {
     assert_eq!(rt; check_bits(&[0xff, 0xff, 0x00]), [0xff, 0xff]);
 }
 
-/// Octets of units, and how the units are printed.
+/// Octets of units, and the printed text of the units.
 const UNITS: [(&[u8], &str); 5] = [
     (
         &[0xff, 0xff, 0x00, 0xff, 0xff],
@@ -55,14 +55,14 @@ const UNITS: [(&[u8], &str); 5] = [
     ),
 ];
 
-/// Whether the unit of these octets is printed so.
+/// Whether this is the printed text of the unit with these octets.
 fn is_printed(alloc: Global, octets: &[u8], text: &str) -> Option<bool> {
     let unit = decode(octets).ok()?;
     let printed = format!(in alloc; "{unit}").ok()?;
     Some(printed.as_str() == text)
 }
 
-/// The number of the first unit that is printed otherwise.
+/// The index of the first unit with another printed text.
 fn first_other_unit(alloc: Global, rows: &[(&[u8], &str)]) -> Option<usize> {
     for (number, (octets, text)) in rows.iter().enumerate() {
         if is_printed(alloc, octets, text) != Some(true) {
@@ -72,7 +72,7 @@ fn first_other_unit(alloc: Global, rows: &[(&[u8], &str)]) -> Option<usize> {
     None
 }
 
-/// The status code of the unit of these octets.
+/// The status code of the unit with these octets.
 fn status(octets: &[u8]) -> Option<u8> {
     decode(octets).ok()?.status_code()
 }
@@ -83,7 +83,7 @@ fn known_units(rt: HostRuntime) {
     assert_eq!(rt; status(&[0xff, 0xff, 0x01, 0x03, 0xbc, 0xd4]), Some(3));
 }
 
-/// Refused octets, and how they are refused.
+/// Refused octets, and their faults.
 const REFUSED: [(&[u8], UnitFault, &str); 5] = [
     (&[], UnitFault::TooShort, "U1 TooShort"),
     (
@@ -104,7 +104,7 @@ const REFUSED: [(&[u8], UnitFault, &str); 5] = [
     ),
 ];
 
-/// Whether octets are refused so, and that is printed so.
+/// Whether octets are refused with this fault and this printed text.
 fn is_refused(alloc: Global, octets: &[u8], fault: UnitFault, text: &str) -> bool {
     let is_that = decode(octets).err() == Some(fault);
     match format!(in alloc; "{fault}") {
@@ -113,7 +113,7 @@ fn is_refused(alloc: Global, octets: &[u8], fault: UnitFault, text: &str) -> boo
     }
 }
 
-/// The number of the first octets that are refused otherwise.
+/// The index of the first octets with another refusal.
 fn first_other_refusal(alloc: Global, rows: &[(&[u8], UnitFault, &str)]) -> Option<usize> {
     for (number, (octets, fault, text)) in rows.iter().enumerate() {
         if !is_refused(alloc, octets, *fault, text) {
@@ -128,7 +128,7 @@ fn known_refusals(rt: HostRuntime) {
     assert_eq!(rt; first_other_refusal(rt.alloc(), &REFUSED), None);
 }
 
-/// How many octets a message with so long a field has, its length indicator, and whether the octets are read as that message.
+/// The number of octets of a message with a field of this length, its length indicator, and whether they decode to it.
 fn encoded(field: usize) -> Option<(usize, Option<u8>, bool)> {
     let unit = message(field);
     if !unit.whole() {
@@ -143,7 +143,7 @@ fn encoded(field: usize) -> Option<(usize, Option<u8>, bool)> {
 /// The length of a field, of the octets, and the length indicator.
 const LENGTHS: [(usize, usize, u8); 4] = [(2, 8, 3), (61, 67, 62), (62, 68, 63), (272, 278, 63)];
 
-/// The number of the first row that isn't so.
+/// The index of the first row with another result.
 fn first_other_length(rows: &[(usize, usize, u8)]) -> Option<usize> {
     for (number, (field, octets, indicator)) in rows.iter().enumerate() {
         if encoded(*field) != Some((*octets, Some(*indicator), true)) {

@@ -1,22 +1,22 @@
-//! Timers: when each is due, in which order, step by step.
+//! Timers: when each is due, and in which order, step by step.
 use std::alloc::Global;
 use tick_wheel::{AdvanceError, Due, Timer, Wheel};
 
-/// A timer: the numbers of its process and its own.
+/// A timer: the number of its process, and its own number.
 type Name = (u8, u8);
 
-/// What is done to a wheel, and what comes of it.
+/// A call of a wheel, and its result.
 #[derive(Clone, Copy)]
 enum Step {
     /// A timer gets a deadline above the clock.
     Set(Name, u64),
     /// A timer loses its deadline, if it has one.
     Reset(Name),
-    /// So many ticks pass: these are due, in this order, and the clock is that.
+    /// So many ticks pass: these timers are due, in this order, and the clock shows this.
     Passes(u64, &'static [Name], u64),
     /// So many ticks are too many (W1).
     TooFar(u64),
-    /// A timer has that deadline, or none.
+    /// A timer has this deadline, or none.
     Waits(Name, Option<u64>),
     /// So many timers were looked at.
     Looked(u64),
@@ -36,7 +36,7 @@ fn sets(wheel: &mut Wheel, name: Name, deadline: u64) -> bool {
     true
 }
 
-/// Whether these are due, in this order.
+/// Whether these timers are due, in this order.
 fn are_due(due: &[Due], names: &[Name]) -> bool {
     for (place, one) in due.iter().enumerate() {
         if names.get(place) != Some(&(one.timer.actor(), one.timer.number())) {
@@ -46,7 +46,7 @@ fn are_due(due: &[Due], names: &[Name]) -> bool {
     due.len() == names.len()
 }
 
-/// Whether these are due as so many ticks pass.
+/// Whether these timers are due after so many ticks.
 fn passes(wheel: &mut Wheel, ticks: u64, names: &[Name], clock: u64) -> bool {
     match wheel.advance(ticks) {
         Ok(count) => {
@@ -74,7 +74,7 @@ fn does(wheel: &mut Wheel, step: Step) -> bool {
     }
 }
 
-/// Each is due once, at its deadline. Both are looked at where the first is due, since they are congruent modulo 256.
+/// Each timer is due once, at its deadline. Both are looked at when the first is due: they are congruent modulo 256.
 const ONCE: [Step; 11] = [
     Step::Set((0, 0), 256),
     Step::Set((127, 7), 512),
@@ -89,7 +89,7 @@ const ONCE: [Step; 11] = [
     Step::Waits((127, 7), None),
 ];
 
-/// One turn of the wheel apart: the first alone is due.
+/// One turn of the wheel apart: only the first is due.
 const APART: [Step; 7] = [
     Step::Set((4, 1), 1),
     Step::Set((4, 2), 257),
@@ -100,7 +100,7 @@ const APART: [Step; 7] = [
     Step::Looked(3),
 ];
 
-/// By deadline, then process, then number.
+/// Ordered by deadline, then process, then number.
 const IN_ORDER: [Step; 8] = [
     Step::Set((2, 1), 9),
     Step::Set((2, 0), 9),
@@ -112,7 +112,7 @@ const IN_ORDER: [Step; 8] = [
     Step::Passes(1, &[(0, 7)], 10),
 ];
 
-/// Setting replaces a deadline, resetting takes it away.
+/// Setting replaces a deadline, resetting removes it.
 const AGAIN: [Step; 8] = [
     Step::Set((3, 0), 5),
     Step::Set((3, 1), 5),
@@ -124,7 +124,7 @@ const AGAIN: [Step; 8] = [
     Step::Passes(65_535, &[], 65_539),
 ];
 
-/// However far a deadline is. What is set in a copy isn't in the one that was copied.
+/// A deadline may be far away. A timer set in a copy isn't set in the original.
 const FAR: [Step; 6] = [
     Step::Set((0, 0), 257),
     Step::Set((1, 0), 2_147_483_647),
@@ -134,14 +134,14 @@ const FAR: [Step; 6] = [
     Step::Looked(4),
 ];
 
-/// What the one has that was copied.
+/// The timers of the original.
 const COPIED: [Step; 3] = [
     Step::Waits((1, 0), None),
     Step::Waits((0, 1), Some(1)),
     Step::Passes(1, &[(0, 1)], 1),
 ];
 
-/// The number of the first step at which a wheel does something else.
+/// The index of the first step with another result.
 fn first_other(wheel: &mut Wheel, steps: &[Step]) -> Option<usize> {
     for (number, step) in steps.iter().enumerate() {
         if !does(wheel, *step) {
@@ -151,7 +151,7 @@ fn first_other(wheel: &mut Wheel, steps: &[Step]) -> Option<usize> {
     None
 }
 
-/// A wheel; where memory is refused once, one that is asked for again.
+/// A wheel; if memory runs out once, a second try.
 fn made(alloc: Global) -> Option<Wheel> {
     match Wheel::new(alloc) {
         Ok(wheel) => Some(wheel),
@@ -159,7 +159,7 @@ fn made(alloc: Global) -> Option<Wheel> {
     }
 }
 
-/// The same of a new wheel.
+/// As `first_other`, for a new wheel.
 fn first_other_of_new(alloc: Global, steps: &[Step]) -> Option<usize> {
     match made(alloc) {
         Some(mut wheel) => first_other(&mut wheel, steps),
@@ -175,7 +175,7 @@ fn timers_are_due_in_order(rt: HostRuntime) {
     assert_eq!(rt; first_other_of_new(rt.alloc(), &AGAIN), None);
 }
 
-/// A copy; where memory is refused once, one that is asked for again, of what is still as it was.
+/// A copy; if memory runs out once, a second try, with the wheel unchanged.
 fn copied(wheel: &mut Wheel) -> Option<Wheel> {
     match wheel.copy() {
         Ok(copy) => Some(copy),
@@ -184,7 +184,7 @@ fn copied(wheel: &mut Wheel) -> Option<Wheel> {
     }
 }
 
-/// The numbers of the first steps at which the copy of a wheel does something else, and then that wheel.
+/// The indices of the first steps with another result for the copy of a wheel, and then for that wheel.
 fn first_others_of_copy(alloc: Global) -> Option<(Option<usize>, Option<usize>)> {
     let mut wheel = made(alloc)?;
     if !sets(&mut wheel, (0, 1), 1) {
@@ -197,7 +197,7 @@ fn first_others_of_copy(alloc: Global) -> Option<(Option<usize>, Option<usize>)>
     ))
 }
 
-/// With ample memory each call succeeds at once. Where memory is refused, nothing has changed, and the next call succeeds.
+/// With ample memory each call succeeds at once. If memory runs out, nothing changes, and the next call succeeds.
 #[test]
 fn a_copy_goes_its_own_way(rt: HostRuntime) {
     assert_eq!(rt; first_others_of_copy(rt.alloc()), Some((None, None)));

@@ -23,11 +23,11 @@ pub const INTEGERS: &[Sort] = &[Sort::Integer; 17];
 
 pub const BOOLEAN: &[Sort] = &[Sort::Boolean];
 
-/// What is claimed of a place: the sorts of the operands, the set of variables, the instructions and the effects to an end.
+/// Claims about a place: the sorts of the operands, the set of variables, the instructions and the effects to an end.
 #[derive(Clone, Copy)]
 pub struct Claim(pub &'static [Sort], pub u32, pub u32, pub u32);
 
-/// The code of a transition, with what is claimed of each place, and the counts of the whole: instructions, operands and effects.
+/// The code of a transition, the claims about each place, and the counts of the whole: instructions, operands, effects.
 #[derive(Clone, Copy)]
 pub struct Plan {
     pub code: &'static [Instruction],
@@ -35,13 +35,13 @@ pub struct Plan {
     pub counts: (u32, u32, u32),
 }
 
-/// A set with the process P, whose variables are n and total and whose timer is Tick. P waits for one thing in the state Run. Up goes
-/// from ENV to P and from P to ENV.
+/// A set with the process P, whose variables are n and total and whose timer is Tick. P waits for one thing in the
+/// state Run. Up goes from ENV to P and from P to ENV.
 #[derive(Clone, Copy)]
 pub struct Recipe {
     /// The parameters of Up.
     pub parameters: &'static [Sort],
-    /// How n begins.
+    /// The initial value of n.
     pub initial: Option<Value>,
     /// The code of START.
     pub start: Plan,
@@ -51,16 +51,16 @@ pub struct Recipe {
     pub trigger: Trigger,
     /// The code of that transition; total is set as it begins.
     pub up: Plan,
-    /// How many states stand behind Run, which wait for nothing.
+    /// How many further states there are after Run, which wait for nothing.
     pub more: u32,
     /// How many instances of P run.
     pub instances: u32,
 }
 
-/// What becomes of a set.
+/// The result for a set.
 #[derive(Clone, Copy, PartialEq, Eq, Debug)]
 pub enum Verdict {
-    /// There was no memory for it.
+    /// Memory ran out.
     NotMade,
     Accepted,
     Refused(Rule, Spot),
@@ -104,14 +104,14 @@ pub const ADD: Plan = Plan {
     counts: (7, 2, 0),
 };
 
-/// `STOP;` where total is set.
+/// `STOP;` if total is set.
 pub const STOP: Plan = Plan {
     code: &[Instruction::Stop],
     claims: &[Claim(&[], 2, 1, 0)],
     counts: (1, 0, 0),
 };
 
-/// Up(Integer) adds to a total. As a function, since a test that names a const has all of it in its proof.
+/// Up(Integer) adds to a total. It is a function, because a test that names a const has all of it in its proof.
 pub fn counter() -> Recipe {
     Recipe {
         parameters: INTEGER,
@@ -125,7 +125,7 @@ pub fn counter() -> Recipe {
     }
 }
 
-/// The places of START, as far as tests name them.
+/// The places of START that tests name.
 pub const START_0: Spot = Spot {
     process: P,
     state: Place::Start,
@@ -147,7 +147,7 @@ pub const START_2: Spot = Spot {
     place: 2,
 };
 
-/// The first place of what Run waits for.
+/// The first place of the transition for which Run waits.
 pub const INPUT_0: Spot = Spot {
     process: P,
     state: Place::State(RUN),

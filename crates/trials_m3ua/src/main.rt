@@ -1,6 +1,6 @@
-//! `trials_m3ua`: streams of M3UA, one in each line of standard input: pieces in hexadecimal digits, parted by spaces. For each it prints what
-//! stands on the stream, and then a line `--`: a message as its name with the values of its parameters by their tags, `refused` with the code of the error
-//! that answers it, `too long`, or `broken`. Of DATA a second line has the fields of its protocol data, and the octets of the MTP message.
+//! `trials_m3ua` shows M3UA streams, one for each line of standard input: pieces in hexadecimal, separated by spaces.
+//! It prints the items and a line `--`. An item is a message (name, parameter values by tag), `refused` with the error
+//! code, `too long`, or `broken`. DATA has a second line: its protocol data and the octets of the MTP message.
 #![tactic(auto)]
 
 mod reading;

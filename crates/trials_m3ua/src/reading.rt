@@ -1,4 +1,4 @@
-//! A line of pieces.
+//! Reads a line of pieces.
 
 use crate::shown::show;
 use m3ua_frames::Deframer;
@@ -14,7 +14,7 @@ fn digit(c: u8) -> u8 {
     }
 }
 
-/// The octets that a word of hexadecimal digits spells.
+/// The octets that a word of hexadecimal digits encodes.
 fn octets_of(alloc: Global, word: &str) -> Result<Vec<u8>, AllocError> {
     let mut octets = Vec::new(alloc);
     for pair in word.as_bytes().chunks(2) {
@@ -25,7 +25,7 @@ fn octets_of(alloc: Global, word: &str) -> Result<Vec<u8>, AllocError> {
     Ok(octets)
 }
 
-/// Shows what a piece completes.
+/// Shows the items that a piece completes.
 fn show_piece(text: &mut String, deframer: &mut Deframer, piece: &[u8]) -> Result<(), AllocError> {
     let mut rest = piece;
     while !rest.is_empty() {
@@ -36,7 +36,7 @@ fn show_piece(text: &mut String, deframer: &mut Deframer, piece: &[u8]) -> Resul
     Ok(())
 }
 
-/// Shows what stands on the stream of a line.
+/// Shows the items of a line's stream.
 pub fn show_stream(alloc: Global, text: &mut String, line: &str) -> Result<(), AllocError> {
     let mut deframer = Deframer::new();
     for word in line.split_whitespace() {

@@ -1,4 +1,4 @@
-//! What is shown of a stream.
+//! The printed form of items.
 
 use m3ua_frames::{Frame, Heard, Kind, ProtocolData, decode, find, message_of, protocol_data, tag};
 use std::alloc::AllocError;
@@ -63,7 +63,7 @@ fn write_octets(text: &mut String, octets: &[u8]) -> Result<(), AllocError> {
     Ok(())
 }
 
-/// Writes the MTP message that protocol data stands for.
+/// Writes the MTP message of protocol data.
 fn write_message(text: &mut String, p: &ProtocolData<'_>) -> Result<(), AllocError> {
     match message_of(p) {
         None => text.push_str(" no message\n"),
@@ -87,7 +87,7 @@ fn write_protocol(text: &mut String, p: &ProtocolData<'_>) -> Result<(), AllocEr
     write_message(text, p)
 }
 
-/// Writes the value of a parameter, where it is there.
+/// Writes the value of a parameter, if it is there.
 fn write_parameter(text: &mut String, parameters: &[u8], tag: u16) -> Result<(), AllocError> {
     match find(parameters, tag) {
         None => Ok(()),
@@ -121,7 +121,7 @@ fn write_data(text: &mut String, frame: &Frame<'_>) -> Result<(), AllocError> {
     }
 }
 
-/// Writes a message, or why octets are none.
+/// Writes a message, or why octets are no message.
 fn write_decoded(text: &mut String, octets: &[u8]) -> Result<(), AllocError> {
     match decode(octets) {
         Ok(frame) => {
@@ -135,7 +135,7 @@ fn write_decoded(text: &mut String, octets: &[u8]) -> Result<(), AllocError> {
     }
 }
 
-/// Shows what was heard.
+/// Shows an item.
 pub fn show(text: &mut String, heard: Heard, octets: &[u8]) -> Result<(), AllocError> {
     match heard {
         Heard::Nothing => Ok(()),
