@@ -1,4 +1,4 @@
--- What the words of a command's matches ask for, by what single words say.
+-- The requests of a command's matches, from the meanings of single words.
 use Rattle.std.proofs.Common.{◌≡◌, ◌∙◌, ℕ, ◌+◌, ◌<◌, [], ◌∷◌, ◌++◌, Bor, map, take, length, get_or, List, Option, Some, None, Result, Ok, Err, IfOk, IsNone, IfSome, IsSomeAnd, refl, sym, ap, subst, inl, inr, option_map, option_and_then, box_value, codes, Bool, true, false}
 use Rattle.std.proofs.lemmas.Option.{none-some, same_Some, IfSome_then}
 use Rattle.std.proofs.lemmas.List.{take_more, map-append, length-map}
@@ -24,12 +24,12 @@ use Rattle.mtp2_words.specs.declared.requests.Named.{Named}
 use Rattle.mtp2_words.specs.declared.requests.Request.{Request}
 use Rattle.mtp2_words.specs.declared.requests.Request.TheVariants.{Check, Play, Soak, Line, Tend, Frame, Draw, Print, Diff}
 
--- ---- words under their ids
+-- ---- words by their ids
 
 some_word : (o : Option Text) (word : Text) (P : Text → Type 0) → Some word ≡ o → P word → IsSomeAnd o P
 some_word o word P e h = let Q : Option Text → Type 0 = λ x. IsSomeAnd x P in subst Q e h
 
--- one word more that names its set
+-- one more word that names its set
 pub named_more : (words : List (Bor Text)) (i : ℕ) (d : Bor Text) (sets new : List Named) (set : Named) → new ≡ sets ++ set ∷ [] → i < length words
     → IsNamed set (get_or words i d).now → AreNamed sets (map (λ w. w.now) (take i words)) → AreNamed new (map (λ w. w.now) (take (i + 1) words))
 named_more words i d sets new set is within h before =
@@ -39,7 +39,7 @@ named_more words i d sets new set is within h before =
     let Q : List Text → Type 0 = λ l. AreNamed (sets ++ set ∷ []) l in
     subst P (sym is) (subst Q (sym more) (zip_push IsNamed sets (map (λ w. w.now) (take i words)) set (get_or words i d).now before h))
 
--- sets that all words of SET name
+-- the sets that all words of SET name
 pub all_named : (given : ArgMatches) (words : List Text) (sets : List Named)
     → Some words ≡ option_map raw_values (matched_of (found_of given) (codes "SET")) → AreNamed sets words
     → IsSomeAnd (all_of (codes "SET") (rows_of (found_of given))) (AreNamed sets)
@@ -47,12 +47,12 @@ all_named given words sets e h =
     let P : Option (List Text) → Type 0 = λ o. IsSomeAnd o (AreNamed sets) in
     subst P (e ∙ raw_values-rows (found_of given) (codes "SET")) h
 
--- standard input under both ids is standard input as both words
+-- if both ids have `stdin`, both words do
 both_words : (given : Given) (set_word script_word : Text) → Some set_word ≡ given (codes "SET") → Some script_word ≡ given (codes "SCRIPT")
     → AreBothStdin given → AreStdin set_word script_word
 both_words given set_word script_word e f b = (same_Some set_word _ (e ∙ b.set_is), same_Some script_word _ (f ∙ b.script_is))
 
--- what is to be seen is asked for by options
+-- the options request the view of a run
 pub sees : (given : Given) (words : SeeingWords) (o : Option Seeing) → AreSeenUnder given words → IfSome o (IsSeenBy words) → IfSome o (AsksSeen given)
 sees given words o under h = IfSome_then o h (λ seen s. record { words = words; under_ids = under; seen_is = s })
 
@@ -144,14 +144,14 @@ pub soaks_nothing : (given : Given) (workers_word : Text) → Some workers_word 
     → IsNoSoak given
 soaks_nothing given workers_word f h = inr (ap (option_and_then workers_of) (sym f) ∙ h)
 
--- ---- an end of a link
+-- ---- one end of a link
 
 pub ends : (given : Given) (words : LineWords) → AreUnderIds given words → (end : Option LineEnd) → IfSome end (IsEndOf words)
     → IfSome end (AsksEnd given)
 ends given words under None h = tt
 ends given words under (Some end) h = record { words = words; under_ids = under; end_is = h }
 
--- ---- an end of a set of links
+-- ---- one end of a link set
 
 pub set_ends : (given : Given) (words : SetWords) → AreSetUnderIds given words → (end : Option SetEnd) → IfSome end (IsSetEndOf words)
     → IfSome end (AsksSetEnd given)
@@ -166,7 +166,7 @@ all_lines given words e few =
     subst P (e ∙ raw_values-rows (found_of given) (codes "link"))
     (record { few = ap are_few (length-map words (λ (w : Bor Text). w.now)) ∙ few; words_are = refl })
 
--- there are none, or too many
+-- there are no lines, or too many
 pub too_many_lines : (given : ArgMatches) (words : List (Bor Text)) → Some (map (λ w. w.now) words) ≡ option_map raw_values (matched_of (found_of given) (codes "link"))
     → are_few (length words) ≡ false → AreNoLines (all_of (codes "link") (rows_of (found_of given)))
 too_many_lines given words e many =
@@ -179,7 +179,7 @@ no_lines given e =
     let P : Option (List Text) → Type 0 = λ o. AreNoLines o in
     subst P (e ∙ raw_values-rows (found_of given) (codes "link")) tt
 
--- ---- the command that was entered
+-- ---- the entered command
 
 abbrev both : {X A B : Type 0} → (X → A) → (X → B) → X → A × B
 both f g x = (f x, g x)
@@ -230,7 +230,7 @@ pub all_ask_nothing : (matches given : ArgMatches) (name : Text) → subcommand_
 all_ask_nothing matches given name e (Ok request) h = λ n. asks_nothing matches given name e (h n)
 all_ask_nothing matches given name e (Err wanting) h = tt
 
--- ---- the request, out of its result
+-- ---- the request, taken from its result
 
 pub asked_some : (o : Option Request) (request : Request) (all : Option (Text × List Row)) → o ≡ Some request → IfSome o (IsAskedBy all) → IsAskedBy all request
 asked_some o request all e h = let P : Option Request → Type 0 = λ x. IfSome x (IsAskedBy all) in subst P e h

@@ -1,4 +1,4 @@
--- How commands are built.
+-- How commands are built with clap.
 use Rattle.std.proofs.Common.{◌≡◌, ◌∙◌, ◌||◌, Bool, true, false, List, [], Option, refl, sym, ap, ap₂, subst, inl, inr, ◌⊎◌}
 use Rattle.clap.specs.Words.{App, HasMatchesOf, IsAmong, Row, Rule, Text, app_of, fault_of, is_simple, is_simple_and_free, rule_of, subcommand_of, subcommand_rows_of, takes, with_rule, with_subcommand, AddsArg, AddsSubcommand}
 use Rattle.clap.specs.declared.builder.command.Command.{Command}
@@ -14,7 +14,7 @@ use Rattle.mtp2_words.specs.declared.requests.Request.{Request}
 neither : (a b c : Bool) → a ≡ (b || c) → b ≡ false → c ≡ false → a ≡ false
 neither a b c e f g = e ∙ ap₂ (λ x y. x || y) f g
 
--- one word more
+-- one more word
 pub with_word : (app : App) (rule : Rule) (old : Command) (arg : Arg) (new : Command) → IsCommand app old → rule_of arg ≡ rule → arg.global ≡ false
     → AddsArg old arg new → IsCommand (with_rule app rule) new
 with_word app rule old arg new c r g a = record {
@@ -22,7 +22,7 @@ with_word app rule old arg new c r g a = record {
   local = neither _ _ _ a.globals c.local g;
 }
 
--- one command more
+-- one more command
 pub with_command : (app sub : App) (old command new : Command) → IsCommand app old → IsCommand sub command → AddsSubcommand old command new
     → IsCommand (with_subcommand app sub.top) new
 with_command app sub old command new c s a = record {
@@ -30,7 +30,7 @@ with_command app sub old command new c s a = record {
   local = neither _ _ _ a.globals c.local s.local;
 }
 
--- ---- what a parse of words has
+-- ---- the result of parsing words
 
 are_simple : is_simple all_commands ≡ true
 are_simple = refl
@@ -54,12 +54,12 @@ pub refuses : (commands : Command) (words : List Text) (kind : ErrorKind) → Is
     → (takes (app_of commands) words ≡ true → kind ≡ OutOfMemory) → takes all_commands words ≡ true → kind ≡ OutOfMemory
 refuses commands words kind c h t = h (ap (λ a. takes a words) c.app_is ∙ t)
 
--- ---- which faults a parse tells
+-- ---- the faults that a parse reports
 
 are_free : is_simple_and_free all_commands ≡ true
 are_free = refl
 
--- words that are taken have none
+-- accepted words have no fault
 pub has_no_fault : (commands : Command) (words : List Text) → IsCommand all_commands commands
     → (is_simple_and_free (app_of commands) ≡ true → fault_of (app_of commands) words ≡ []) → fault_of all_commands words ≡ []
 has_no_fault commands words c h =
@@ -69,7 +69,7 @@ turned_down_by : (words : List Text) (kind : ErrorKind) → (kind ≡ OutOfMemor
 turned_down_by words kind (inl wanting) = inl wanting
 turned_down_by words kind (inr among) = inr (inl among)
 
--- and others have the one that is told
+-- refused words have the reported fault
 pub has_fault : (commands : Command) (words : List Text) (kind : ErrorKind) → IsCommand all_commands commands
     → (is_simple_and_free (app_of commands) ≡ true → (kind ≡ OutOfMemory) ⊎ IsAmong kind (fault_of (app_of commands) words)) → IsTurnedDown words kind
 has_fault commands words kind c h =

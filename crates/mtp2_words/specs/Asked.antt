@@ -1,5 +1,5 @@
--- What the words of a command line ask for, by the ids under which they stand in its matches, and
--- why they ask for nothing.
+-- The requests of a command line, by the ids of the words in its matches, and the reasons why a
+-- command line requests nothing.
 use Rattle.std.specs.Prelude.{◌≡◌, ◌⊎◌, ℕ, Bool, true, false, List, Option, Some, None, IsSomeAnd}
 use Rattle.std.specs.Prelude.{option_map, option_and_then, codes, map, length}
 use Rattle.std.specs.Borrow.{Bor}
@@ -32,18 +32,18 @@ Given = Text → Option Text
 abbrev pub given_by : ArgMatches → Given
 given_by matches id = first_value (found_of matches) id
 
--- the same, by the rows that clap has for them
+-- the first word under each id, taken from clap's rows
 abbrev pub given_in : List Row → Given
 given_in rows id = first_of id rows
 
--- ---- what they ask for
+-- ---- the requests
 
 -- both the set and the script are standard input
 pub record AreBothStdin (given : Given) : Type 0 where
   pub set_is : given (codes "SET") ≡ Some (codes "stdin")
   pub script_is : given (codes "SCRIPT") ≡ Some (codes "stdin")
 
--- each word of what is to be seen stands under its id
+-- each word for the view of a run has its own id
 pub record AreSeenUnder (given : Given) (words : SeeingWords) : Type 0 where
   pub echo : says_true (given (codes "echo")) ≡ words.echo
   pub trace : given (codes "trace") ≡ option_map (λ w. w.now) words.trace
@@ -54,20 +54,20 @@ pub record AreSeenUnder (given : Given) (words : SeeingWords) : Type 0 where
   pub capture : given (codes "capture") ≡ option_map (λ w. w.now) words.capture
   pub every : says_true (given (codes "every")) ≡ words.every
 
--- what of a run is to be seen, by the options that are there
+-- the view of a run that the options request
 pub record AsksSeen (given : Given) (seen : Seeing) : Type 0 where
   pub words : SeeingWords
   pub under_ids : AreSeenUnder given words
   pub seen_is : IsSeenBy words seen
 
--- options are there that ask for more than is had at a time, or for turns without a chart, or for
--- none
+-- the options request several views that exclude each other, turns without a chart, or turns of an
+-- invalid form
 pub record SaysNoSeeing (given : Given) : Type 0 where
   pub words : SeeingWords
   pub under_ids : AreSeenUnder given words
   pub none : IsNoSeeing words
 
--- `play`: the set that SET names, and the script that SCRIPT names; standard input isn't both
+-- `play`: the set that SET names, and the script that SCRIPT names; not standard input for both
 pub record AsksPlay (given : Given) (set : Named) (script : Source) (seen : Seeing) :
     Type 0 where
   pub set_is : IsSomeAnd (given (codes "SET")) (IsNamed set)
@@ -75,12 +75,12 @@ pub record AsksPlay (given : Given) (set : Named) (script : Source) (seen : Seei
   pub one_input : AreBothStdin given → ⊥
   pub asks_seen : AsksSeen given seen
 
--- `soak`: the script that SCRIPT names, and as many workers as --workers says
+-- `soak`: the script that SCRIPT names, and the number of workers that --workers states
 pub record AsksSoak (given : Given) (script : Source) (workers : ℕ) : Type 0 where
   pub script_is : IsSomeAnd (given (codes "SCRIPT")) (IsSource script)
   pub workers_are : option_and_then workers_of (given (codes "workers")) ≡ Some workers
 
--- each word of an end of a link stands under its id
+-- each word for an end of a link has its own id
 pub record AreUnderIds (given : Given) (words : LineWords) : Type 0 where
   pub mode : given (codes "MODE") ≡ Some words.mode.now
   pub n1 : given (codes "n1") ≡ option_map (λ w. w.now) words.n1
@@ -95,18 +95,18 @@ pub record AreUnderIds (given : Given) (words : LineWords) : Type 0 where
   pub measures : given (codes "measures") ≡ option_map (λ w. w.now) words.measures
 
 -- the end of a link that MODE, --n1, --n2, --orders, --reports, --bits, --ahead, --capture,
--- --trace, --every and --measures say
+-- --trace, --every and --measures describe
 pub record AsksEnd (given : Given) (end : LineEnd) : Type 0 where
   pub words : LineWords
   pub under_ids : AreUnderIds given words
   pub end_is : IsEndOf words end
 
--- `line`: the set that --text names, and such an end
+-- `line`: the set that --text names, and the end of a link
 pub record AsksLine (given : Given) (set : Named) (end : LineEnd) : Type 0 where
   pub set_is : IsText (given (codes "text")) set
   pub asks_end : AsksEnd given end
 
--- each word of an end of a set of links stands under its id
+-- each word for an end of a link set has its own id
 pub record AreSetUnderIds (given : Given) (words : SetWords) : Type 0 where
   pub mode : given (codes "MODE") ≡ Some words.mode.now
   pub own : given (codes "own") ≡ Some words.own.now
@@ -119,19 +119,19 @@ pub record AreSetUnderIds (given : Given) (words : SetWords) : Type 0 where
   pub ahead : given (codes "ahead") ≡ option_map (λ w. w.now) words.ahead
   pub no_test : says_true (given (codes "no-test")) ≡ words.no_test
 
--- the end of a set of links that MODE, --own, --peer, --network, --orders, --reports, --capture,
--- --bits, --ahead and --no-test say
+-- the end of a link set that MODE, --own, --peer, --network, --orders, --reports, --capture,
+-- --bits, --ahead and --no-test describe
 pub record AsksSetEnd (given : Given) (end : SetEnd) : Type 0 where
   pub words : SetWords
   pub under_ids : AreSetUnderIds given words
   pub end_is : IsSetEndOf words end
 
--- `set`: the set of processes that --set or --text names, and such an end
+-- `set`: the process set that --set or --text names, and the end of a link set
 pub record AsksSet (given : Given) (set : Named) (end : SetEnd) : Type 0 where
   pub set_is : IsSetText (given (codes "set")) (given (codes "text")) set
   pub asks_end : AsksSetEnd given end
 
--- lines are those that words name, 1 to 16
+-- the lines are those that the words name, 1 to 16
 pub record AreLinesOf (lines : List (Bor Text)) (words : List Text) : Type 0 where
   pub few : are_few (length words) ≡ true
   pub words_are : map (λ w. w.now) lines ≡ words
@@ -142,8 +142,7 @@ pub record AreStatesOfNothing (given : Given) : Type 0 where
   pub states_are : says_true (given (codes "states")) ≡ true
 
 -- `draw`: the set that SET names, the process that PROCESS names, if it is there, and its states
--- where
--- --states is
+-- if --states is there
 pub record AsksDraw (given : Given) (set : Named) (process : Option Text) (states : Bool) :
     Type 0 where
   pub set_is : IsSomeAnd (given (codes "SET")) (IsNamed set)
@@ -156,14 +155,14 @@ pub record AreTwoStdin (given : Given) : Type 0 where
   pub old_is : given (codes "OLD") ≡ Some (codes "stdin")
   pub new_is : given (codes "NEW") ≡ Some (codes "stdin")
 
--- `diff`: the sets that OLD and NEW name; standard input isn't both
+-- `diff`: the sets that OLD and NEW name; not standard input for both
 pub record AsksDiff (given : Given) (old new : Named) : Type 0 where
   pub old_is : IsSomeAnd (given (codes "OLD")) (IsNamed old)
   pub new_is : IsSomeAnd (given (codes "NEW")) (IsNamed new)
   pub one_input : AreTwoStdin given → ⊥
 
--- the words of a command ask for this, by the first of each id; `check` asks by all of them, and
--- `frame` for the octets of HEX, `text` for the set of the program's own that SET names
+-- the request of a command's words, by the first word of each id; `check` uses all words of SET,
+-- `frame` has the octets of HEX, and `text` the built-in set that SET names
 abbrev pub IsAsked : Given → Request → Type 0
 IsAsked given (Check sets) = Unit {0}
 IsAsked given (Play set script seen) = AsksPlay given set script seen
@@ -176,11 +175,11 @@ IsAsked given (Draw set process states) =
 IsAsked given (Print set) = IsSomeAnd (given (codes "SET")) (λ word. word ≡ word_of set)
 IsAsked given (Diff old new) = AsksDiff given old new
 
--- the sets that words name, each one its own, in their order
+-- the sets that the words name, one each, in their order
 abbrev pub AreNamed : List Named → List Text → Type 0
 AreNamed sets words = AllZip IsNamed sets words
 
--- `check` asks for the sets of all words of SET, and `set` for the lines of all of --link
+-- `check` has the sets of all words of SET, and `set` the lines of all --link
 abbrev pub AreAllAsked : List Row → Request → Type 0
 AreAllAsked rows (Check sets) = IsSomeAnd (all_of (codes "SET") rows) (AreNamed sets.items)
 AreAllAsked rows (Play set script seen) = Unit {0}
@@ -193,61 +192,60 @@ AreAllAsked rows (Draw set process states) = Unit {0}
 AreAllAsked rows (Print set) = Unit {0}
 AreAllAsked rows (Diff old new) = Unit {0}
 
--- the command that was entered, and its rows: its name is that of the request, and its words ask
--- for it
+-- the entered command and its rows: the command is that of the request, and its words request it
 abbrev pub IsAskedBy : Option (Text × List Row) → Request → Type 0
 IsAskedBy None request = ⊥
 IsAskedBy (Some entered) request =
     (command_of request ≡ entered.0) × IsAsked (given_in entered.1) request
     × AreAllAsked entered.1 request
 
--- ---- why they ask for nothing
+-- ---- why they request nothing
 
 -- `check`: no SET
 abbrev pub IsNoCheck : Given → Type 0
 IsNoCheck given = given (codes "SET") ≡ None
 
--- `play`: no SET or no SCRIPT, standard input for both, or more to be seen than is had at a time
+-- `play`: no SET or no SCRIPT, standard input for both, or views that can't be combined
 abbrev pub IsNoPlay : Given → Type 0
 IsNoPlay given =
     (given (codes "SET") ≡ None)
     ⊎ ((given (codes "SCRIPT") ≡ None) ⊎ (AreBothStdin given ⊎ SaysNoSeeing given))
 
--- `soak`: no SCRIPT, or no --workers that says how many
+-- `soak`: no SCRIPT, or no --workers with a valid number
 abbrev pub IsNoSoak : Given → Type 0
 IsNoSoak given =
     (given (codes "SCRIPT") ≡ None) ⊎ (option_and_then workers_of (given (codes "workers")) ≡ None)
 
--- words are there for an end of a link, and one of them says nothing
+-- the words for an end of a link are there, and one of them is invalid
 pub record SaysNoEnd (given : Given) : Type 0 where
   pub words : LineWords
   pub under_ids : AreUnderIds given words
   pub no_end : IsNoEnd words
 
--- `line`: standard input as --text, no MODE, or words that say no end
+-- `line`: standard input as --text, no MODE, or words that describe no end
 abbrev pub IsNoLine : Given → Type 0
 IsNoLine given =
     (given (codes "text") ≡ Some (codes "stdin"))
     ⊎ ((given (codes "MODE") ≡ None) ⊎ SaysNoEnd given)
 
--- the words for an end of a set are there, and one of them says nothing
+-- the words for an end of a link set are there, and one of them is invalid
 pub record SaysNoSetEnd (given : Given) : Type 0 where
   pub words : SetWords
   pub under_ids : AreSetUnderIds given words
   pub no_end : IsNoSetEnd words
 
--- no --link is there, or there are too many
+-- there is no --link, or there are too many
 abbrev pub AreNoLines : Option (List Text) → Type 0
 AreNoLines None = Unit {0}
 AreNoLines (Some words) = are_few (length words) ≡ false
 
--- one of the words that have to be there isn't, or they say no end
+-- a required word is missing, or the words describe no end
 abbrev pub IsNoSetEndBy : Given → Type 0
 IsNoSetEndBy given =
     (given (codes "MODE") ≡ None)
     ⊎ ((given (codes "own") ≡ None) ⊎ ((given (codes "peer") ≡ None) ⊎ SaysNoSetEnd given))
 
--- `set`: --set and --text both, or one that names no set, no such end, or no lines
+-- `set`: both --set and --text, or one that names no set, no such end, or no lines
 abbrev pub IsNoSet : Given → List Row → Type 0
 IsNoSet given rows =
     IsNoSetText (given (codes "set")) (given (codes "text"))
@@ -257,11 +255,11 @@ IsNoSet given rows =
 abbrev pub IsNoFrame : Given → Type 0
 IsNoFrame given = given (codes "HEX") ≡ None
 
--- `draw`: no SET, or the states of nothing
+-- `draw`: no SET, or --states without a PROCESS
 abbrev pub IsNoDraw : Given → Type 0
 IsNoDraw given = (given (codes "SET") ≡ None) ⊎ AreStatesOfNothing given
 
--- `text`: no SET, or one that names no set of the program's own
+-- `text`: no SET, or one that names no built-in set
 abbrev pub IsNoPrint : Given → Type 0
 IsNoPrint given = (given (codes "SET") ≡ None) ⊎ IsSomeAnd (given (codes "SET")) NamesNone
 
@@ -270,7 +268,7 @@ abbrev pub IsNoDiff : Given → Type 0
 IsNoDiff given =
     (given (codes "OLD") ≡ None) ⊎ ((given (codes "NEW") ≡ None) ⊎ AreTwoStdin given)
 
--- the name of none of the commands
+-- the name belongs to no command
 pub record IsNoCommand (name : Text) : Type 0 where
   pub not_check : name ≡ codes "check" → ⊥
   pub not_play : name ≡ codes "play" → ⊥
@@ -282,7 +280,7 @@ pub record IsNoCommand (name : Text) : Type 0 where
   pub not_text : name ≡ codes "text" → ⊥
   pub not_diff : name ≡ codes "diff" → ⊥
 
--- the words of a command of this name ask for nothing
+-- the words of a command of this name request nothing
 pub data AsksNothing (name : Text) (given : Given) (rows : List Row) : Type 0 where
   no_command : IsNoCommand name → AsksNothing name given rows
   no_check : name ≡ codes "check" → IsNoCheck given → AsksNothing name given rows
@@ -295,7 +293,7 @@ pub data AsksNothing (name : Text) (given : Given) (rows : List Row) : Type 0 wh
   no_print : name ≡ codes "text" → IsNoPrint given → AsksNothing name given rows
   no_diff : name ≡ codes "diff" → IsNoDiff given → AsksNothing name given rows
 
--- no command was entered, or its words ask for nothing
+-- no command was entered, or its words request nothing
 abbrev pub SaysNothing : Option (Text × List Row) → Type 0
 SaysNothing None = Unit {0}
 SaysNothing (Some entered) = AsksNothing entered.0 (given_in entered.1) entered.1

@@ -1,4 +1,4 @@
--- The commands of the program, and the words that each takes.
+-- The commands of the program, and the words of each, in clap's terms.
 use Rattle.std.specs.Prelude.{◌≡◌, Bool, true, false, Some, codes}
 use Rattle.clap.specs.Words.{App, Rule, Text, app_of, new_app, new_rule, with_rule, with_subcommand}
 use Rattle.clap.specs.Simple.{new_shape}
@@ -6,19 +6,19 @@ use Rattle.clap.specs.declared.builder.action.ArgAction.TheVariants.{Append, Set
 use Rattle.clap.specs.declared.builder.command.Command.{Command}
 use Rattle.clap.specs.declared.builder.command.Command.TheViews.{out-Command}
 
--- a word that has to be there
+-- a required word
 abbrev pub plain_word : Text → Rule
 plain_word id = record (new_rule id) { required = true }
 
--- `--ID` with a word behind it, which may be there
+-- an optional `--ID` with a word after it
 abbrev pub option_word : Text → Rule
 option_word id = record (new_rule id) { long = Some id; value_names = 1 }
 
--- `--ID`, which may be there
+-- an optional `--ID` without a word
 abbrev pub flag_word : Text → Rule
 flag_word id = record (new_rule id) { long = Some id; action = Some SetTrue }
 
--- a word that has to be there, and may be there more than once
+-- a required word that may be repeated
 abbrev pub plain_words : Text → Rule
 plain_words id = record (plain_word id) { action = Some Append }
 
@@ -32,7 +32,7 @@ play_begun =
     with_rule (with_rule (new_app (codes "play")) (plain_word (codes "SET")))
     (plain_word (codes "SCRIPT"))
 
--- a command with the options that say which turns of a run are seen, and how
+-- a command with the options for which turns of a run are shown, and how
 abbrev pub with_turn_options : App → App
 with_turn_options command =
     with_rule
@@ -40,7 +40,7 @@ with_turn_options command =
     (with_rule (with_rule command (flag_word (codes "echo"))) (option_word (codes "trace")))
     (option_word (codes "chart"))) (option_word (codes "turns"))
 
--- a command with the options that say what is counted and captured of a run
+-- a command with the options for counts and captures of a run
 abbrev pub with_count_options : App → App
 with_count_options command =
     with_rule
@@ -52,19 +52,19 @@ with_count_options command =
 abbrev pub play_command : App
 play_command = with_count_options (with_turn_options play_begun)
 
--- `soak SCRIPT --workers N`, which has to be there
+-- `soak SCRIPT --workers N`, all required
 abbrev pub soak_command : App
 soak_command =
     with_rule (with_rule (new_app (codes "soak")) (plain_word (codes "SCRIPT")))
     (record (option_word (codes "workers")) { required = true })
 
--- `line MODE`, with --text, without the other options
+-- `line MODE`, with --text, without its other options
 abbrev pub line_begun : App
 line_begun =
     with_rule (with_rule (new_app (codes "line")) (plain_word (codes "MODE")))
     (option_word (codes "text"))
 
--- a command with the options that say what an end of a link does on its line
+-- a command with the options for an end of a link on its line
 abbrev pub with_line_options : App → App
 with_line_options command =
     with_rule
@@ -73,19 +73,19 @@ with_line_options command =
     (option_word (codes "reports")))
     (option_word (codes "bits"))) (option_word (codes "ahead"))
 
--- a command with the options that say when cyclic retransmission is forced
+-- a command with the options for forced cyclic retransmission
 abbrev pub with_limit_options : App → App
 with_limit_options command =
     with_rule (with_rule command (option_word (codes "n1"))) (option_word (codes "n2"))
 
--- a command with the options that say what is captured and what is traced of a line
+-- a command with the options for a capture and a trace of a line
 abbrev pub with_capture_options : App → App
 with_capture_options command =
     with_rule
     (with_rule (with_rule command (option_word (codes "capture"))) (option_word (codes "trace")))
     (flag_word (codes "every"))
 
--- a command with the option that says where measurements go
+-- a command with the option for the file of measurements
 abbrev pub with_measures_option : App → App
 with_measures_option command = with_rule command (option_word (codes "measures"))
 
@@ -95,11 +95,11 @@ line_command =
     with_measures_option
     (with_capture_options (with_limit_options (with_line_options line_begun)))
 
--- `--ID` with a word behind it, which has to be there
+-- a required `--ID` with a word after it
 abbrev pub needed_word : Text → Rule
 needed_word id = record (option_word id) { required = true }
 
--- the same, which may be there more than once
+-- a required `--ID` with a word after it, which may be repeated
 abbrev pub needed_words : Text → Rule
 needed_words id = record (needed_word id) { action = Some Append }
 
@@ -107,7 +107,7 @@ needed_words id = record (needed_word id) { action = Some Append }
 abbrev pub set_begun : App
 set_begun = with_rule (new_app (codes "set")) (plain_word (codes "MODE"))
 
--- a command with the options that say which links there are
+-- a command with the options for the links of a set
 abbrev pub with_links : App → App
 with_links command =
     with_rule
@@ -118,7 +118,7 @@ with_links command =
     (needed_word (codes "peer"))) (option_word (codes "network"))) (option_word (codes "set")))
     (option_word (codes "text"))
 
--- a command with the options that say what an end does on its lines
+-- a command with the options for an end on its lines
 abbrev pub with_streams : App → App
 with_streams command =
     with_rule
@@ -137,7 +137,7 @@ set_command = with_streams (with_links set_begun)
 abbrev pub frame_command : App
 frame_command = with_rule (new_app (codes "frame")) (plain_word (codes "HEX"))
 
--- `draw SET`, with a PROCESS that may be there, and --states
+-- `draw SET`, with an optional PROCESS, and --states
 abbrev pub draw_command : App
 draw_command =
     with_rule
@@ -154,7 +154,7 @@ diff_command =
     with_rule (with_rule (new_app (codes "diff")) (plain_word (codes "OLD")))
     (plain_word (codes "NEW"))
 
--- the program without its commands, of which one has to be named; it has a version
+-- the program without its commands, one of which is required; it has a version
 abbrev pub program_begun : App
 program_begun = record (new_app (codes "mtp2_play")) {
   top = record (new_shape (codes "mtp2_play")) { subcommand_required = true; has_version = true };
@@ -174,11 +174,11 @@ all_commands =
     check_command.top) play_command.top) soak_command.top) frame_command.top) draw_command.top)
     text_command.top) diff_command.top
 
--- a word of the command is one of its commands' too
+-- whether a word of the command is inherited by its subcommands
 abbrev pub has_globals : Command → Bool
 has_globals command = (out-Command command).has_globals
 
--- a command is read as this one, and none of its words is one of its commands' too
+-- a command that clap reads as this one, with no word inherited by subcommands
 pub record IsCommand (app : App) (command : Command) : Type 0 where
   pub app_is : app_of command ≡ app
   pub local : has_globals command ≡ false

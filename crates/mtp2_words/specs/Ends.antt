@@ -1,4 +1,4 @@
--- What words say of one end of a link.
+-- The words that describe one end of a link.
 use Rattle.std.specs.Prelude.{◌≡◌, ◌⊎◌, ℕ, nat_le, if◌then◌else◌, List, Option, Some, None}
 use Rattle.std.specs.Prelude.{option_map, option_and_then, bytes_eq, codes}
 use Rattle.script_links.specs.resend_store_types.messages.Mode.{Mode}
@@ -12,13 +12,13 @@ use Rattle.mtp2_words.specs.Limits.{messages_of, octets_of}
 use Rattle.mtp2_words.specs.declared.ends.LineEnd.{LineEnd}
 use Rattle.mtp2_words.specs.declared.ends.LineWords.{LineWords}
 
--- which bit of an octet is the first on the line
+-- which bit of an octet is sent first
 abbrev pub bits_named : List ℕ → Option Bits
 bits_named word =
     if bytes_eq word (codes "low") then Some Low
     else (if bytes_eq word (codes "high") then Some High else None)
 
--- the lowest, where there is no word
+-- the first bit; the least significant one if there is no word
 abbrev pub bits_of : Option (List ℕ) → Option Bits
 bits_of None = Some Low
 bits_of (Some word) = bits_named word
@@ -26,28 +26,28 @@ bits_of (Some word) = bits_named word
 abbrev pub few : ℕ → Option ℕ
 few n = if nat_le n MOST_AHEAD then Some n else None
 
--- how many octets go ahead: a count, and not too many
+-- the number of octets sent ahead: a count that isn't too large
 abbrev pub ahead_named : List ℕ → Option ℕ
 ahead_named word = option_and_then few (count_of word)
 
--- none, where there is no word
+-- the number of octets sent ahead; none if there is no word
 abbrev pub ahead_of : Option (List ℕ) → Option ℕ
 ahead_of None = Some 0
 ahead_of (Some word) = ahead_named word
 
--- what is chosen, or else the usual
+-- the chosen value, or else the usual one
 abbrev pub chosen_or : ℕ → Option ℕ → ℕ
 chosen_or usual None = usual
 chosen_or usual (Some chosen) = chosen
 
--- the limits that an end has where the usual ones are these
+-- the limits of an end, if these are the usual ones
 abbrev pub limits_over : RoundLimits → LineEnd → RoundLimits
 limits_over usual end = record {
   messages = chosen_or usual.messages end.messages;
   octets = chosen_or usual.octets end.octets;
 }
 
--- each word says its part
+-- the end that the words describe
 pub record IsEndOf (words : LineWords) (end : LineEnd) : Type 0 where
   pub mode_is : mode_named words.mode.now ≡ Some end.mode
   pub bits_are : bits_of (option_map (λ w. w.now) words.bits) ≡ Some end.bits
@@ -61,14 +61,14 @@ pub record IsEndOf (words : LineWords) (end : LineEnd) : Type 0 where
   pub every_is : end.every ≡ words.every
   pub measures_are : option_map (λ w. w.now) end.measures ≡ option_map (λ w. w.now) words.measures
 
--- N1 or N2 is a word that says no limit of the error correction
+-- N1 or N2 has a word that is no limit for this error correction
 pub record HasNoLimit (words : LineWords) : Type 0 where
   pub mode : Mode
   pub mode_is : mode_named words.mode.now ≡ Some mode
   pub none : (messages_of mode (option_map (λ w. w.now) words.n1) ≡ None)
       ⊎ (octets_of mode (option_map (λ w. w.now) words.n2) ≡ None)
 
--- one of them says nothing
+-- one of the words is invalid
 abbrev pub IsNoEnd : LineWords → Type 0
 IsNoEnd words =
     (mode_named words.mode.now ≡ None) ⊎ (bits_of (option_map (λ w. w.now) words.bits) ≡ None)

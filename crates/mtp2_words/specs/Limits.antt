@@ -1,4 +1,4 @@
--- Limits of forced retransmission (Q.703, 6.4), by words.
+-- The limits of forced retransmission (Q.703, 6.4), from words.
 use Rattle.std.specs.Prelude.{ℕ, List, Option, Some, None, option_map, option_and_then}
 use Rattle.std.specs.Int.{is_in_range}
 use Rattle.std.specs.Prelude.{if◌then◌else◌}
@@ -12,25 +12,25 @@ use Rattle.mtp2_words.specs.declared.requests.Named.{Named}
 use Rattle.mtp2_words.specs.declared.requests.Named.TheVariants.{Own, Stdin, File}
 use Rattle.mtp2_text.specs.Own.{limits_of}
 
--- the limits over a set where none are chosen
+-- the limits for a set, if none are chosen
 abbrev pub usual_limits_of : Named → RoundLimits
 usual_limits_of (Own own) = limits_of own
 usual_limits_of Stdin = usual_limits
 usual_limits_of (File path) = usual_limits
 
--- a number in a range
+-- a number, if it is in this range
 abbrev pub within : ℕ → ℕ → ℕ → Option ℕ
 within least most n = if is_in_range least most n then Some n else None
 
--- how many messages: a count, 1 to N1
+-- the number of messages: a count, 1 to N1
 abbrev pub messages_named : List ℕ → Option ℕ
 messages_named word = option_and_then (within 1 N1) (count_of word)
 
--- how many octets: a count, LEAST_N2 to N2
+-- the number of octets: a count, LEAST_N2 to N2
 abbrev pub octets_named : List ℕ → Option ℕ
 octets_named word = option_and_then (within LEAST_N2 N2) (count_of word)
 
--- what a word chooses, if there is one; basic error correction has nothing to choose
+-- the chosen value, if there is a word; basic error correction allows none
 abbrev pub chosen_by : (List ℕ → Option ℕ) → Mode → Option (List ℕ) → Option (Option ℕ)
 chosen_by named mode None = Some None
 chosen_by named Basic (Some word) = None

@@ -1,4 +1,4 @@
--- What words say of one end of a set of links.
+-- The words that describe one end of a link set.
 use Rattle.std.specs.Prelude.{◌≡◌, ◌==◌, ◌⊎◌, ℕ, ◌&&◌, nat_le, nat_lt, not, Bool, false, List}
 use Rattle.std.specs.Prelude.{if◌then◌else◌, Option, Some, None, option_map, option_and_then}
 use Rattle.script_links.specs.Numbers.{count_of}
@@ -10,25 +10,25 @@ use Rattle.mtp2_words.specs.declared.set_ends.SetWords.{SetWords}
 abbrev pub below : ℕ → ℕ → Option ℕ
 below most n = if nat_lt n most then Some n else None
 
--- the code of a point: a count of 14 bits
+-- a point code: a number of 14 bits
 abbrev pub point_named : List ℕ → Option ℕ
 point_named word = option_and_then (below 16384) (count_of word)
 
--- the network indicator: a count of 2 bits; 2, a national network, where there is no word
+-- the network indicator: a number of 2 bits; 2 (national network) if there is no word
 abbrev pub network_of : Option (List ℕ) → Option ℕ
 network_of None = Some 2
 network_of (Some word) = option_and_then (below 4) (count_of word)
 
--- how many octets go ahead on each line: 64, where there is no word
+-- the number of octets sent ahead on each line; 64 if there is no word
 abbrev pub set_ahead_of : Option (List ℕ) → Option ℕ
 set_ahead_of None = Some 64
 set_ahead_of (Some word) = ahead_named word
 
--- a set has 1 to 16 links
+-- a link set has 1 to 16 links
 abbrev pub are_few : ℕ → Bool
 are_few links = nat_le 1 links && nat_le links 16
 
--- each word says its part
+-- the end that the words describe
 pub record IsSetEndOf (words : SetWords) (end : SetEnd) : Type 0 where
   pub mode_is : mode_named words.mode.now ≡ Some end.mode
   pub own_is : point_named words.own.now ≡ Some end.own
@@ -42,7 +42,7 @@ pub record IsSetEndOf (words : SetWords) (end : SetEnd) : Type 0 where
   pub capture_is : option_map (λ w. w.now) end.capture ≡ option_map (λ w. w.now) words.capture
   pub tests_are : end.tests ≡ not words.no_test
 
--- one of them says nothing, or two say the same point
+-- one of the words is invalid, or both points are the same
 abbrev pub IsNoSetEnd : SetWords → Type 0
 IsNoSetEnd words =
     (mode_named words.mode.now ≡ None) ⊎ (point_named words.own.now ≡ None)

@@ -1,4 +1,4 @@
--- What a command line asks for.
+-- The requests of a command line, word by word.
 use Rattle.std.specs.Prelude.{◌≡◌, ℕ, if◌then◌else◌, List, Option, Some, None, option_and_then}
 use Rattle.std.specs.Prelude.{codes, Bool, false, bytes_eq}
 use Rattle.std.specs.Int.{is_in_range}
@@ -16,7 +16,7 @@ use Rattle.mtp2_words.specs.declared.requests.Request.{Request}
 use Rattle.mtp2_words.specs.declared.requests.Request.TheVariants.{Check, Play, Soak, Line, Frame}
 use Rattle.mtp2_words.specs.declared.requests.Request.TheVariants.{Tend, Draw, Print, Diff}
 
--- a file may have any name but these
+-- a word names a file unless it is one of these
 pub record IsFileName (word : List ℕ) : Type 0 where
   pub not_own : NamesNone word
   pub not_stdin : word ≡ codes "stdin" → ⊥
@@ -27,22 +27,22 @@ IsNamed (Own own) word = word ≡ word_of own
 IsNamed Stdin word = word ≡ codes "stdin"
 IsNamed (File path) word = (path.now ≡ word) × IsFileName word
 
--- where the script stands that a word names
+-- the source of the script that a word names
 abbrev pub IsSource : Source → List ℕ → Type 0
 IsSource stdin word = word ≡ codes "stdin"
 IsSource (script_file path) word = (path.now ≡ word) × (word ≡ codes "stdin" → ⊥)
 
--- standard input as set and script
+-- standard input as both set and script
 abbrev pub AreStdin : List ℕ → List ℕ → Type 0
 AreStdin set_word script_word = (set_word ≡ codes "stdin") × (script_word ≡ codes "stdin")
 
--- what `play` asks for by two words; standard input isn't both
+-- the set and script of `play`, from two words; not standard input for both
 pub record IsPlayOf (set_word script_word : List ℕ) (set : Named) (script : Source) : Type 0 where
   pub set_is : IsNamed set set_word
   pub script_is : IsSource script script_word
   pub one_input : AreStdin set_word script_word → ⊥
 
--- and this is seen of the run
+-- the request of `play`, with the view of the run
 abbrev pub IsPlay : List ℕ → List ℕ → Seeing → Request → Type 0
 IsPlay set_word script_word wanted (Check sets) = ⊥
 IsPlay set_word script_word wanted (Play set script seen) =
@@ -55,15 +55,15 @@ IsPlay set_word script_word wanted (Draw set process states) = ⊥
 IsPlay set_word script_word wanted (Print set) = ⊥
 IsPlay set_word script_word wanted (Diff old new) = ⊥
 
--- as many workers as may serve
+-- a number of workers, if a pool can have as many
 abbrev pub as_many : ℕ → Option ℕ
 as_many n = if is_in_range LEAST_WORKERS MOST_WORKERS n then Some n else None
 
--- the number of workers that a word says: a count, and such a one
+-- the number of workers that a word states: a count in the allowed range
 abbrev pub workers_of : List ℕ → Option ℕ
 workers_of word = option_and_then as_many (count_of word)
 
--- what `soak` asks for by two words
+-- the request of `soak`, from two words
 abbrev pub IsSoak : List ℕ → List ℕ → Request → Type 0
 IsSoak script_word workers_word (Check sets) = ⊥
 IsSoak script_word workers_word (Play set script seen) = ⊥
@@ -76,13 +76,13 @@ IsSoak script_word workers_word (Draw set process states) = ⊥
 IsSoak script_word workers_word (Print set) = ⊥
 IsSoak script_word workers_word (Diff old new) = ⊥
 
--- the set of the program's own that a word names
+-- the built-in set that a word names
 abbrev pub IsOwnNamed : Named → List ℕ → Type 0
 IsOwnNamed (Own own) word = word ≡ word_of own
 IsOwnNamed Stdin word = ⊥
 IsOwnNamed (File path) word = ⊥
 
--- what `text` asks for by a word
+-- the request of `text`, from a word
 abbrev pub IsPrint : List ℕ → Request → Type 0
 IsPrint word (Check sets) = ⊥
 IsPrint word (Play set script seen) = ⊥
@@ -94,39 +94,39 @@ IsPrint word (Draw set process states) = ⊥
 IsPrint word (Print set) = word ≡ word_of set
 IsPrint word (Diff old new) = ⊥
 
--- what `diff` asks for by two words; standard input isn't both
+-- the request of `diff`, from two words; not standard input for both
 pub record IsDiff (old_word new_word : List ℕ) (old new : Named) : Type 0 where
   pub old_is : IsNamed old old_word
   pub new_is : IsNamed new new_word
   pub one_input : AreStdin old_word new_word → ⊥
 
--- the set that a word names for a terminal on a line: standard input is the line, and no text
+-- the set that a word names for a terminal on a line: not standard input, which is the line
 abbrev pub IsTextNamed : Named → List ℕ → Type 0
 IsTextNamed (Own own) word = word ≡ word_of own
 IsTextNamed Stdin word = ⊥
 IsTextNamed (File path) word = (path.now ≡ word) × IsFileName word
 
--- the same by a word that may be there; `standard` where there is none
+-- the set of a terminal on a line, from an optional word; `standard` if there is none
 abbrev pub IsText : Option (List ℕ) → Named → Type 0
 IsText None set = set ≡ Own Standard
 IsText (Some word) set = IsTextNamed set word
 
--- the processes of the links of a set, by a word for a set of the program's own or one for a text,
--- of which one may be there; `q703` where none is
+-- the processes of a link set, from an optional word for a built-in set or one for a text, not
+-- both; `q703` if there is neither
 abbrev pub IsSetText : Option (List ℕ) → Option (List ℕ) → Named → Type 0
 IsSetText None None set = set ≡ Own Q703
 IsSetText None (Some text) set = IsTextNamed set text
 IsSetText (Some own) None set = IsOwnNamed set own
 IsSetText (Some own) (Some text) set = ⊥
 
--- both are there, or the one that is names none
+-- both words are there, or the one that is there names no set
 abbrev pub IsNoSetText : Option (List ℕ) → Option (List ℕ) → Type 0
 IsNoSetText None None = ⊥
 IsNoSetText None (Some text) = text ≡ codes "stdin"
 IsNoSetText (Some own) None = NamesNone own
 IsNoSetText (Some own) (Some text) = Unit {0}
 
--- an option without a word behind it was entered
+-- whether an option without a word was entered
 abbrev pub says_true : Option (List ℕ) → Bool
 says_true None = false
 says_true (Some word) = bytes_eq word (codes "true")

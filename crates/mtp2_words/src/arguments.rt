@@ -6,7 +6,7 @@ ghost use Rattle.mtp2_words.specs.Commands.{plain_word, option_word, flag_word, 
 use clap::{Arg, ArgAction, Command};
 use std::alloc::Global;
 
-/// A command without words, with what its help says before them and behind them.
+/// A command without words, with the help text before and after them.
 pub(crate) fn bare_command<'a>(
     alloc: Global,
     name: &'a str,
@@ -18,7 +18,7 @@ pub(crate) fn bare_command<'a>(
     Command::new(alloc, name).about(about).after_help(after)
 }
 
-/// A word that has to be there.
+/// A required word.
 pub(crate) fn plain_word<'a>(alloc: Global, id: &'a str, help: &'a str) -> Arg<'a>
     ensures rule { rule_of result ≡ plain_word id.entry.now }
     ensures local { result.global ≡ false }
@@ -26,7 +26,7 @@ pub(crate) fn plain_word<'a>(alloc: Global, id: &'a str, help: &'a str) -> Arg<'
     Arg::new(alloc, id).help(help).required(true)
 }
 
-/// An option with a word behind it.
+/// An option with a word after it.
 pub(crate) fn option_word<'a>(
     alloc: Global,
     name: &'a str,
@@ -42,7 +42,7 @@ pub(crate) fn option_word<'a>(
         .help(help)
 }
 
-/// A word that may be there.
+/// An optional word.
 pub(crate) fn optional_word<'a>(alloc: Global, id: &'a str, help: &'a str) -> Arg<'a>
     ensures rule { rule_of result ≡ new_rule id.entry.now }
     ensures local { result.global ≡ false }
@@ -50,7 +50,7 @@ pub(crate) fn optional_word<'a>(alloc: Global, id: &'a str, help: &'a str) -> Ar
     Arg::new(alloc, id).help(help)
 }
 
-/// An option without a word behind it.
+/// An option without a word.
 pub(crate) fn flag_word<'a>(alloc: Global, name: &'a str, help: &'a str) -> Arg<'a>
     ensures rule { rule_of result ≡ flag_word name.entry.now }
     ensures local { result.global ≡ false }

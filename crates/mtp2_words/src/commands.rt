@@ -1,4 +1,4 @@
-//! The commands of the program, and the words that they take.
+//! The commands of the program, and their words.
 ghost use Rattle.std.specs.Prelude.{◌≡◌, IfOk, false};
 ghost use Rattle.clap.specs.Words.{app_of};
 ghost use Rattle.mtp2_words.specs.Commands.{check_command, play_command, soak_command, line_begun, line_command, frame_command, draw_command, diff_command, text_command, play_begun, with_turn_options, with_count_options, all_commands, program_begun, with_line_options, with_limit_options, with_capture_options, with_measures_option, has_globals, IsCommand};
@@ -57,7 +57,7 @@ fn check_command<'a>(alloc: Global) -> Result<Command<'a>, AllocError>
     .arg(set)
 }
 
-/// The command `play`, without what is seen of a run beside its replies.
+/// The command `play`, without its options.
 fn play_begun<'a>(alloc: Global) -> Result<Command<'a>, AllocError>
     ensures { IfOk result (IsCommand play_begun) }
 {
@@ -81,7 +81,7 @@ fn play_begun<'a>(alloc: Global) -> Result<Command<'a>, AllocError>
     .arg(script)
 }
 
-/// The options that say which turns of a run are seen, and how.
+/// Adds the options for which turns of a run are shown, and how.
 fn with_turn_options<'a>(alloc: Global, command: Command<'a>) -> Result<Command<'a>, AllocError>
     ensures { has_globals command.entry ≡ false → IfOk result (IsCommand (with_turn_options (app_of command.entry))) }
 {
@@ -111,7 +111,7 @@ fn with_turn_options<'a>(alloc: Global, command: Command<'a>) -> Result<Command<
     command.arg(echo)?.arg(trace)?.arg(chart)?.arg(turns)
 }
 
-/// The options that say what is counted and captured of a run.
+/// Adds the options for counts and captures of a run.
 fn with_count_options<'a>(alloc: Global, command: Command<'a>) -> Result<Command<'a>, AllocError>
     ensures { has_globals command.entry ≡ false → IfOk result (IsCommand (with_count_options (app_of command.entry))) }
 {
@@ -174,7 +174,7 @@ fn soak_command<'a>(alloc: Global) -> Result<Command<'a>, AllocError>
     .arg(workers)
 }
 
-/// The options that say what an end of a link does on its line.
+/// Adds the options for an end of a link on its line.
 fn with_line_options<'a>(alloc: Global, command: Command<'a>) -> Result<Command<'a>, AllocError>
     ensures { has_globals command.entry ≡ false → IfOk result (IsCommand (with_line_options (app_of command.entry))) }
 {
@@ -205,7 +205,7 @@ fn with_line_options<'a>(alloc: Global, command: Command<'a>) -> Result<Command<
     command.arg(orders)?.arg(reports)?.arg(bits)?.arg(ahead)
 }
 
-/// The options that say when cyclic retransmission is forced.
+/// Adds the options for forced cyclic retransmission.
 fn with_limit_options<'a>(alloc: Global, command: Command<'a>) -> Result<Command<'a>, AllocError>
     ensures { has_globals command.entry ≡ false → IfOk result (IsCommand (with_limit_options (app_of command.entry))) }
 {
@@ -224,7 +224,7 @@ fn with_limit_options<'a>(alloc: Global, command: Command<'a>) -> Result<Command
     command.arg(messages)?.arg(octets)
 }
 
-/// The options that say what is captured and what is traced of a line.
+/// Adds the options for a capture and a trace of a line.
 fn with_capture_options<'a>(alloc: Global, command: Command<'a>) -> Result<Command<'a>, AllocError>
     ensures { has_globals command.entry ≡ false → IfOk result (IsCommand (with_capture_options (app_of command.entry))) }
 {
@@ -248,7 +248,7 @@ fn with_capture_options<'a>(alloc: Global, command: Command<'a>) -> Result<Comma
     command.arg(capture)?.arg(trace)?.arg(every)
 }
 
-/// The option that says where measurements go.
+/// Adds the option for the file of measurements.
 fn with_measures_option<'a>(alloc: Global, command: Command<'a>) -> Result<Command<'a>, AllocError>
     ensures { has_globals command.entry ≡ false → IfOk result (IsCommand (with_measures_option (app_of command.entry))) }
 {
@@ -261,7 +261,7 @@ fn with_measures_option<'a>(alloc: Global, command: Command<'a>) -> Result<Comma
     command.arg(measures)
 }
 
-/// The command `line`, without what its end does on its line.
+/// The command `line`, without its options.
 fn line_begun<'a>(alloc: Global) -> Result<Command<'a>, AllocError>
     ensures { IfOk result (IsCommand line_begun) }
 {

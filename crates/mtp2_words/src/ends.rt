@@ -1,4 +1,4 @@
-//! What words say of one end of a link.
+//! The words that describe one end of a link.
 ghost use Rattle.std.specs.Prelude.{◌≡◌, IfSome, IsNone, option_map};
 ghost use Rattle.script_links.specs.Orders.{mode_named};
 ghost use Rattle.mtp2_words.specs.Ends.{bits_named, bits_of, ahead_named, ahead_of, limits_over, IsEndOf, IsNoEnd};
@@ -10,59 +10,59 @@ use script_links::{Mode, RoundLimits, count, mode_named};
 /// One end of a link on a line.
 #[derive(Clone, Copy, PartialEq, Eq, Debug)]
 pub struct LineEnd<'a> {
-    /// The kind of error correction.
+    /// The error correction method.
     pub mode: Mode,
-    /// How many unacknowledged messages force cyclic retransmission (N1), 1 to 127, where that is chosen.
+    /// The number of unacknowledged messages that forces cyclic retransmission (N1), 1 to 127, if chosen.
     pub messages: Option<u8>,
-    /// How many unacknowledged octets of SIO and SIF do (N2), 300 to 8,192, where that is chosen.
+    /// The number of unacknowledged octets of SIO and SIF that does (N2), 300 to 8,192, if chosen.
     pub octets: Option<u16>,
-    /// Where its orders stand; none, where nothing is said.
+    /// The path of its orders; no orders if none.
     pub orders: Option<&'a str>,
-    /// Where its reports go; standard error, where nothing is said.
+    /// The path for its reports; standard error if none.
     pub reports: Option<&'a str>,
-    /// Which bit of an octet is the first on the line.
+    /// Which bit of an octet is sent first.
     pub bits: Bits,
-    /// How many octets of 1s go out before any octet came in, 0 to 8,000.
+    /// The number of octets of 1s sent before any octet is received, 0 to 8,000.
     pub ahead: usize,
-    /// Where a capture of its line goes; none is made, where nothing is said.
+    /// The path for a capture of its line; no capture if none.
     pub capture: Option<&'a str>,
-    /// Where a trace of its processes goes; none is made, where nothing is said.
+    /// The path for a trace of its processes; no trace if none.
     pub trace: Option<&'a str>,
-    /// Whether every unit is captured, and what has no effect is traced; else repeats, and what has none, are left out.
+    /// Whether a capture has every signal unit and a trace every event; else repeats and dull events are omitted.
     pub every: bool,
-    /// Where its measurements go at the end of the run; nowhere, where nothing is said.
+    /// The path for its measurements at the end of the run; not written if none.
     pub measures: Option<&'a str>,
 }
 
-/// The words that say it.
+/// The words that describe one end of a link.
 #[derive(Clone, Copy)]
 pub struct LineWords<'a> {
     /// `basic` or `cyclic`.
     pub mode: &'a str,
-    /// Digits, of 1 to 127, for cyclic alone; what the set has, where nothing is said.
+    /// Digits, 1 to 127, only for `cyclic`; the limit of the set if none.
     pub n1: Option<&'a str>,
-    /// Digits, of 300 to 8,192, for cyclic alone; what the set has, where nothing is said.
+    /// Digits, 300 to 8,192, only for `cyclic`; the limit of the set if none.
     pub n2: Option<&'a str>,
     /// A file or a FIFO with orders.
     pub orders: Option<&'a str>,
     /// A file or a FIFO for reports.
     pub reports: Option<&'a str>,
-    /// `low` or `high`; `low`, where nothing is said.
+    /// `low` or `high`; `low` if none.
     pub bits: Option<&'a str>,
-    /// Digits, of 8,000 at most; 0, where nothing is said.
+    /// Digits, at most 8,000; 0 if none.
     pub ahead: Option<&'a str>,
     /// A file or a FIFO for a capture.
     pub capture: Option<&'a str>,
     /// A file or a FIFO for a trace.
     pub trace: Option<&'a str>,
-    /// Whether every unit is captured, and what has no effect is traced.
+    /// Whether a capture has every signal unit, and a trace every event.
     pub every: bool,
     /// A file for measurements.
     pub measures: Option<&'a str>,
 }
 
 impl LineEnd<'_> {
-    /// The limits of forced retransmission, where the usual ones are these.
+    /// Returns the limits of forced retransmission, if `usual` are the usual ones.
     pub fn limits_over(&self, usual: RoundLimits) -> RoundLimits
         ensures { result ≡ limits_over usual self.now }
     {
@@ -73,7 +73,7 @@ impl LineEnd<'_> {
     }
 }
 
-/// Which bit of an octet a word names.
+/// The bit order that a word names.
 fn bits_named(word: &str) -> Option<Bits>
     ensures { result ≡ bits_named word.now }
 {
@@ -86,7 +86,7 @@ fn bits_named(word: &str) -> Option<Bits>
     }
 }
 
-/// Which bit of an octet is the first, by the word for it.
+/// Which bit of an octet is sent first, from its word.
 pub(crate) fn bits_of(word: Option<&str>) -> Option<Bits>
     ensures { result ≡ bits_of (option_map (λ w. w.now) word.entry) }
 {
@@ -96,7 +96,7 @@ pub(crate) fn bits_of(word: Option<&str>) -> Option<Bits>
     }
 }
 
-/// How many octets go ahead, by a word.
+/// The number of octets sent ahead, from a word.
 pub(crate) fn ahead_named(word: &str) -> Option<usize>
     ensures { result ≡ ahead_named word.now }
 {
@@ -106,7 +106,7 @@ pub(crate) fn ahead_named(word: &str) -> Option<usize>
     }
 }
 
-/// How many octets go ahead, by the word for it.
+/// The number of octets sent ahead, from its optional word.
 fn ahead_of(word: Option<&str>) -> Option<usize>
     ensures { result ≡ ahead_of (option_map (λ w. w.now) word.entry) }
 {
@@ -116,7 +116,7 @@ fn ahead_of(word: Option<&str>) -> Option<usize>
     }
 }
 
-/// The end of a link that words say; none where one of them says nothing.
+/// Returns the end of a link that words describe; none if one of them is invalid.
 pub fn line_end<'a>(words: &LineWords<'a>) -> Option<LineEnd<'a>>
     ensures some { IfSome result (IsEndOf words.now) }
     ensures none { IsNone result → IsNoEnd words.now }

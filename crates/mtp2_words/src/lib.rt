@@ -1,4 +1,4 @@
-//! What the words of the program's command line ask for.
+//! The requests that the words of the program's command line make.
 #![tactic(auto)]
 
 mod arguments;

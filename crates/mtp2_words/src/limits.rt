@@ -1,4 +1,4 @@
-//! Limits of forced retransmission, by words.
+//! The limits of forced retransmission, from words.
 ghost use Rattle.std.specs.Prelude.{◌≡◌, option_map};
 ghost use Rattle.mtp2_words.specs.Limits.{usual_limits_of, messages_named, messages_of, octets_named, octets_of};
 
@@ -6,7 +6,7 @@ use crate::requests::Named;
 use script_links::{Mode, RoundLimits, USUAL_LIMITS, count};
 
 impl Named<'_> {
-    /// The limits of forced retransmission over this set, where none are chosen.
+    /// Returns the limits of forced retransmission for this set, if none are chosen.
     pub fn usual_limits(&self) -> RoundLimits
         ensures { result ≡ usual_limits_of self.now }
     {
@@ -17,7 +17,7 @@ impl Named<'_> {
     }
 }
 
-/// How many messages a word says, 1 to 127.
+/// The number of messages that a word states, 1 to 127.
 fn messages_named(word: &str) -> Option<u8>
     ensures { result ≡ messages_named word.now }
 {
@@ -27,7 +27,7 @@ fn messages_named(word: &str) -> Option<u8>
     }
 }
 
-/// How many messages are chosen, by the word for it: none or some, which basic error correction hasn't.
+/// The chosen number of messages, if there is a word; basic error correction allows none.
 pub(crate) fn messages_of(mode: Mode, word: Option<&str>) -> Option<Option<u8>>
     ensures { result ≡ messages_of mode (option_map (λ w. w.now) word.entry) }
 {
@@ -43,7 +43,7 @@ pub(crate) fn messages_of(mode: Mode, word: Option<&str>) -> Option<Option<u8>>
     }
 }
 
-/// How many octets a word says, 300 to 8,192.
+/// The number of octets that a word states, 300 to 8,192.
 fn octets_named(word: &str) -> Option<u16>
     ensures { result ≡ octets_named word.now }
 {
@@ -53,7 +53,7 @@ fn octets_named(word: &str) -> Option<u16>
     }
 }
 
-/// How many octets are chosen, by the word for it: none or some, which basic error correction hasn't.
+/// The chosen number of octets, if there is a word; basic error correction allows none.
 pub(crate) fn octets_of(mode: Mode, word: Option<&str>) -> Option<Option<u16>>
     ensures { result ≡ octets_of mode (option_map (λ w. w.now) word.entry) }
 {

@@ -1,4 +1,4 @@
-//! What the command line can ask for.
+//! The requests of the command line.
 use crate::ends::LineEnd;
 use crate::seeing::Seeing;
 use crate::set_ends::SetEnd;
@@ -7,7 +7,7 @@ use mtp2_text::OwnSet;
 /// A text or a set, as a word of the command line names it.
 #[derive(Clone, Copy, PartialEq, Eq, Debug)]
 pub enum Named<'a> {
-    /// `standard`, `q703` or `monitors`: a set of the program's own.
+    /// `standard`, `q703` or `monitors`: a built-in set.
     Own(OwnSet),
     /// `stdin`: standard input.
     Stdin,
@@ -15,7 +15,7 @@ pub enum Named<'a> {
     File(&'a str),
 }
 
-/// Where a script stands.
+/// The source of a script.
 #[derive(Clone, Copy, PartialEq, Eq, Debug)]
 pub enum Source<'a> {
     /// `stdin`: standard input.
@@ -24,14 +24,14 @@ pub enum Source<'a> {
     File(&'a str),
 }
 
-/// What the command line asks for.
+/// A request of the command line.
 #[derive(Debug, Drop)]
 pub enum Request<'a> {
-    /// `check SET ..`: sets of the program's own, files with the text of a set, or standard input, one or more.
+    /// `check SET ..`: one or more built-in sets, files with the text of a set, or standard input.
     Check {
         sets: Vec<Named<'a>>,
     },
-    /// `play SET SCRIPT`: a set as for `check`, and a file with a script, or standard input; and what of the run is seen beside its replies.
+    /// `play SET SCRIPT`: a set as for `check`; a file with a script, or standard input; and the view of the run.
     Play {
         set: Named<'a>,
         script: Source<'a>,
@@ -42,12 +42,13 @@ pub enum Request<'a> {
         script: Source<'a>,
         workers: usize,
     },
-    /// `line basic|cyclic`: one end of a link on a line, with a set as for `check`, but never standard input, which is the line.
+    /// `line basic|cyclic`: one end of a link on a line; a set as for `check`, but not standard input: that is the
+    /// line.
     Line {
         set: Named<'a>,
         end: LineEnd<'a>,
     },
-    /// `set basic|cyclic`: one end of a set of 1 to 16 links on lines, a link's code being the place of its line, with a set of processes as for `line`.
+    /// `set basic|cyclic`: an end of a set of 1 to 16 links, numbered as their lines; processes as for `line`.
     Tend {
         set: Named<'a>,
         lines: Vec<&'a str>,
@@ -68,7 +69,7 @@ pub enum Request<'a> {
     Frame {
         octets: &'a str,
     },
-    /// `text SET`: a set of the program's own.
+    /// `text SET`: a built-in set.
     Print {
         set: OwnSet,
     },

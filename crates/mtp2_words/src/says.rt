@@ -1,4 +1,4 @@
-//! What single words say.
+//! The meaning of single words.
 ghost use Rattle.std.specs.Prelude.{◌≡◌, ◌↔◌, IsTrue};
 ghost use Rattle.mtp2_words.specs.Words.{workers_of, AreStdin};
 
@@ -12,7 +12,7 @@ pub(crate) fn are_stdin(set: &str, script: &str) -> bool
     set == "stdin" && script == "stdin"
 }
 
-/// The number of workers that a word says: digits without a sign, 1 to 16.
+/// The number of workers that a word states: digits without a sign, 1 to 16.
 pub(crate) fn workers_of(word: &str) -> Option<usize>
     ensures { result ≡ workers_of word.now }
 {
@@ -22,7 +22,7 @@ pub(crate) fn workers_of(word: &str) -> Option<usize>
     }
 }
 
-/// What is said where the words of a command are there, and one of them says nothing.
+/// The complaint if the words of a command are there, but one of them is invalid.
 pub(crate) fn complaint_of(matches: &ArgMatches<'_>) -> &'static str {
     let Some(name) = matches.subcommand_name() else {
         return "no such command";

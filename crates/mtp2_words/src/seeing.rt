@@ -1,25 +1,25 @@
-//! What of a run is to be seen beside its replies.
+//! The views of a run beside its output.
 ghost use Rattle.std.specs.Prelude.{◌≡◌, IfSome, IsNone, option_map, count_by};
 ghost use Rattle.mtp2_words.specs.Seeing.{IsSight, IsLaterSight, asked_of, both_turns, behind_dot, turns_of, turns_said, IsSeenBy, IsNoSeeing};
 
 use script_links::count;
 
-/// What of a run goes to a file, and to which one.
+/// The view of a run that goes to a file, with its path.
 #[derive(Clone, Copy, PartialEq, Eq, Debug)]
 pub enum Sight<'a> {
-    /// A trace of what happens.
+    /// A trace of events.
     Trace(&'a str),
     /// A chart of the turns.
     Chart(&'a str),
-    /// What turns took of the set's text.
+    /// The coverage of the set's text by turns.
     Coverage(&'a str),
-    /// Which signals and timers were thrown away.
+    /// The signals and timers discarded.
     Thrown(&'a str),
-    /// The units that go out and come in.
+    /// The signal units sent and received.
     Capture(&'a str),
 }
 
-/// Which turns are drawn, by their numbers.
+/// The turns to draw, by their numbers.
 #[derive(Clone, Copy, PartialEq, Eq, Debug)]
 pub struct Turns {
     /// The number of the first one.
@@ -34,48 +34,48 @@ const ALL: Turns = Turns {
     last: u64::MAX,
 };
 
-/// What of a script's run is to be seen beside its replies.
+/// The views of a script's run beside its output.
 #[derive(Clone, Copy, PartialEq, Eq, Debug)]
 pub struct Seeing<'a> {
-    /// Whether each command's line of the script stands in front of what it prints.
+    /// Whether each command's line of the script is echoed before its output.
     pub echo: bool,
-    /// What goes to a file; nothing, where nothing is said.
+    /// The view that goes to a file; none if not requested.
     pub sight: Option<Sight<'a>>,
-    /// Whether what has no effect is traced too, and every unit captured.
+    /// Whether a trace has events without effect, and a capture every signal unit.
     pub every: bool,
-    /// Which turns are drawn.
+    /// The turns to draw.
     pub turns: Turns,
 }
 
-/// The words that say it.
+/// The words that request views.
 #[derive(Clone, Copy)]
 pub struct SeeingWords<'a> {
-    /// Whether the lines of commands are asked for.
+    /// Whether an echo is requested.
     pub echo: bool,
     /// A file or a FIFO for a trace.
     pub trace: Option<&'a str>,
     /// A file or a FIFO for a chart.
     pub chart: Option<&'a str>,
-    /// Two numbers with two dots between them: which turns are drawn, all where nothing is said.
+    /// Two numbers with two dots between them: the turns to draw; all if none.
     pub turns: Option<&'a str>,
-    /// A file or a FIFO for what turns took of the set's text.
+    /// A file or a FIFO for the coverage of the set's text.
     pub coverage: Option<&'a str>,
-    /// A file or a FIFO for what was thrown away.
+    /// A file or a FIFO for a report of discarded items.
     pub thrown: Option<&'a str>,
     /// A file or a FIFO for a capture.
     pub capture: Option<&'a str>,
-    /// Whether what has no effect is asked for, and every unit.
+    /// Whether every event and every signal unit is requested.
     pub every: bool,
 }
 
-/// How many of these are so.
+/// The number of flags that are true.
 fn count_so(flags: &[bool]) -> usize
     ensures { result ≡ count_by (λ b. b) flags.now }
 {
     flags.iter().filter(|flag| **flag).count()
 }
 
-/// How many things are asked for of which one is had at a time.
+/// The number of views requested; only one is allowed.
 fn asked(words: &SeeingWords<'_>) -> usize
     ensures { result ≡ asked_of words.now }
 {
@@ -89,7 +89,7 @@ fn asked(words: &SeeingWords<'_>) -> usize
     ])
 }
 
-/// What goes to a file, where at most one thing is to.
+/// The view that goes to a file, if at most one is requested.
 fn sight_of<'a>(words: &SeeingWords<'a>) -> Option<Sight<'a>>
     ensures { IsSight words.now result }
 {
@@ -102,7 +102,7 @@ fn sight_of<'a>(words: &SeeingWords<'a>) -> Option<Sight<'a>>
     }
 }
 
-/// What goes to a file of the text, of what was thrown away, and of units, where at most one thing is to.
+/// The view that goes to a file, if it is coverage, discarded items or a capture, and at most one is requested.
 fn later_sight<'a>(words: &SeeingWords<'a>) -> Option<Sight<'a>>
     ensures { IsLaterSight words.now result }
 {
@@ -118,7 +118,7 @@ fn later_sight<'a>(words: &SeeingWords<'a>) -> Option<Sight<'a>>
     }
 }
 
-/// The turns from one number to another.
+/// The turns with numbers from the first to the last.
 fn turns_between(first: Option<u32>, last: Option<u32>) -> Option<Turns>
     ensures { result ≡ both_turns first last }
 {
@@ -134,7 +134,7 @@ fn turns_between(first: Option<u32>, last: Option<u32>) -> Option<Turns>
     }
 }
 
-/// The number behind a dot.
+/// The number after a dot.
 fn number_behind_dot(word: &str) -> Option<u32>
     ensures { result ≡ behind_dot word.now }
 {
@@ -154,7 +154,7 @@ fn turns_named(word: &str) -> Option<Turns>
     }
 }
 
-/// The turns that a word names, all where there is none.
+/// The turns that a word names; all if there is none.
 fn turns_in(word: Option<&str>) -> Option<Turns>
     ensures { result ≡ turns_said (option_map (λ w. w.now) word.entry) }
 {
@@ -164,7 +164,7 @@ fn turns_in(word: Option<&str>) -> Option<Turns>
     }
 }
 
-/// What of a run is to be seen, by words; none where more is asked for than is had at a time, where turns are named without a chart, or a word names none.
+/// Returns the requested views; none if they exclude each other, turns lack a chart, or a word is invalid.
 pub fn seen_by<'a>(words: &SeeingWords<'a>) -> Option<Seeing<'a>>
     ensures some { IfSome result (IsSeenBy words.now) }
     ensures none { IsNone result → IsNoSeeing words.now }

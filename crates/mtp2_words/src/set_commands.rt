@@ -1,4 +1,4 @@
-//! The command `set`, and the words that it takes.
+//! The command `set`, and its words.
 ghost use Rattle.std.specs.Prelude.{◌≡◌, IfOk, false};
 ghost use Rattle.clap.specs.Words.{rule_of, app_of};
 ghost use Rattle.mtp2_words.specs.Commands.{needed_word, needed_words, set_begun, with_links, with_streams, set_command, has_globals, IsCommand};
@@ -7,7 +7,7 @@ use crate::arguments::{bare_command, flag_word, option_word, plain_word};
 use clap::{Arg, ArgAction, Command};
 use std::alloc::{AllocError, Global};
 
-/// An option that has to be there, with a word behind it.
+/// A required option with a word after it.
 fn needed_word<'a>(alloc: Global, name: &'a str, value: &'a str, help: &'a str) -> Arg<'a>
     ensures rule { rule_of result ≡ needed_word name.entry.now }
     ensures local { result.global ≡ false }
@@ -15,7 +15,7 @@ fn needed_word<'a>(alloc: Global, name: &'a str, value: &'a str, help: &'a str) 
     option_word(alloc, name, value, help).required(true)
 }
 
-/// The same, which may be there more than once.
+/// A required option with a word after it, which may be repeated.
 fn needed_words<'a>(alloc: Global, name: &'a str, value: &'a str, help: &'a str) -> Arg<'a>
     ensures rule { rule_of result ≡ needed_words name.entry.now }
     ensures local { result.global ≡ false }
@@ -23,7 +23,7 @@ fn needed_words<'a>(alloc: Global, name: &'a str, value: &'a str, help: &'a str)
     needed_word(alloc, name, value, help).action(ArgAction::Append)
 }
 
-/// The command without what its end does on its lines.
+/// The command without its options.
 fn set_begun<'a>(alloc: Global) -> Result<Command<'a>, AllocError>
     ensures { IfOk result (IsCommand set_begun) }
 {
@@ -37,7 +37,7 @@ fn set_begun<'a>(alloc: Global) -> Result<Command<'a>, AllocError>
     .arg(mode)
 }
 
-/// The options that say which links there are.
+/// Adds the options for the links of a set.
 fn with_links<'a>(alloc: Global, command: Command<'a>) -> Result<Command<'a>, AllocError>
     ensures { has_globals command.entry ≡ false → IfOk result (IsCommand (with_links (app_of command.entry))) }
 {
@@ -81,7 +81,7 @@ fn with_links<'a>(alloc: Global, command: Command<'a>) -> Result<Command<'a>, Al
         .arg(text)
 }
 
-/// The options that say what an end does on its lines.
+/// Adds the options for an end on its lines.
 fn with_streams<'a>(alloc: Global, command: Command<'a>) -> Result<Command<'a>, AllocError>
     ensures { has_globals command.entry ≡ false → IfOk result (IsCommand (with_streams (app_of command.entry))) }
 {

@@ -1,4 +1,4 @@
-//! What words say of one end of a set of links.
+//! The words that describe one end of a link set.
 ghost use Rattle.std.specs.Prelude.{◌≡◌, IfSome, IsNone, option_map, length};
 ghost use Rattle.mtp2_words.specs.SetEnds.{point_named, network_of, set_ahead_of, are_few, IsSetEndOf, IsNoSetEnd};
 
@@ -6,41 +6,41 @@ use crate::ends::{ahead_named, bits_of};
 use line_filter::Bits;
 use script_links::{Mode, count, mode_named};
 
-/// How many octets of 1s go ahead on each line where nothing is said.
+/// The number of octets of 1s sent ahead on each line, if not stated.
 const AHEAD: usize = 64;
 
-/// The network indicator where nothing is said: a national network.
+/// The network indicator if not stated: national network.
 const NETWORK: u8 = 2;
 
-/// How many links a set has at most.
+/// The largest number of links of a set.
 const MOST_LINKS: usize = 16;
 
-/// One end of a set of links on lines.
+/// One end of a link set on lines.
 #[derive(Clone, Copy, Debug, PartialEq, Eq)]
 pub struct SetEnd<'a> {
-    /// The kind of error correction.
+    /// The error correction method.
     pub mode: Mode,
-    /// The code of this point, below 16,384.
+    /// The code of this point, 0 to 16,383.
     pub own: u16,
-    /// That of the other, which isn't the same.
+    /// The code of the other point, which differs.
     pub peer: u16,
     /// The network indicator, 0 to 3.
     pub network: u8,
-    /// Where its orders stand; none, where nothing is said.
+    /// The path of its orders; no orders if none.
     pub orders: Option<&'a str>,
-    /// Where its reports go; standard error, where nothing is said.
+    /// The path for its reports; standard error if none.
     pub reports: Option<&'a str>,
-    /// Where what is captured of its lines goes; nowhere, where nothing is said.
+    /// The path for captures of its lines; no captures if none.
     pub capture: Option<&'a str>,
-    /// Which bit of an octet is the first on the lines.
+    /// Which bit of an octet is sent first.
     pub bits: Bits,
-    /// How many octets of 1s go out on each line before any octet came in, and behind each second of silence.
+    /// The number of octets of 1s sent on each line before any octet is received, and after each second of silence.
     pub ahead: usize,
     /// Whether links are tested before they carry messages.
     pub tests: bool,
 }
 
-/// The words that say it.
+/// The words that describe one end of a link set.
 #[derive(Clone, Copy)]
 pub struct SetWords<'a> {
     /// `basic` or `cyclic`.
@@ -49,23 +49,23 @@ pub struct SetWords<'a> {
     pub own: &'a str,
     /// Digits, below 16,384.
     pub peer: &'a str,
-    /// Digits, of 3 at most; 2, where nothing is said.
+    /// Digits, at most 3; 2 if none.
     pub network: Option<&'a str>,
     /// A file or a FIFO with orders.
     pub orders: Option<&'a str>,
     /// A file or a FIFO for reports.
     pub reports: Option<&'a str>,
-    /// A file or a FIFO for what is captured.
+    /// A file or a FIFO for captures.
     pub capture: Option<&'a str>,
-    /// `low` or `high`; `low`, where nothing is said.
+    /// `low` or `high`; `low` if none.
     pub bits: Option<&'a str>,
-    /// Digits, of 8,000 at most; 64, where nothing is said.
+    /// Digits, at most 8,000; 64 if none.
     pub ahead: Option<&'a str>,
     /// Whether links aren't tested.
     pub no_test: bool,
 }
 
-/// The code of a point, by a word.
+/// A point code, from a word.
 fn point_named(word: &str) -> Option<u16>
     ensures { result ≡ point_named word.now }
 {
@@ -75,7 +75,7 @@ fn point_named(word: &str) -> Option<u16>
     }
 }
 
-/// The network indicator, by the word for it.
+/// The network indicator, from its optional word.
 fn network_of(word: Option<&str>) -> Option<u8>
     ensures { result ≡ network_of (option_map (λ w. w.now) word.entry) }
 {
@@ -88,7 +88,7 @@ fn network_of(word: Option<&str>) -> Option<u8>
     }
 }
 
-/// How many octets go ahead, by the word for it.
+/// The number of octets sent ahead, from its optional word.
 fn set_ahead_of(word: Option<&str>) -> Option<usize>
     ensures { result ≡ set_ahead_of (option_map (λ w. w.now) word.entry) }
 {
@@ -98,14 +98,14 @@ fn set_ahead_of(word: Option<&str>) -> Option<usize>
     }
 }
 
-/// Whether there are as many lines as a set may have links.
+/// Whether there are 1 to 16 lines.
 pub(crate) fn are_few(lines: &[&str]) -> bool
     ensures { result ≡ are_few (length lines.now) }
 {
     1 <= lines.len() && lines.len() <= MOST_LINKS
 }
 
-/// The end of a set of links that words say; none where one of them says nothing, or both points are one.
+/// Returns the end of a link set that words describe; none if one of them is invalid, or if both points are the same.
 pub fn set_end<'a>(words: &SetWords<'a>) -> Option<SetEnd<'a>>
     ensures some { IfSome result (IsSetEndOf words.now) }
     ensures none { IsNone result → IsNoSetEnd words.now }

@@ -13,7 +13,7 @@ use clap::ArgMatches;
 use mtp2_text::OwnSet;
 use std::alloc::{AllocError, Global};
 
-/// The end of a set of links that the matches of `set` stand for, without its lines.
+/// The end of a link set that the matches of `set` describe, without its lines.
 fn end_of<'a>(given: &ArgMatches<'a>) -> Option<SetEnd<'a>>
     ensures some { IfSome result (AsksSetEnd (given_by given.now)) }
     ensures none { IsNone result → IsNoSetEndBy (given_by given.now) }
@@ -35,7 +35,7 @@ fn end_of<'a>(given: &ArgMatches<'a>) -> Option<SetEnd<'a>>
     })
 }
 
-/// The lines that the matches of `set` name.
+/// The lines that the matches of `set` name; none if there are too few or too many.
 fn lines_of<'a>(alloc: Global, given: &ArgMatches<'a>) -> Result<Option<Vec<&'a str>>, AllocError>
     ensures some { IfOk result (λ o. IfSome o (λ v. IsSomeAnd (all_of (codes "link") (rows_of (found_of given.now))) (AreLinesOf v.items))) }
     ensures none { IfOk result (λ o. IsNone o → AreNoLines (all_of (codes "link") (rows_of (found_of given.now)))) }
@@ -52,7 +52,7 @@ fn lines_of<'a>(alloc: Global, given: &ArgMatches<'a>) -> Result<Option<Vec<&'a 
     }
 }
 
-/// The set of the program's own that a word names; none where it names none.
+/// The built-in set that a word names; none if it names none.
 fn own_named<'a>(word: &str) -> Option<Named<'a>>
     ensures some { IfSome result (λ set. IsOwnNamed set word.now) }
     ensures none { IsNone result → NamesNone word.now }
@@ -63,7 +63,7 @@ fn own_named<'a>(word: &str) -> Option<Named<'a>>
     }
 }
 
-/// The processes of the links, by the word for a set of the program's own or the one for a text: `q703` where there is neither, none where there are both.
+/// The processes of the links, from a word for a built-in set or one for a text: `q703` without any, none with both.
 fn text_of<'a>(own: Option<&'a str>, text: Option<&'a str>) -> Option<Named<'a>>
     ensures some { IfSome result (IsSetText (option_map (λ w. w.now) own.entry) (option_map (λ w. w.now) text.entry)) }
     ensures none { IsNone result → IsNoSetText (option_map (λ w. w.now) own.entry) (option_map (λ w. w.now) text.entry) }
@@ -80,7 +80,7 @@ fn text_of<'a>(own: Option<&'a str>, text: Option<&'a str>) -> Option<Named<'a>>
     }
 }
 
-/// What the matches of `set` ask for.
+/// The request of the matches of `set`.
 pub(crate) fn tended<'a>(
     alloc: Global,
     given: &ArgMatches<'a>,

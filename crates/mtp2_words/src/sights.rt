@@ -1,4 +1,4 @@
-//! What of a run is to be seen, by what the command line says.
+//! The views of a run, from the command line.
 ghost use Rattle.std.specs.Prelude.{IfSome, IsNone};
 ghost use Rattle.mtp2_words.specs.Asked.{given_by, AsksSeen, SaysNoSeeing};
 
@@ -6,7 +6,7 @@ use crate::flags::is_given;
 use crate::seeing::{Seeing, SeeingWords, seen_by};
 use clap::ArgMatches;
 
-/// What of a run is to be seen, by the matches of `play`.
+/// The views of a run, from the matches of `play`.
 pub(crate) fn seen_of<'a>(given: &ArgMatches<'a>) -> Option<Seeing<'a>>
     ensures some { IfSome result (AsksSeen (given_by given.now)) }
     ensures none { IsNone result → SaysNoSeeing (given_by given.now) }

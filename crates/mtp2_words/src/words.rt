@@ -33,7 +33,7 @@ fn set_named(word: &str) -> Named<'_>
     }
 }
 
-/// Where the script stands that a word names.
+/// The source of the script that a word names.
 fn script_named(word: &str) -> Source<'_>
     ensures { IsSource result word.now }
 {
@@ -43,7 +43,7 @@ fn script_named(word: &str) -> Source<'_>
     }
 }
 
-/// The set and the script that two words name, with what is seen of the run; none where standard input is to be both.
+/// The set and the script that two words name, with the views of the run; none if both are standard input.
 fn played<'a>(set: &'a str, script: &'a str, seen: Seeing<'a>) -> Option<Request<'a>>
     ensures play { IfSome result (IsPlay set.now script.now seen.entry) }
     ensures none { IsNone result → AreStdin set.now script.now }
@@ -58,7 +58,7 @@ fn played<'a>(set: &'a str, script: &'a str, seen: Seeing<'a>) -> Option<Request
     })
 }
 
-/// The script and the number of workers that two words name; none where the second says no such number.
+/// The script and the number of workers that two words name; none if the second is no valid number.
 fn soaked<'a>(script: &'a str, workers: &str) -> Option<Request<'a>>
     ensures soak { IfSome result (IsSoak script.now workers.now) }
     ensures none { IsNone result → workers_of workers.now ≡ None }
@@ -72,7 +72,7 @@ fn soaked<'a>(script: &'a str, workers: &str) -> Option<Request<'a>>
     }
 }
 
-/// The set of a terminal on a line that a word names. Standard input is the line, and no text.
+/// The set that a word names for a terminal on a line. Standard input isn't allowed: it is the line.
 pub(crate) fn text_named(word: &str) -> Option<Named<'_>>
     ensures some { IfSome result (λ set. IsTextNamed set word.now) }
     ensures none { IsNone result → word.now ≡ codes "stdin" }
@@ -84,7 +84,7 @@ pub(crate) fn text_named(word: &str) -> Option<Named<'_>>
     }
 }
 
-/// The set of a terminal on a line, by the word for it: `standard` where there is none.
+/// The set of a terminal on a line, from its optional word; `standard` if there is none.
 fn text_of<'a>(word: Option<&'a str>) -> Option<Named<'a>>
     ensures some { IfSome result (IsText (option_map (λ w. w.now) word.entry)) }
     ensures none { IsNone result → option_map (λ w. w.now) word.entry ≡ Some (codes "stdin") }
@@ -95,7 +95,7 @@ fn text_of<'a>(word: Option<&'a str>) -> Option<Named<'a>>
     }
 }
 
-/// The end of a link that the matches of `line` stand for.
+/// The end of a link that the matches of `line` describe.
 fn line_of<'a>(given: &ArgMatches<'a>) -> Option<LineEnd<'a>>
     ensures some { IfSome result (AsksEnd (given_by given.now)) }
     ensures none { IsNone result → (given_by given.now (codes "MODE") ≡ None) ⊎ SaysNoEnd (given_by given.now) }
@@ -116,7 +116,7 @@ fn line_of<'a>(given: &ArgMatches<'a>) -> Option<LineEnd<'a>>
     })
 }
 
-/// What the matches of `line` ask for.
+/// The request of the matches of `line`.
 fn lined<'a>(given: &ArgMatches<'a>) -> Option<Request<'a>>
     ensures named { IfSome result (λ r. command_of r ≡ codes "line") }
     ensures asked { IfSome result (IsAsked (given_by given.now)) }
@@ -139,7 +139,7 @@ fn sets_named<'a>(alloc: Global, words: &[&'a str]) -> Result<Vec<Named<'a>>, Al
     Ok(sets)
 }
 
-/// What the matches of `check` ask for.
+/// The request of the matches of `check`.
 fn checked<'a>(alloc: Global, given: &ArgMatches<'a>) -> Result<Option<Request<'a>>, AllocError>
     ensures named { IfOk result (λ o. IfSome o (λ r. command_of r ≡ codes "check")) }
     ensures asked { IfOk result (λ o. IfSome o (IsAsked (given_by given.now))) }
@@ -155,7 +155,7 @@ fn checked<'a>(alloc: Global, given: &ArgMatches<'a>) -> Result<Option<Request<'
     }
 }
 
-/// What the matches of `play` ask for.
+/// The request of the matches of `play`.
 fn asked_play<'a>(given: &ArgMatches<'a>) -> Option<Request<'a>>
     ensures named { IfSome result (λ r. command_of r ≡ codes "play") }
     ensures asked { IfSome result (IsAsked (given_by given.now)) }
@@ -168,7 +168,7 @@ fn asked_play<'a>(given: &ArgMatches<'a>) -> Option<Request<'a>>
     played(set, script, seen)
 }
 
-/// What the matches of `soak` ask for.
+/// The request of the matches of `soak`.
 fn asked_soak<'a>(given: &ArgMatches<'a>) -> Option<Request<'a>>
     ensures named { IfSome result (λ r. command_of r ≡ codes "soak") }
     ensures asked { IfSome result (IsAsked (given_by given.now)) }
@@ -180,7 +180,7 @@ fn asked_soak<'a>(given: &ArgMatches<'a>) -> Option<Request<'a>>
     soaked(script, workers)
 }
 
-/// What the matches of `frame` ask for.
+/// The request of the matches of `frame`.
 fn framed<'a>(given: &ArgMatches<'a>) -> Option<Request<'a>>
     ensures named { IfSome result (λ r. command_of r ≡ codes "frame") }
     ensures asked { IfSome result (IsAsked (given_by given.now)) }
@@ -191,7 +191,7 @@ fn framed<'a>(given: &ArgMatches<'a>) -> Option<Request<'a>>
     Some(Request::Frame { octets })
 }
 
-/// What the matches of `draw` ask for.
+/// The request of the matches of `draw`.
 fn drawn<'a>(given: &ArgMatches<'a>) -> Option<Request<'a>>
     ensures named { IfSome result (λ r. command_of r ≡ codes "draw") }
     ensures asked { IfSome result (IsAsked (given_by given.now)) }
@@ -221,7 +221,7 @@ fn drawn<'a>(given: &ArgMatches<'a>) -> Option<Request<'a>>
     }
 }
 
-/// The set of the program's own that a word names, to be printed; none where it names none.
+/// The request to print the built-in set that a word names; none if it names none.
 fn printed<'a>(word: &'a str) -> Option<Request<'a>>
     ensures print { IfSome result (IsPrint word.now) }
     ensures none { IsNone result → NamesNone word.now }
@@ -232,7 +232,7 @@ fn printed<'a>(word: &'a str) -> Option<Request<'a>>
     }
 }
 
-/// What the matches of `text` ask for.
+/// The request of the matches of `text`.
 fn asked_print<'a>(given: &ArgMatches<'a>) -> Option<Request<'a>>
     ensures named { IfSome result (λ r. command_of r ≡ codes "text") }
     ensures asked { IfSome result (IsAsked (given_by given.now)) }
@@ -243,7 +243,7 @@ fn asked_print<'a>(given: &ArgMatches<'a>) -> Option<Request<'a>>
     printed(word)
 }
 
-/// The two sets that two words name; none where standard input is to be both.
+/// The two sets that two words name; none if both are standard input.
 fn sides<'a>(old: &'a str, new: &'a str) -> Option<(Named<'a>, Named<'a>)>
     ensures some { IfSome result (λ p. IsDiff old.now new.now p.0 p.1) }
     ensures none { IsNone result → AreStdin old.now new.now }
@@ -254,7 +254,7 @@ fn sides<'a>(old: &'a str, new: &'a str) -> Option<(Named<'a>, Named<'a>)>
     Some((set_named(old), set_named(new)))
 }
 
-/// What the matches of `diff` ask for.
+/// The request of the matches of `diff`.
 fn compared<'a>(given: &ArgMatches<'a>) -> Option<Request<'a>>
     ensures named { IfSome result (λ r. command_of r ≡ codes "diff") }
     ensures asked { IfSome result (IsAsked (given_by given.now)) }
@@ -269,7 +269,7 @@ fn compared<'a>(given: &ArgMatches<'a>) -> Option<Request<'a>>
     }
 }
 
-/// What the matches of the command of this name ask for.
+/// The request of the matches of the command with this name.
 fn asked<'a>(
     alloc: Global,
     name: &str,
@@ -294,12 +294,12 @@ fn asked<'a>(
     }
 }
 
-/// Reads the words of the command line, the program's own name first.
+/// Reads the words of the command line; the first one is the program's name.
 ///
 /// # Errors
 ///
-/// What clap says of words that are none of a command, or ask for help, and `InvalidSubcommand` where one of a command's words says nothing:
-/// standard input for two things, a number out of range, no such mode or bits. Or want of memory.
+/// Clap's error for words that form no command or request help; `InvalidSubcommand` if a word of a command is invalid
+/// (standard input twice, a number out of range, an unknown mode or bit order); or out of memory.
 pub fn read<'a>(alloc: Global, given: &'a [String]) -> Result<Request<'a>, Error>
     ensures taken { IfOk result (λ _. fault_of all_commands (map string_bytes given.now) ≡ []) }
     ensures asked { IfOk result (IsAskedBy (subcommand_of all_commands (map string_bytes given.now))) }
@@ -316,7 +316,7 @@ pub fn read<'a>(alloc: Global, given: &'a [String]) -> Result<Request<'a>, Error
     }
 }
 
-/// The request that the matches stand for.
+/// The request of the matches.
 fn request_of<'a>(
     alloc: Global,
     matches: &ArgMatches<'a>,
