@@ -1,4 +1,4 @@
--- What `diff` says of two sets.
+-- The output of `diff` for two sets.
 use Rattle.std.proofs.Common.{◌≡◌, ◌∙◌, ◌⊎◌, inl, inr, ℕ, ◌+◌, ◌-◌, min, true, List, [], ◌++◌, Option, None, Some, ap, subst, sym, codes, decimal, append_assoc, Bool, false, rules, arith}
 use Rattle.std.specs.Prelude.{All, bytes_eq, if◌then◌else◌}
 use Rattle.std.specs.Io.KnownBytes.{Appends}
@@ -16,15 +16,15 @@ use Rattle.script_check.specs.declared.sets.Refusal.{Refusal}
 use Rattle.script_check.specs.turn_code_types.draft.Draft.{Draft}
 use Rattle.mtp2_play.specs.Compared.{same_text, terminal_text, way_lines, AreAlike, AreFound, IsCompared, IsSummary, PrintsDifference, PrintsSide, SaysTerminal}
 
--- ---- whose sets these are
+-- ---- the bytes of these sets
 
--- what holds of bytes of which something may be known holds of some bytes
+-- a property of bytes that may be known holds of some bytes
 pub of_some : (known : Option (List ℕ)) (P : List ℕ → Type 0) → IsGiven known P → IsGiven None P
 of_some known P g = record { bytes = g.bytes; are_known = tt; holds = g.holds }
 
--- ---- where one of them is refused
+-- ---- a set that is refused
 
--- the line of a refusal, in front of which stands the side
+-- the line of a refusal, with the side before it
 pub side_line : (old new : Option (List ℕ)) (side begun lines shown line : List ℕ) → begun ≡ [] → Appends (Some begun) (Some lines) line → shown ≡ lines
     → Appends old new (in_front side true shown) → Appends old new (in_front side true line)
 side_line old new side begun lines shown line none grown same h =
@@ -43,7 +43,7 @@ side_refused known r side old new judged written found =
       holds = record { fault = r.fault; judged = judged; is_so = g.holds.refused; written = written };
     }
 
--- ---- what was found of them
+-- ---- the differences found
 
 pub found_as : (d e a b : Draft) (found : Difference) → a ≡ d → b ≡ e → found.items.items ≡ item_lines (items_of a) (items_of b) → found.olds.items ≡ old_way_lines a b
     → found.news.items ≡ new_way_lines a b → AreFound d e found
@@ -52,7 +52,7 @@ found_as d e a b found one other items olds news =
     let Q : Draft → Type 0 = λ y. AreFound a y found in
     subst P one (subst Q other (record { items = items; olds = olds; news = news }))
 
--- nothing was found of two sets that are alike, and of them alone
+-- no differences were found exactly if the two sets are alike
 
 pub alike_of : (d e : Draft) (found : Difference) → AreFound d e found → (found.items.items ≡ []) × (found.olds.items ≡ []) × (found.news.items ≡ []) → AreAlike d e
 alike_of d e found h none = record {
@@ -64,20 +64,20 @@ alike_of d e found h none = record {
 pub differ_of : (d e : Draft) (found : Difference) → AreFound d e found → ((found.items.items ≡ []) × (found.olds.items ≡ []) × (found.news.items ≡ []) → ⊥) → AreAlike d e → ⊥
 differ_of d e found h some alike = some (h.items ∙ alike.items, h.olds ∙ alike.olds, h.news ∙ alike.news)
 
--- ---- what is written of them
+-- ---- the text written
 
--- the lines of transitions, of OLD and then of NEW
+-- the lines of transitions, first those of OLD, then those of NEW
 pub lines_of : (d e : Draft) (found : Difference) (none olds one news two : List ℕ) → AreFound d e found → none ≡ [] → olds ≡ found.olds.items → one ≡ none ++ olds
     → news ≡ found.news.items → two ≡ one ++ news → two ≡ way_lines d e
 lines_of d e found none olds one news two h empty before first after second =
     let begun : one ≡ old_way_lines d e = first ∙ (ap (λ x. x ++ olds) empty ∙ (before ∙ h.olds)) in
     second ∙ (ap (λ x. x ++ news) begun ∙ ap (λ x. old_way_lines d e ++ x) (after ∙ h.news))
 
--- what is written piece by piece, from its end or from its beginning
+-- a text written piece by piece, from its end or from its beginning
 in_order : (a b c d e : List ℕ) → a ++ (b ++ (c ++ (d ++ e))) ≡ a ++ b ++ c ++ d ++ e
 in_order a b c d e = sym (append_assoc (a ++ b ++ c) d e ∙ (append_assoc (a ++ b) c (d ++ e) ∙ append_assoc a b (c ++ (d ++ e))))
 
--- how many of them mean the same
+-- the number of transitions that mean the same
 pub same_of : (d e : Draft) (found : Difference) (known same all : ℕ) (olds news text : List ℕ) → AreFound d e found → known ≡ ways_in d → olds ≡ found.olds.items
     → news ≡ found.news.items → same ≡ known - lines_in olds → all ≡ min (known + lines_in news) 18446744073709551615
     → text ≡ codes "same " ++ (decimal same ++ (codes " of " ++ (decimal all ++ codes "\n"))) → text ≡ same_text d e
@@ -92,7 +92,7 @@ same_of d e found known same all olds news text h ways before after less more is
     ∙ (ap (λ n. codes "same " ++ decimal n ++ codes " of " ++ decimal all ++ codes "\n") same_is
     ∙ ap (λ n. codes "same " ++ decimal (ways_in d - lines_in (old_way_lines d e)) ++ codes " of " ++ decimal n ++ codes "\n") all_is))
 
--- whether terminals find their names in both, where this isn't said alike
+-- whether terminals find their names in both sets, if the two answers differ
 
 pub pushed_of : (before after one two three four five : List ℕ) → one ≡ codes "terminal " → two ≡ one ++ before → three ≡ two ++ codes " -> " → four ≡ three ++ after
     → five ≡ four ++ codes "\n" → five ≡ codes "terminal " ++ before ++ codes " -> " ++ after ++ codes "\n"
@@ -116,7 +116,7 @@ says_yes d said is has = inl (is, has)
 pub says_no : (d : Draft) (name : Wanted) (said : List ℕ) → said ≡ codes "no " ++ wanted_text name → IsFirstLacking d name wanted → SaysTerminal d said
 says_no d name said is first = inr (name, first, is)
 
--- the last two lines, the second behind the first
+-- the last two lines, one after the other
 pub summed : (d e : Draft) (before after old new one line shown whole : List ℕ) → SaysTerminal d before → SaysTerminal e after → one ≡ same_text d e → old ≡ before
     → new ≡ after → line ≡ terminal_text old new → shown ≡ line → whole ≡ one ++ shown → IsSummary d e whole
 summed d e before after old new one line shown whole of_old of_new first was is told same grown = record {
@@ -129,7 +129,7 @@ summed d e before after old new one line shown whole of_old of_new first was is 
       ∙ ap (λ x. same_text d e ++ x) (same ∙ (told ∙ (ap (λ x. terminal_text x new) was ∙ ap (λ x. terminal_text before x) is))));
 }
 
--- all of it, one piece behind another
+-- the whole text, one piece after another
 pub written_of : (d e : Draft) (found : Difference) (old new : Option (List ℕ)) (none items one ways told two end said three all : List ℕ) → AreFound d e found → none ≡ []
     → items ≡ found.items.items → one ≡ none ++ items → told ≡ ways → two ≡ one ++ told → said ≡ end → three ≡ two ++ said → all ≡ three
     → AreNoted (way_lines d e) ways → IsSummary d e end → Appends old new all → PrintsDifference old new d e
@@ -140,7 +140,7 @@ written_of d e found old new none items one ways told two end said three all h e
     let three_is : three ≡ lines ++ ways ++ end = third ∙ (ap (λ x. x ++ said) two_is ∙ ap (λ x. lines ++ ways ++ x) of_end) in
     record { ways = ways; end = end; noted = noted; summary = summary; written = subst (Appends old new) (same ∙ three_is) printed }
 
--- ---- with which exit status
+-- ---- the exit status
 
 ends_of : (status : ℕ) → (status ≡ 0) ⊎ (status ≡ 1) ⊎ (status ≡ 4) → (status ≡ 0) ⊎ (status ≡ 1) ⊎ (status ≡ 2) ⊎ (status ≡ 4)
 ends_of status (inl alike) = inl alike

@@ -1,4 +1,4 @@
--- What is said of a command that failed, however far it came.
+-- The contract for a command that failed, at whatever point.
 use Rattle.std.proofs.Common.{◌≡◌, ◌⊎◌, ℕ, List, [], ◌∷◌, Option, None, inl, inr, refl, sym, subst, arith}
 use Rattle.line_filter.specs.Filters.{Line as Octets}
 use Rattle.mtp2_words.specs.declared.requests.Named.{Named}
@@ -33,7 +33,7 @@ diff_failed one other old new = record {
   ends = inr (inr (inr refl));
 }
 
--- it failed, so no more is said of it than that what it wrote on a line is a beginning
+-- the command failed, so only this is known: its output on a line is a beginning of a run's
 pub failed : (request : Request) (status : ℕ) (old new : Octets) → IsAnswered request status old new → IsAnswered request 4 old new
 failed (Check sets) status old new are = sets_failed sets.items old.written new.written
 failed (Play set script seen) status old new are = record { held = not_done; missed = not_missed; refused = not_refused }
@@ -56,7 +56,7 @@ failed (Draw set process states) status old new are = inr (inr refl)
 failed (Print set) status old new are = record { held = not_done; ends = inr refl }
 failed (Diff one other) status old new are = diff_failed (own_text_of one) (own_text_of other) old.written new.written
 
--- it failed before anything was read or written
+-- the command failed before anything was read or written
 pub not_begun : (request : Request) (there : Octets) → IsAnswered request 4 there there
 not_begun (Check sets) there = sets_failed sets.items there.written there.written
 not_begun (Play set script seen) there = record { held = not_done; missed = not_missed; refused = not_refused }
@@ -82,7 +82,7 @@ not_begun (Diff one other) there = diff_failed (own_text_of one) (own_text_of ot
 pub was_run : (request : Request) (status : ℕ) (old new : Octets) → IsAnswered request status old new → WasAnswered request status
 was_run request status old new are = record { old = old; new = new; answered = are }
 
--- it is over, or something failed behind it
+-- the command is over, or something failed after it
 pub over_or_failed : (request : Request) (status result : ℕ) (old new : Octets) → IsAnswered request status old new → (result ≡ status) ⊎ (result ≡ 4)
     → WasAnswered request result
 over_or_failed request status result old new are ends = elim ends [
@@ -90,7 +90,7 @@ over_or_failed request status result old new are ends = elim ends [
   | inr four ↦ (let P : ℕ → Type 0 = λ n. IsAnswered request n old new in was_run request result old new (subst P (sym four) (failed request status old new are)))
 ]
 
--- it failed before anything was read or written
+-- the command failed before anything was read or written
 pub failed_before : (request : Request) (result : ℕ) → result ≡ 4 → WasAnswered request result
 failed_before request result four =
     let there : Octets = record { read = None; written = None } in

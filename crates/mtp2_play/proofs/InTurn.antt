@@ -1,4 +1,4 @@
--- Sets that are checked, one alone or several in turn.
+-- Sets that are checked, a single one or several in turn.
 use Rattle.std.proofs.Common.{◌≡◌, ℕ, List, [], ◌∷◌, Option, ap, subst, length, get_or}
 use Rattle.mtp2_words.specs.declared.requests.Named.{Named}
 use Rattle.mtp2_play.specs.Printed.{AreCheckedAll, IsChecked, IsDone}

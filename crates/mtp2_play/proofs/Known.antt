@@ -1,4 +1,4 @@
--- What holds of bytes of which something may be known holds of some bytes.
+-- A property of bytes that may be known holds of some bytes.
 use Rattle.std.proofs.Common.{subst, sym, ◌≡◌, ◌⊎◌, ℕ, Bool, false, inl, inr, List, Option, None, Some, rules, arith}
 use Rattle.script_check.specs.Checked.{IsGiven, PrintsCosts, PrintsRefusal}
 use Rattle.script_play.specs.Played.{IsOnSet, IsPlayed, IsPlayedInPart, IsNotRun, IsRefused, set_refused, script_refused}
@@ -68,7 +68,7 @@ over_or_failed : (status : ℕ) → (status ≡ 0) ⊎ (status ≡ 4) → IsDone
 over_or_failed status (inl done) = inl done
 over_or_failed status (inr four) = inr (inr four)
 
--- it ran, or couldn't begin to
+-- the run ended, or couldn't begin
 pub set_over : (known : Option (List ℕ)) (plan : SetPlan) (ahead status : ℕ) (tender : Tended) → IsGiven known (IsNewTenderOver plan tender)
     → (status ≡ 0 → RanFrom ahead tender) → (status ≡ 0) ⊎ (status ≡ 4) → IsSetRun known plan ahead status
 set_over known plan ahead status tender new ran ends = record {
@@ -81,7 +81,7 @@ pub set_turned_down : (known : Option (List ℕ)) (plan : SetPlan) (ahead status
     → IsSetRun known plan ahead status
 set_turned_down known plan ahead status why ends = record { ran = λ done. absurd (not_zero status ends done); refused = why; ends = inr ends }
 
--- by the limits of the set that is named
+-- with the limits of the named set
 pub planned : (known : Option (List ℕ)) (set : Named) (links : ℕ) (end : SetEnd) (limits : RoundLimits) (status : ℕ) → limits ≡ usual_limits_of set
     → IsSetRun known (record { mode = end.mode; limits = limits; ends = record { own = end.own; peer = end.peer; network = end.network }; links = links; tests = end.tests }) end.ahead status
     → IsSetRun known (plan_of set links end) end.ahead status
@@ -89,7 +89,7 @@ planned known set links end limits status same s =
     let Q : RoundLimits → Type 0 = λ l. IsSetRun known (record { mode = end.mode; limits = l; ends = record { own = end.own; peer = end.peer; network = end.network }; links = links; tests = end.tests }) end.ahead status in
     subst Q same s
 
--- the status of a run, behind which a capture was ended
+-- the status of a run after which a capture was ended
 pub ran_as : (status result : ℕ) (P : Type 0) → (status ≡ 0 → P) → (result ≡ status) ⊎ (result ≡ 4) → result ≡ 0 → P
 ran_as status result P ran (inl same) done = ran (omega (arith, same, done))
 ran_as status result P ran (inr four) done = absurd (omega (arith, four, done))
@@ -124,7 +124,7 @@ in_part usual wanted echo set script old new same s =
     let Q : RoundLimits → Type 0 = λ l. IsOnSet set None (IsPlayedInPart l echo old new) in
     subst Q same (record { draft = s.draft; is_set = s.is_set; of_script = some_bytes script (IsPlayedInPart usual echo old new s.draft) s.of_script })
 
--- with what is wanted of it in a file
+-- with the requested view in a file
 pub seen : (usual wanted : RoundLimits) (sight : Wanted) (set script old new begun now : Option (List ℕ)) → usual ≡ wanted
     → IsOnSet set script (IsPlaySeen usual sight old new begun now) → IsOnSet set None (IsPlaySeen wanted sight old new begun now)
 seen usual wanted sight set script old new begun now same s =
@@ -161,7 +161,7 @@ pub not_run_on_some : (set old new : Option (List ℕ)) → IsRefused set None o
 not_run_on_some set old new (set_refused g) = set_refused (some_bytes set (PrintsRefusal old new) g)
 not_run_on_some set old new (script_refused s) = script_refused (not_run_on set old new s)
 
--- ---- without what goes to a file
+-- ---- without a view in a file
 
 pub was_played_on : (set : Named) (echo : Bool) (wanted : Wanted) (status : ℕ) (old new : Option (List ℕ)) (begun now : Option (Option (List ℕ)))
     → IsWatchedOn set echo wanted status old new begun now → IsPlayedOn set echo status old new

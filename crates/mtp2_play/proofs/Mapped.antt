@@ -1,4 +1,4 @@
--- What a terminal with something beside it does on a line, as what the terminal itself does.
+-- The acts of a terminal with an extra part on a line, mapped to the acts of the terminal itself.
 use Rattle.std.proofs.Common.{◌≡◌, ℕ, Bool, List, Option, ap}
 use Rattle.line_filter.specs.Acts.{Act}
 use Rattle.line_filter.specs.Filters.{Goes, Serves, Served, IsOver, ServesPart, IsBegun, Streams, Line}
@@ -7,7 +7,7 @@ use Rattle.line_filter.specs.Runs.{State, Exchanges, ObeysDue, no_order, one_ord
 use Rattle.line_filter.specs.Speaking.{Voice, Gives, fixed, fresh, silent}
 use Rattle.line_filter.specs.declared.filter.Bits.{Bits}
 
--- each act of the one is one of the other
+-- each act of the first is mapped to an act of the second
 abbrev pub Maps : {A B : Type 0} → (A → B) → (A → Act → A → Type 0) → (B → Act → B → Type 0) → Type 0
 Maps {A = A} f acts others = (a : A) (e : Act) (b : A) → acts a e b → others (f a) e (f b)
 

@@ -1,4 +1,4 @@
--- What comes of the words of a command line.
+-- The outcome of the words of a command line.
 use Rattle.std.proofs.Common.{◌≡◌, ◌⊎◌, inl, inr, subst, ℕ, List, []}
 use Rattle.clap.specs.Words.{Text, fault_of, subcommand_of}
 use Rattle.mtp2_words.specs.Asked.{IsAskedBy}
@@ -20,7 +20,7 @@ told_status status (inl h) = inl h
 told_status status (inr (inl h)) = inr (inr (inr (inl h)))
 told_status status (inr (inr h)) = inr (inr (inr (inr h)))
 
--- words without a fault ask for a request, and that was done
+-- words without a fault make a request, and that was carried out
 pub served_by : (words : List Text) (request : Request) (it : Came) → fault_of all_commands words ≡ [] → IsAskedBy (subcommand_of all_commands words) request → WasServed request it
     → IsServedBy words it
 served_by words request (Over status) taken asked was = (is_run request was.0.old was.0.new taken asked was.0.answered was.1, run_status status was.1)

@@ -1,4 +1,4 @@
--- A desk's run is what its terminal spoke.
+-- The run of a desk is the run of its terminal.
 use Rattle.std.proofs.Common.{◌≡◌, ◌⊎◌, inl, inr, refl, subst, ℕ, List, Option, None}
 use Rattle.std.specs.Prelude.{min}
 use Rattle.line_play.specs.Term.{Term}
@@ -45,7 +45,7 @@ begun orders octets left bits ahead desk old new given free silent ordered none 
       begun = subst P none h;
     }
 
--- with orders from where they are named
+-- with the orders from the named path
 pub with_orders : {A : Type 0} (orders : Option A) (octets : Option (List ℕ)) (term : Term) (bits : Bits) (ahead : ℕ) (read written read_on written_on : Option (List ℕ)) (told_before told : Stand)
     → AreGiven orders octets
     → SpokeBy octets term bits ahead (record { read = read; written = written; told = told_before }) (record { read = read_on; written = written_on; told = told })
@@ -66,14 +66,14 @@ begun_of orders one other bits ahead old new same h =
     let P : Term → Type 0 = λ t. Begun orders t bits ahead old new in
     subst P same h
 
--- the limits by another name
+-- with the limits replaced by equal ones
 pub over_limits : (known : Option (List ℕ)) (one other : RoundLimits) (mode : Mode) (term : Term) → one ≡ other → IsGiven known (IsNewOver one mode term)
     → IsGiven known (IsNewOver other mode term)
 over_limits known one other mode term same h =
     let P : RoundLimits → Type 0 = λ l. IsGiven known (IsNewOver l mode term) in
     subst P same h
 
--- over the set of some bytes
+-- on the set of some bytes
 pub over_set : (known : Option (List ℕ)) (usual : RoundLimits) (end : LineEnd) (term : Term) (old new : Line) → IsGiven known (IsNewOver (limits_over usual end) end.mode term)
     → Spoke end.orders term end.bits (min end.ahead MOST_AHEAD) old new → IsGiven known (SpokeOver usual end old new)
 over_set known usual end term old new h spoke =

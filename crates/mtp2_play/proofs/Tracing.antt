@@ -1,4 +1,4 @@
--- An end of a link with a trace does on its line what it does without.
+-- An end of a link with a trace acts on its line as one without.
 use Rattle.std.proofs.Common.{◌≡◌, ℕ, List, Option, subst, sym}
 use Rattle.line_filter.specs.Orders.{Timed}
 use Rattle.line_filter.specs.Filters.{IsOver, IsBegun, Streams, Line}
@@ -16,7 +16,7 @@ use Rattle.mtp2_play.proofs.Mapped.{Maps, at, over, begun}
 abbrev pub end_of : {W : Type 0} → TracedEnd W → LinkEnd
 end_of t = t.end
 
--- a desk of the end alone
+-- the desk of the end without its trace
 abbrev pub bare : {W O P : Type 0} → Desk (TracedEnd W) O P → Desk LinkEnd O P
 bare d = record { terminal = d.terminal.end; voice = d.voice; orders = d.orders; reports = d.reports; count = d.count }
 
@@ -32,7 +32,7 @@ pub begun_alone : {W : Type 0} (contents : W → Option (List ℕ)) (bits : Bits
     → IsBegun (traced_acts contents) bits ahead count s old new → IsBegun end_acts bits ahead count (at end_of s) old new
 begun_alone contents bits ahead count s old new x = begun end_of (traced_acts contents) end_acts (acts_alone contents) bits ahead count s old new x
 
--- the orders that a desk has are those that it was made with
+-- a desk has the orders that it was made with
 pub given_to : {A O : Type 0} (orders : Option A) (known : O → Option (List ℕ)) (one other : O) → other ≡ one → AreGiven orders (known one) → AreGiven orders (known other)
 given_to {O = O} orders known one other same given =
     let P : O → Type 0 = λ o. AreGiven orders (known o) in
@@ -44,7 +44,7 @@ ordered_to {O = O} left known one other same ordered =
     let P : O → Type 0 = λ o. left o ≡ ordered_by (known o) in
     subst P (sym same) ordered
 
--- so is its terminal that of its end
+-- a desk has the terminal of its end
 pub terminal_of : {W : Type 0} (one other : TracedEnd W) (term : Term) → other ≡ one → one.end.terminal ≡ term → other.end.terminal ≡ term
 terminal_of {W = W} one other term same is =
     let P : TracedEnd W → Type 0 = λ t. t.end.terminal ≡ term in

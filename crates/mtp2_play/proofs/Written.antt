@@ -6,7 +6,7 @@ use Rattle.std.specs.List.{flat_map}
 use Rattle.std.specs.Io.KnownBytes.{Appends}
 use lib.ListN.{get_or}
 
--- the lines of one item more
+-- the lines of one more item
 pub more_lines : {X : Type 0} (f : X → List ℕ) (items : List X) (i : ℕ) (x : X) (text : List ℕ) (a b c : Option (List ℕ))
     → i < length items → x ≡ get_or items i x → text ≡ f x → Appends a b (flat_map f (take i items)) → Appends b c text
     → Appends a c (flat_map f (take (i + 1) items))

@@ -1,4 +1,4 @@
--- What `diff` says of two sets, by the exit status that it gives.
+-- The output of `diff` for two sets, by its exit status.
 use Rattle.std.specs.Prelude.{◌≡◌, ◌⊎◌, ℕ, ◌+◌, ◌-◌, true, List, [], ◌++◌, Option, All, codes}
 use Rattle.std.specs.Prelude.{bytes_eq, if◌then◌else◌, min}
 use Rattle.std.specs.Fmt.{decimal}
@@ -16,7 +16,7 @@ use Rattle.script_check.specs.Fronts.{in_front}
 use Rattle.script_check.specs.Printed.{refusal_line}
 use Rattle.script_check.specs.declared.sets.SetFault.{SetFault}
 
--- two sets differ in nothing that has a line
+-- two sets have no difference that would get a line
 pub record AreAlike (d e : Draft) : Type 0 where
   pub items : item_lines (items_of d) (items_of e) ≡ []
   pub olds : old_way_lines d e ≡ []
@@ -26,20 +26,20 @@ pub record AreAlike (d e : Draft) : Type 0 where
 abbrev pub way_lines : Draft → Draft → List ℕ
 way_lines d e = old_way_lines d e ++ new_way_lines d e
 
--- How many transitions of OLD have no line, of all that either set has. No count goes past the
--- greatest of 64 bits.
+-- The number of OLD's transitions without a line, of all transitions in either set. Both numbers
+-- are at most the largest 64-bit number.
 abbrev pub same_text : Draft → Draft → List ℕ
 same_text d e =
     codes "same " ++ decimal (ways_in d - lines_in (old_way_lines d e)) ++ codes " of "
     ++ decimal (min (ways_in d + lines_in (new_way_lines d e)) 18446744073709551615) ++ codes "\n"
 
--- whether a set has all that a terminal wants, and else the first name that it lacks
+-- whether a set has all names that a terminal needs, and else the first name that it lacks
 abbrev pub SaysTerminal : Draft → List ℕ → Type 0
 SaysTerminal d said =
     ((said ≡ codes "yes") × All (Has d) wanted)
     ⊎ ((name : Wanted) × IsFirstLacking d name wanted × (said ≡ codes "no " ++ wanted_text name))
 
--- the last line, where this is said of terminals over the two sets
+-- the last line, from the two answers about terminals
 abbrev pub terminal_text : List ℕ → List ℕ → List ℕ
 terminal_text before after =
     if bytes_eq before after
@@ -54,14 +54,14 @@ pub record IsSummary (d e : Draft) (text : List ℕ) : Type 0 where
   pub of_new : SaysTerminal e after
   pub is_so : text ≡ same_text d e ++ terminal_text before after
 
--- what was found of two sets
+-- the differences found between two sets
 pub record AreFound (d e : Draft) (found : Difference) : Type 0 where
   pub items : found.items.items ≡ item_lines (items_of d) (items_of e)
   pub olds : found.olds.items ≡ old_way_lines d e
   pub news : found.news.items ≡ new_way_lines d e
 
--- What is written of two sets: what they declare otherwise, the transitions that mean something
--- else with what is said below each, and the last two lines.
+-- The text about two sets: their differing declarations, the differing transitions with notes below
+-- each, and the last two lines.
 pub record PrintsDifference (old new : Option (List ℕ)) (d e : Draft) : Type 0 where
   pub ways : List ℕ
   pub end : List ℕ
@@ -69,15 +69,14 @@ pub record PrintsDifference (old new : Option (List ℕ)) (d e : Draft) : Type 0
   pub summary : IsSummary d e end
   pub written : Appends old new (item_lines (items_of d) (items_of e) ++ ways ++ end)
 
--- What is written where the text of one side is refused: the line of a fault that it has, with the
--- side in front.
+-- The text if one side is refused: the line of a fault that it has, with the side before it.
 pub record PrintsSide (side : List ℕ) (old new : Option (List ℕ)) (bytes : List ℕ) : Type 0 where
   pub fault : SetFault
   pub judged : IsRefusal fault
   pub is_so : IsRefusalOf bytes fault
   pub written : Appends old new (in_front side true (refusal_line fault))
 
--- something of the sets of two texts
+-- P holds of the sets of two texts
 pub record IsOfSets (one other : Option (List ℕ)) (P : Draft → Draft → Type 0) : Type 0 where
   pub old : Draft
   pub new : Draft
@@ -85,13 +84,13 @@ pub record IsOfSets (one other : Option (List ℕ)) (P : Draft → Draft → Typ
   pub is_new : IsGiven other (λ bytes. IsSetOf bytes new)
   pub holds : P old new
 
--- What is written of two sets, with a status that says whether they are alike.
+-- The text about two sets is written, with a status that says whether they are alike.
 pub record Compares (status : ℕ) (old new : Option (List ℕ)) (d e : Draft) : Type 0 where
   pub printed : PrintsDifference old new d e
   pub alike : status ≡ 0 → AreAlike d e
   pub differ : status ≡ 1 → AreAlike d e → ⊥
 
--- what `diff` writes, by its exit status: of the sets of two texts, or that one is refused
+-- the output of `diff`, by its exit status: about the sets of two texts, or that one is refused
 pub record IsCompared (one other : Option (List ℕ)) (status : ℕ) (old new : Option (List ℕ)) :
     Type 0 where
   pub sets : (status ≡ 0) ⊎ (status ≡ 1) → IsOfSets one other (Compares status old new)

@@ -1,4 +1,4 @@
--- What is written of what a terminal has measured (Q.752).
+-- The text of a terminal's measurements (Q.752).
 use Rattle.std.specs.Prelude.{ℕ, List, ◌∷◌, [], ◌++◌, String, string_bytes}
 use Rattle.std.specs.List.{flat_map}
 use Rattle.line_play.specs.Measured.{measured_lines}
@@ -8,6 +8,6 @@ use Rattle.line_play.specs.Term.{Term}
 abbrev pub line_text : {Z : Type 0} → String Z → List ℕ
 line_text line = string_bytes line ++ 10 ∷ []
 
--- all of them, in their order
+-- the lines of all measurements, in their order
 abbrev pub measures_text : Term → List ℕ
 measures_text t = flat_map (λ (line : List ℕ). line ++ 10 ∷ []) (measured_lines t)

@@ -1,5 +1,5 @@
--- What each command prints, by the exit status that it gives. Of a text that isn't the program's
--- own it is said of some bytes, since none are known of a file or of standard input.
+-- The output of each command, by its exit status. For a text that isn't built in, the statement is
+-- about some bytes, since no contract knows those of a file or of standard input.
 use Rattle.std.specs.Prelude.{◌≡◌, ◌≢◌, ◌⊎◌, ◌≤◌, ℕ, Bool, List, [], ◌∷◌}
 use Rattle.std.specs.Prelude.{length, Option, None, Some, IsSomeAnd}
 use Rattle.std.specs.Io.KnownBytes.{Appends}
@@ -35,32 +35,32 @@ use Rattle.mtp2_words.specs.declared.requests.Request.{Request}
 use Rattle.mtp2_words.specs.declared.requests.Request.TheVariants.{Check, Play, Soak, Line, Frame}
 use Rattle.mtp2_words.specs.declared.requests.Request.TheVariants.{Tend, Draw, Print, Diff}
 
--- the exit statuses: done, an expectation failed or something differs, refused, usage, failed
+-- the exit statuses: done, an expectation failed or a difference, refused, usage, failed
 abbrev pub IsStatus : ℕ → Type 0
 IsStatus status = (status ≡ 0) ⊎ (status ≡ 1) ⊎ (status ≡ 2) ⊎ (status ≡ 3) ⊎ (status ≡ 4)
 
--- what a command line is told that asks neither for help nor for the version, want of memory too
+-- the errors other than a request for help or the version; running out of memory is one
 abbrev pub IsFault : ErrorKind → Type 0
 IsFault kind = (kind ≢ DisplayHelp) × (kind ≢ DisplayVersion)
 
--- the exit statuses of a command that has no expectations: done, refused, failed
+-- the exit statuses of a command without expectations: done, refused, failed
 abbrev pub IsDone : ℕ → Type 0
 IsDone status = (status ≡ 0) ⊎ (status ≡ 2) ⊎ (status ≡ 4)
 
--- what `check` prints of a set: its costs, or why it is refused
+-- the output of `check` for a set: its costs, or why it is refused
 pub record IsChecked (set : Named) (status : ℕ) (old new : Option (List ℕ)) : Type 0 where
   pub costs : status ≡ 0 → IsGiven (own_text_of set) (PrintsCosts old new)
   pub refusal : status ≡ 2 → IsGiven (own_text_of set) (PrintsRefusal old new)
   pub ends : IsDone status
 
--- What it prints of the sets that are named: of one alone its costs, or why it is refused. Of
--- several the status alone is said.
+-- The output of `check` for the named sets: for a single one its costs, or why it is refused. For
+-- several, only the status is stated.
 pub record AreCheckedAll (sets : List Named) (status : ℕ) (old new : Option (List ℕ)) : Type 0 where
   pub one : (set : Named) → sets ≡ set ∷ [] → IsChecked set status old new
   pub ends : IsDone status
 
--- what `play` prints of a script on a set: what came of its commands, of those before one whose
--- expectation failed, or why nothing ran; with its lines in front where they are asked for
+-- the output of `play` for a script on a set: that of its commands, of those before a failed
+-- expectation, or why nothing ran; with an echo of its lines if requested
 pub record IsPlayedOn (set : Named) (echo : Bool) (status : ℕ) (old new : Option (List ℕ)) :
     Type 0 where
   pub held :
@@ -70,8 +70,8 @@ pub record IsPlayedOn (set : Named) (echo : Bool) (status : ℕ) (old new : Opti
       IsOnSet (own_text_of set) None (IsPlayedInPart (usual_limits_of set) echo old new)
   pub refused : status ≡ 2 → IsRefused (own_text_of set) None old new
 
--- what it prints, and what it has written to the file of what is wanted of the run, where there is
--- one
+-- the output of `play`, and the text that it has written to the file of the requested view, if
+-- there is one
 pub record IsWatchedOn (set : Named) (echo : Bool) (wanted : Wanted) (status : ℕ)
     (old new : Option (List ℕ)) (begun now : Option (Option (List ℕ))) : Type 0 where
   pub held :
@@ -84,7 +84,7 @@ pub record IsWatchedOn (set : Named) (echo : Bool) (wanted : Wanted) (status : �
       (IsWatchedInPart (usual_limits_of set) echo wanted old new begun now)
   pub refused : status ≡ 2 → IsRefused (own_text_of set) None old new
 
--- the file to which something of a run goes
+-- the path of the file for a view of a run
 abbrev pub path_by : Sight → List ℕ
 path_by (sights.Trace path) = path.now
 path_by (sights.Chart path) = path.now
@@ -92,7 +92,7 @@ path_by (sights.Coverage path) = path.now
 path_by (sights.Thrown path) = path.now
 path_by (sights.Capture path) = path.now
 
--- what goes there; whether what has no effect does too, which turns, and each unit
+-- the view for that file: with events without effect, these turns, and every signal unit, or not
 abbrev pub wanted_for : Bool → Turns → Sight → Wanted
 wanted_for every turns (sights.Trace path) = wants.Trace every
 wanted_for every turns (sights.Chart path) =
@@ -101,7 +101,7 @@ wanted_for every turns (sights.Coverage path) = wants.Coverage
 wanted_for every turns (sights.Thrown path) = wants.AtEnd told.Thrown
 wanted_for every turns (sights.Capture path) = wants.Capture every
 
--- a trace, where there is no file
+-- the view; a trace if there is no file
 abbrev pub wanted_as : Bool → Turns → Option Sight → Wanted
 wanted_as every turns None = wants.Trace every
 wanted_as every turns (Some sight) = wanted_for every turns sight
@@ -109,24 +109,24 @@ wanted_as every turns (Some sight) = wanted_for every turns sight
 abbrev pub wanted_by : Seeing → Wanted
 wanted_by seen = wanted_as seen.every seen.turns seen.sight
 
--- what `soak` prints of a script: its two lines, where so many workers can work, or why it is
--- refused
+-- the output of `soak` for a script: its two lines, if this number of workers is allowed, or why
+-- the script is refused
 pub record IsServed (workers status : ℕ) (old new : Option (List ℕ)) : Type 0 where
   pub held : status ≡ 0 → IsGiven None (IsSoaked old new)
   pub differs : status ≡ 1 → IsGiven None (IsSoakedInVain old new)
   pub refused : status ≡ 2 → IsGiven None (IsTurnedDown old new)
   pub served : (status ≡ 0) ⊎ (status ≡ 1) → (LEAST_WORKERS ≤ workers) × (workers ≤ MOST_WORKERS)
 
--- what `frame` prints of a word: the unit that it spells, or why it spells none
+-- the output of `frame` for a word: the signal unit that it spells, or why it spells none
 pub record IsFramed (word : List ℕ) (status : ℕ) (old new : Option (List ℕ)) : Type 0 where
   pub held : status ≡ 0 → PrintsUnit old new word
   pub refused : status ≡ 2 → PrintsFault old new word
   pub ends : IsDone status
 
--- What `line` makes of its line, over the set of these bytes: where it is done a new terminal over
--- the set spoke there as it was told, and however it ends what was written is a beginning of that.
--- The limits of forced retransmission are the usual ones, but for those that are chosen. A set is
--- refused for its text, or for a name that it lacks, before anything is read or written.
+-- The run of `line` on its line, with the set of these bytes. With status 0 a new terminal that
+-- runs the set spoke there as requested. With any status its output is a beginning of that of such
+-- a run. The limits of forced retransmission are the usual ones, except those that are chosen. A
+-- set is refused for its text, or for a name that it lacks, before anything is read or written.
 pub record IsSpoken (known : Option (List ℕ)) (usual : RoundLimits) (end : LineEnd) (status : ℕ)
     (old new : Octets) : Type 0 where
   pub spoke : status ≡ 0 → IsGiven known (SpokeOver usual end old new)
@@ -135,21 +135,20 @@ pub record IsSpoken (known : Option (List ℕ)) (usual : RoundLimits) (end : Lin
   pub untouched : status ≡ 2 → IsUntouched old new
   pub ends : IsDone status
 
--- What `set` makes of its lines, over the set of these bytes: where it is done a new set of links
--- over the set of processes ran there, round by round. It is refused for its text, or for a name
+-- The run of `set` on its lines, with the process set of these bytes. With status 0 a new link set
+-- that runs the processes ran there, round by round. The set is refused for its text, or for a name
 -- that it lacks.
 pub record IsSetRun (known : Option (List ℕ)) (plan : SetPlan) (ahead status : ℕ) : Type 0 where
   pub ran : status ≡ 0 → IsGiven known (RanOver plan ahead)
   pub refused : status ≡ 2 → IsGiven known (IsNoSet None None)
   pub ends : IsDone status
 
--- what `text` prints: the text of a set of the program's own
+-- the output of `text`: the text of a built-in set
 pub record IsPrinted (set : OwnSet) (status : ℕ) (old new : Option (List ℕ)) : Type 0 where
   pub held : status ≡ 0 → Appends old new (text_of set)
   pub ends : (status ≡ 0) ⊎ (status ≡ 4)
 
--- what a request has printed, and with which exit status; only `line` reads what is handed to it
--- here
+-- the output of a request, and its exit status; only `line` reads the octets that are passed here
 abbrev pub IsAnswered : Request → ℕ → Octets → Octets → Type 0
 IsAnswered (Check sets) status old new =
     AreCheckedAll sets.items status old.written new.written

@@ -1,4 +1,4 @@
--- What comes of the words of a command line.
+-- The outcome of the words of a command line.
 use Rattle.std.specs.Prelude.{◌≡◌, ◌⊎◌, ◌≢◌, ℕ, List, []}
 use Rattle.clap.specs.Words.{Text, fault_of, subcommand_of}
 use Rattle.clap.specs.declared.error.kind.ErrorKind.{ErrorKind}
@@ -14,21 +14,21 @@ use Rattle.mtp2_play.specs.Printed.{IsAnswered, IsFault, IsStatus}
 use Rattle.mtp2_play.specs.declared.asked.Came.{Came}
 use Rattle.mtp2_play.specs.declared.asked.Came.TheVariants as came
 
--- the exit status where that is told: 0 for help and the version alone, 3 for a fault of the words
--- alone, else 4
+-- the exit status of a refusal: 0 only for help and the version, 3 only for a fault of the words,
+-- else 4
 pub record IsTold (kind : ErrorKind) (status : ℕ) : Type 0 where
   pub help : status ≡ 0 → IsFault kind → ⊥
   pub usage : status ≡ 3 → IsFault kind × (kind ≢ OutOfMemory)
   pub ends : (status ≡ 0) ⊎ (status ≡ 3) ⊎ (status ≡ 4)
 
--- a request was run, from what was there to read and was written, to what is
+-- a request was run, from some octets to read and written before, to those after
 pub record WasAnswered (request : Request) (status : ℕ) : Type 0 where
   pub old : Octets
   pub new : Octets
   pub answered : IsAnswered request status old new
 
--- They have no fault, and what they ask for is run, from what was there to read and was written, to
--- what is; or they are turned down.
+-- The words have no fault, and their request is run, from some octets to read and written before,
+-- to those after; or the words are refused.
 pub data ComesTo (words : List Text) (status : ℕ) : Type 0 where
   is_run : (request : Request) (old new : Octets) → fault_of all_commands words ≡ []
       → IsAskedBy (subcommand_of all_commands words) request
@@ -36,18 +36,18 @@ pub data ComesTo (words : List Text) (status : ℕ) : Type 0 where
       → (status ≡ 0) ⊎ (status ≡ 1) ⊎ (status ≡ 2) ⊎ (status ≡ 4) → ComesTo words status
   is_told : (kind : ErrorKind) → IsTurnedDown words kind → IsTold kind status → ComesTo words status
 
--- they have no fault, and ask that so many workers serve links as a script says
+-- the words have no fault, and request that this number of workers serve links for a script
 pub record AsksSoak (words : List Text) (script : Source) (workers : ℕ) : Type 0 where
   pub taken : fault_of all_commands words ≡ []
   pub asked : IsAskedBy (subcommand_of all_commands words) (Soak script workers)
 
--- a request was run, but for `soak`; of that it is known what it asks for
+-- a request other than `soak` was run; a request of `soak` is only passed on
 abbrev pub WasServed : Request → Came → Type 0
 WasServed request (came.Over status) =
     WasAnswered request status × ((status ≡ 0) ⊎ (status ≡ 1) ⊎ (status ≡ 2) ⊎ (status ≡ 4))
 WasServed request (came.Soak script workers) = request ≡ Soak script workers
 
--- what they ask for was run, but for `soak`; of that it is known what it asks for
+-- the request of the words was run, unless it is `soak`, which is only passed on
 abbrev pub IsServedBy : List Text → Came → Type 0
 IsServedBy words (came.Over status) = ComesTo words status × IsStatus status
 IsServedBy words (came.Soak script workers) = AsksSoak words script workers

@@ -1,4 +1,4 @@
--- What a set of links on lines did.
+-- The run of a link set on lines.
 use Rattle.std.specs.Prelude.{ℕ, List}
 use Rattle.line_play.specs.SetDesks.{RanFrom}
 use Rattle.line_play.specs.SetOpening.{IsNewTenderOver}
@@ -8,7 +8,7 @@ use Rattle.mtp2_words.specs.Limits.{usual_limits_of}
 use Rattle.mtp2_words.specs.declared.set_ends.SetEnd.{SetEnd}
 use Rattle.mtp2_words.specs.declared.requests.Named.{Named}
 
--- what words of `set` say a set is opened with
+-- the plan by which a link set is opened, from the words of `set`
 abbrev pub plan_of : Named → ℕ → SetEnd → SetPlan
 plan_of set links end = record {
   mode = end.mode;
@@ -18,7 +18,7 @@ plan_of set links end = record {
   tests = end.tests;
 }
 
--- a new set of links, as a plan says, over the set of these bytes ran
+-- a new link set, as planned, ran with the processes of these bytes
 pub record RanOver (plan : SetPlan) (ahead : ℕ) (bytes : List ℕ) : Type 0 where
   pub tender : Tended
   pub new : IsNewTenderOver plan tender bytes

@@ -1,4 +1,4 @@
--- What one end of a link wrote on its line for what it read there.
+-- The output of one end of a link on its line, for the octets that it read there.
 use Rattle.std.specs.Prelude.{◌≡◌, ⊤, ℕ, min, List, [], Option, None, Some, option_map}
 use Rattle.line_play.specs.Term.{Term}
 use Rattle.line_filter.specs.Orders.{Timed}
@@ -15,26 +15,26 @@ use Rattle.mtp2_words.specs.Ends.{limits_over}
 use Rattle.mtp2_words.specs.resend_store_types.messages.RoundLimits.{RoundLimits}
 use Rattle.mtp2_words.specs.declared.ends.LineEnd.{LineEnd}
 
--- where no word names orders, none come; what a path has isn't known
+-- without a path of orders there are none; the orders of a path aren't known
 abbrev pub AreGiven : {A : Type 0} → Option A → Option (List ℕ) → Type 0
 AreGiven None octets = octets ≡ Some []
 AreGiven (Some path) octets = ⊤
 
--- the orders that the whole lines of these octets say, where these are known
+-- the orders of the complete lines of these octets, if these are known
 abbrev pub ordered_by : Option (List ℕ) → Option (List Timed)
 ordered_by octets = option_map orders_of octets
 
--- how a terminal's run begins: nothing went out, nothing waits to be told, and the orders are those
--- of these octets
+-- the start of a terminal's run: nothing was sent, no report waits, and the orders are those of
+-- these octets
 pub record IsFirst (octets : Option (List ℕ)) (term : Term) (first : State LinkEnd) : Type 0 where
   pub is_term : first.term.terminal ≡ term
   pub none_held : first.term.held ≡ None
   pub silent : IsSilent first.voice
   pub ordered : first.left ≡ ordered_by octets
 
--- A terminal spoke from its first octet to its last, by the orders of these octets. What was
--- written is what it gave for what was read, behind so many octets of silence, and what was told is
--- what it had to tell.
+-- A terminal spoke from its first octet to its last, with the orders of these octets. Its output is
+-- `ahead` octets of silence, followed by what it sent for the octets read. Its reports are those
+-- that it had to make.
 pub record SpokeBy (octets : Option (List ℕ)) (term : Term) (bits : Bits) (ahead : ℕ)
     (old new : Streams) : Type 0 where
   pub first : State LinkEnd
@@ -43,7 +43,7 @@ pub record SpokeBy (octets : Option (List ℕ)) (term : Term) (bits : Bits) (ahe
   pub count : ℕ
   pub over : IsOver end_acts bits ahead 0 first count last old new
 
--- so it did with orders from where they are named, or with none
+-- a terminal spoke, with orders from the named path, or with none
 pub record Spoke {A : Type 0} (orders : Option A) (term : Term) (bits : Bits) (ahead : ℕ)
     (old new : Line) : Type 0 where
   pub octets : Option (List ℕ)
@@ -54,15 +54,15 @@ pub record Spoke {A : Type 0} (orders : Option A) (term : Term) (bits : Bits) (a
       (record { read = old.read; written = old.written; told = told_before })
       (record { read = new.read; written = new.written; told = told })
 
--- so did a new terminal over the set of these bytes, within the limits that are chosen or these
+-- a new terminal that runs the set of these bytes spoke, with the chosen limits or these
 pub record SpokeOver (usual : RoundLimits) (end : LineEnd) (old new : Line) (bytes : List ℕ) :
     Type 0 where
   pub term : Term
   pub is_new : IsNewOver (limits_over usual end) end.mode term bytes
   pub spoke : Spoke end.orders term end.bits (min end.ahead MOST_AHEAD) old new
 
--- A terminal began to speak: what was written is a beginning of what it gives for octets that were
--- read, behind so many octets of silence.
+-- A terminal began to speak: its output is a beginning of `ahead` octets of silence, followed by
+-- what it sends for the octets read.
 pub record Begun {A : Type 0} (orders : Option A) (term : Term) (bits : Bits) (ahead : ℕ)
     (old new : Line) : Type 0 where
   pub octets : Option (List ℕ)
@@ -71,7 +71,7 @@ pub record Begun {A : Type 0} (orders : Option A) (term : Term) (bits : Bits) (a
   pub is_first : IsFirst octets term first
   pub begun : IsBegun end_acts bits ahead 0 first old new
 
--- so did a new terminal over the set of these bytes, within the limits that are chosen or these
+-- a new terminal that runs the set of these bytes began to speak, with the chosen limits or these
 pub record BegunOver (usual : RoundLimits) (end : LineEnd) (old new : Line) (bytes : List ℕ) :
     Type 0 where
   pub term : Term

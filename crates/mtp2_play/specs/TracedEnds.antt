@@ -1,4 +1,4 @@
--- What is traced of an end of a link by what it does on its line.
+-- The trace of an end of a link, act by act.
 use Rattle.std.specs.Prelude.{ℕ, Bool, true, false, not, ◌&&◌, ◌||◌, List, [], ◌∷◌, Option, codes}
 use Rattle.std.specs.Prelude.{if◌then◌else◌}
 use Rattle.std.specs.Str.{bytes_eq}
@@ -25,7 +25,7 @@ asks_measure word words = bytes_eq word (codes "measure") && not (is_reset words
 abbrev pub is_question : List ℕ → Bool
 is_question word = bytes_eq word (codes "state") || bytes_eq word (codes "value")
 
--- words that only ask, or none
+-- no words, or words that are only a question
 abbrev pub has_no_front : List (List ℕ) → Bool
 has_no_front [] = true
 has_no_front (word ∷ words) = is_question word || asks_measure word words
@@ -33,20 +33,20 @@ has_no_front (word ∷ words) = is_question word || asks_measure word words
 abbrev pub front_of_words : List (List ℕ) → List ℕ
 front_of_words words = if has_no_front words then [] else front_line words
 
--- the line of an order, but of one that only asks
+-- the line of an order; nothing for a question
 abbrev pub order_front : List ℕ → List ℕ
 order_front order = front_of_words (words_of order)
 
--- ---- what happens
+-- ---- the events
 
--- a text is traced, and behind it what has happened to a terminal's processes since
+-- a text is traced, followed by the events of a terminal's processes since the last call
 pub record FollowsBehind (front : List ℕ) (t : Term) (old new : Tracer)
     (from to : Option (List ℕ)) : Type 0 where
   pub middle : Option (List ℕ)
   pub front_is : Appends from middle front
   pub follows : Follows t.processes.book old new middle to
 
--- what happened by an act is traced, behind the line of the order where it is one
+-- the events of an act are traced, after the line of the order if the act is one
 abbrev pub IsActTraced :
     Act → Term → Tracer → Tracer → Option (List ℕ) → Option (List ℕ) → Type 0
 IsActTraced (asked unit) t old new from to = Follows t.processes.book old new from to
@@ -56,7 +56,7 @@ IsActTraced (reported text) t old new from to = Follows t.processes.book old new
 IsActTraced (obeyed order answer) t old new from to =
     FollowsBehind (order_front order) t old new from to
 
--- an end does what it does without a trace, and what happened by that is traced
+-- an end acts as it does without a trace, and the events of the act are traced
 abbrev pub traced_acts :
     {W : Type 0} → (W → Option (List ℕ)) → TracedEnd W → Act → TracedEnd W → Type 0
 traced_acts contents old act new =

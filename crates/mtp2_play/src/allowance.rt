@@ -1,37 +1,37 @@
-//! How many octets of a line count.
+//! How many octets of a line are passed on in a round.
 ghost use Rattle.std.specs.Prelude.{◌≡◌, ◌↔◌, ◌<◌, ◌+◌, ◌-◌, min, IsTrue};
 
-/// How many octets of a line count in a round, beside those that were saved: twice what one of 64 kbit/s brings.
+/// The octets that may be passed on per round, besides saved ones: twice the number that 64 kbit/s delivers.
 const RATE: usize = 16;
 
-/// How many may be saved, of rounds in which fewer came: what 1,000 rounds give.
+/// The largest saved allowance, from rounds in which fewer came: that of 1,000 rounds.
 const SAVED: usize = 16_000;
 
-/// For so many rounds a line is new. As many without an octet make it new once more.
+/// The number of rounds for which a line is new. After as many rounds without an octet it is new again.
 const NEW: u64 = 1_000;
 
-/// How many octets may wait on a new line that has a clock of its own: some blocks of a card.
+/// The number of octets that may wait on a new line with its own clock: some blocks of a card.
 const BLOCKS: usize = 1_024;
 
-/// How many octets of a line count, and how many may wait.
+/// Limits how many octets of a line are passed on, and how many may wait.
 ///
-/// Octets that go ahead go round between two ends. A FIFO that nobody reads keeps those of each second of silence, and all of them would go
-/// round from then on. So on a new line no more wait than both ends put there at once. Where nothing paces a line, those that go round
-/// count no faster than on one that has twice 64 kbit/s.
+/// Octets sent ahead circulate between two ends. A FIFO that nobody reads keeps those of each second of silence, and
+/// all of them would circulate from then on. So on a new line no more octets wait than both ends send at once. If
+/// nothing paces a line, the circulating octets are passed on no faster than on a line of twice 64 kbit/s.
 #[derive(Clone, Copy)]
 pub struct Allowance {
-    /// How many octets may wait while the line is new.
+    /// The number of octets that may wait while the line is new.
     most: usize,
-    /// How many count now.
+    /// The number of octets that may be passed on now.
     credit: usize,
-    /// For how many rounds the line has been there.
+    /// The number of rounds since the line was opened.
     age: u64,
-    /// For how many rounds nothing has come.
+    /// The number of rounds since an octet came.
     quiet: u64,
 }
 
 impl Allowance {
-    /// Of a line that was opened just now, on which so many octets go ahead of others.
+    /// Returns the allowance of a line just opened, on which `ahead` octets are sent ahead.
     pub fn new(ahead: usize) -> Allowance {
         let most = if ahead == 0 {
             BLOCKS
@@ -46,18 +46,18 @@ impl Allowance {
         }
     }
 
-    /// A round begins: more octets count.
+    /// Begins a round: the credit grows.
     pub fn begin(&mut self) {
         self.age = self.age.saturating_add(1);
         self.credit = self.credit.saturating_add(RATE).min(SAVED.max(self.most));
     }
 
-    /// Nothing came in a round.
+    /// Notes that no octet came in a round.
     pub fn miss(&mut self) {
         self.quiet = self.quiet.saturating_add(1);
     }
 
-    /// Octets came. Behind 1,000 rounds without any the line is new.
+    /// Notes that octets came. After 1,000 rounds without any the line is new.
     pub fn come(&mut self) {
         if self.quiet >= NEW {
             self.age = 0;
@@ -66,14 +66,14 @@ impl Allowance {
         self.quiet = 0;
     }
 
-    /// Whether the line is new.
+    /// Returns whether the line is new.
     pub fn is_new(&self) -> bool
         ensures { IsTrue result ↔ (self.now.age < 1000) }
     {
         self.age < NEW
     }
 
-    /// How many more octets may wait where so many do.
+    /// Returns how many more octets may wait if `waiting` do already.
     pub fn room(&self, waiting: usize) -> usize
         ensures new { self.now.age < 1000 → result ≡ self.now.most - waiting }
     {
@@ -84,7 +84,7 @@ impl Allowance {
         }
     }
 
-    /// How many of so many octets count now. Those aren't to count once more.
+    /// Takes credit for at most `octets` octets. Returns how many may be passed on now.
     pub fn count(&mut self, octets: usize) -> usize
         ensures counted { result ≡ min octets self.old.credit }
         ensures left { self.new.credit + result ≡ self.old.credit }

@@ -1,12 +1,12 @@
-//! What a command line asks for.
+//! The outcome of a command line.
 
 use mtp2_words::Source;
 
-/// What came of a command line: an exit status, or that so many workers are to serve links as a script says.
+/// The outcome of a command line: an exit status, or a request that workers serve links for a script.
 #[derive(Clone, Copy)]
 pub enum Came<'a> {
-    /// It is over, with this exit status.
+    /// The command is over, with this exit status.
     Over(u8),
-    /// So many workers are to serve links as a script says.
+    /// Workers are to serve links for a script; the number is that of the workers.
     Soak(Source<'a>, usize),
 }

@@ -7,7 +7,7 @@ use plain_text::{FAILED, Teller, write_line};
 use std::rt::Files;
 use std::time::Clock;
 
-/// How a line is tapped for a capture of one end of a link. Its link has the number 0.
+/// The plan to tap a line for a capture of one end of a link. Its link has the number 0.
 fn plan_of(end: &LineEnd<'_>) -> Plan {
     Plan {
         link: 0,
@@ -17,7 +17,7 @@ fn plan_of(end: &LineEnd<'_>) -> Plan {
     }
 }
 
-/// Where a capture goes that is asked for, and how the line is tapped for it.
+/// Returns the path for a requested capture, and the plan to tap the line for it.
 pub fn capture_of<'a>(request: &Request<'a>) -> Option<(&'a str, Plan)> {
     match request {
         Request::Line { set: _, end } => match end.capture {
@@ -28,8 +28,8 @@ pub fn capture_of<'a>(request: &Request<'a>) -> Option<(&'a str, Plan)> {
     }
 }
 
-/// Ends a capture: waits for records that are still to go on, and tells how many were lost, with the millisecond. Gives the exit status: the
-/// one that is given, or 4 where a record couldn't be written or told.
+/// Ends a capture: waits until pending records are written, and reports how many were lost, with the millisecond.
+/// Returns the exit status: `status`, or 4 if a record couldn't be written or the loss couldn't be reported.
 pub fn end_capture<H: Files + Eprint + Clock + AllocGlobal, W>(
     host: &H,
     teller: &Teller<'_, H>,

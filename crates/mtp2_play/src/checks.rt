@@ -1,4 +1,4 @@
-//! The command `check`, on one set or on several.
+//! The command `check` for one set or several.
 ghost use Rattle.std.specs.Prelude.{◌≡◌, ◌⊎◌, None, Some};
 ghost use Rattle.script_check.specs.Checked.{IsGiven, PrintsCosts, PrintsRefusal};
 ghost use Rattle.mtp2_words.specs.Own.{text_of};
@@ -13,7 +13,7 @@ use std::fs;
 use std::io::{self, Read, Write};
 use std::rt::Runtime;
 
-/// Runs `check` on a set of the program's own.
+/// Runs `check` on a built-in set.
 fn check_own<H: Eprint, W: Write>(
     alloc: Global,
     teller: &Teller<'_, H>,
@@ -33,7 +33,7 @@ fn check_own<H: Eprint, W: Write>(
     )
 }
 
-/// Runs `check` on a text that comes from a reader.
+/// Runs `check` on a text from a reader.
 #[tactic(auto, using(crate::proofs::Known::costs, crate::proofs::Known::refusal))]
 fn check_text<H: Eprint, S: Read + Drop, W: Write>(
     alloc: Global,
@@ -81,7 +81,7 @@ fn run_check<R: Runtime + AllocGlobal, H: Eprint, W: Write>(
     }
 }
 
-/// Writes the lines of one of several sets, with its name in front of each.
+/// Writes the lines of one of several sets, with its name before each.
 fn write_beside<W: Write>(
     alloc: Global,
     name: &str,
@@ -92,8 +92,8 @@ fn write_beside<W: Write>(
     writer.write_all(&named)
 }
 
-/// Runs `check` on one of several sets, and writes its lines with its name in front of each. Gives the exit status of that set; where that is 4
-/// nothing is written, and it is 4 too where the lines can't be written, or there is no memory for them.
+/// Runs `check` on one of several sets, and writes its lines with its name before each. Returns the exit status of that
+/// set. On status 4 nothing is written; it is also 4 if the lines can't be written, or memory runs out.
 fn check_beside<R: Runtime + AllocGlobal, H: Eprint, W: Write>(
     rt: &R,
     teller: &Teller<'_, H>,
@@ -120,7 +120,7 @@ fn greater(one: u8, other: u8) -> u8
     if one < other { other } else { one }
 }
 
-/// Runs `check` on several sets, in turn. Gives the greatest exit status.
+/// Runs `check` on several sets, in turn. Returns the greatest exit status.
 fn check_each<R: Runtime + AllocGlobal, H: Eprint, W: Write>(
     rt: &R,
     teller: &Teller<'_, H>,
@@ -137,7 +137,7 @@ fn check_each<R: Runtime + AllocGlobal, H: Eprint, W: Write>(
     status
 }
 
-/// Runs `check` on the sets that the command line names: on one, or on several with the name of each in front of its lines.
+/// Runs `check` on the sets that the command line names: on one, or on several with the name of each before its lines.
 #[tactic(auto, using(crate::proofs::InTurn::alone, crate::proofs::InTurn::in_turn))]
 pub fn run_checks<R: Runtime + AllocGlobal, H: Eprint, W: Write>(
     rt: &R,

@@ -22,13 +22,13 @@ use std::rt::Runtime;
 use std::{fs, str};
 use turn_check::Verified;
 
-/// What two sets are, where they differ.
+/// The exit status if two sets differ.
 const DIFFERENT: u8 = 1;
 
 /// Octets that are no text.
 const NO_TEXT: &[u8] = b"\xFF";
 
-/// One of the two texts, as it is called: by its side and its name.
+/// The name of one of the two texts: its side and its own name.
 #[derive(Clone, Copy)]
 struct SideName<'a> {
     /// OLD or NEW.
@@ -37,7 +37,7 @@ struct SideName<'a> {
     name: &'a str,
 }
 
-/// Writes lines with the name of one side in front of each.
+/// Writes lines with the name of one side before each.
 fn write_side<W: Write>(alloc: Global, side: &str, lines: &[u8], writer: &mut W) -> io::Result<()>
     ensures { OnOk result (Appends (W.contents writer.old) (W.contents writer.new) (in_front side.now true lines.now)) }
 {
@@ -45,7 +45,7 @@ fn write_side<W: Write>(alloc: Global, side: &str, lines: &[u8], writer: &mut W)
     writer.write_all(&named)
 }
 
-/// Says why one of the sets is refused. Gives the exit status.
+/// Writes why one of the sets is refused. Returns the exit status.
 fn refuse_side<H: Eprint, W: Write>(
     alloc: Global,
     teller: &Teller<'_, H>,
@@ -67,14 +67,14 @@ fn refuse_side<H: Eprint, W: Write>(
     }
 }
 
-/// One of the two: its set and its text.
+/// One of the two sides: its set and its text.
 #[derive(Drop)]
 struct Side {
     set: Verified,
     text: Vec<u8>,
 }
 
-/// A set with its text, or the exit status where there is none.
+/// Returns a set with its text, or the exit status if it is refused.
 fn with_text<H: Eprint, S: Read + Drop, W: Write>(
     alloc: Global,
     teller: &Teller<'_, H>,
@@ -97,7 +97,7 @@ fn with_text<H: Eprint, S: Read + Drop, W: Write>(
     }
 }
 
-/// The set of a text of these octets, or the exit status where there is none.
+/// Returns the set of a text of these octets, or the exit status if it is refused.
 fn octets_side<H: Eprint, W: Write>(
     alloc: Global,
     teller: &Teller<'_, H>,
@@ -113,7 +113,7 @@ fn octets_side<H: Eprint, W: Write>(
     with_text(alloc, teller, named, SetWord::Text(octets), octets, writer)
 }
 
-/// The set of the text that a reader gives, or the exit status where there is none.
+/// Returns the set of the text from a reader, or the exit status if there is none.
 fn read_side<H: Eprint, S: Read + Drop, W: Write>(
     alloc: Global,
     teller: &Teller<'_, H>,
@@ -138,7 +138,7 @@ fn read_side<H: Eprint, S: Read + Drop, W: Write>(
     }
 }
 
-/// A set of the program's own, or the exit status where there is none.
+/// Returns a built-in set, or the exit status if there is none.
 fn own_side<H: Eprint, W: Write>(
     alloc: Global,
     teller: &Teller<'_, H>,
@@ -155,7 +155,7 @@ fn own_side<H: Eprint, W: Write>(
     with_text(alloc, teller, named, own_set(own), text, writer)
 }
 
-/// One of the sets that the command line names, or the exit status where there is none.
+/// Returns one of the sets that the command line names, or the exit status if there is none.
 fn named_side<R: Runtime + AllocGlobal, H: Eprint, W: Write>(
     rt: &R,
     teller: &Teller<'_, H>,
@@ -186,7 +186,7 @@ fn named_side<R: Runtime + AllocGlobal, H: Eprint, W: Write>(
     }
 }
 
-/// Whether a terminal finds its names in a set: `yes`, or `no` with the first that it doesn't.
+/// Whether a terminal finds its names in a set: `yes`, or `no` with the first missing one.
 fn terminal_word(alloc: Global, set: &Verified) -> Result<String, AllocError>
     ensures { IfOk result (λ t. SaysTerminal set.now (string_bytes t)) }
 {
@@ -196,7 +196,7 @@ fn terminal_word(alloc: Global, set: &Verified) -> Result<String, AllocError>
     }
 }
 
-/// The line that says how many transitions mean the same.
+/// The line with the number of transitions that mean the same.
 fn same_line(
     alloc: Global,
     old: &Verified,
@@ -212,7 +212,7 @@ fn same_line(
     format!(in alloc; "same {same} of {all}\n")
 }
 
-/// The line on terminals over the two sets, of which different things are said.
+/// The line on terminals for the two sets, if the two answers differ.
 fn changed_line(alloc: Global, before: &str, after: &str) -> Result<String, AllocError>
     ensures { IfOk result (λ t. string_bytes t ≡ codes "terminal " ++ before.now ++ codes " -> " ++ after.now ++ codes "\n") }
 {
@@ -224,7 +224,7 @@ fn changed_line(alloc: Global, before: &str, after: &str) -> Result<String, Allo
     Ok(text)
 }
 
-/// The line on terminals over the two sets, of which this is said.
+/// The line on terminals for the two sets, from the two answers.
 fn terminal_line(alloc: Global, before: &str, after: &str) -> Result<String, AllocError>
     ensures { IfOk result (λ t. string_bytes t ≡ terminal_text before.now after.now) }
 {
@@ -235,7 +235,7 @@ fn terminal_line(alloc: Global, before: &str, after: &str) -> Result<String, All
     }
 }
 
-/// The last two lines: how many transitions mean the same, and whether terminals find their names.
+/// The last two lines: the number of transitions that mean the same, and whether terminals find their names.
 fn summary(
     alloc: Global,
     old: &Verified,
@@ -253,7 +253,7 @@ fn summary(
     Ok(text)
 }
 
-/// Lines of transitions with the statements in which they differ; the lines alone where one of the two is no text.
+/// Lines of transitions with the statements in which they differ; only the lines if one of the two is no text.
 #[tactic(auto, using(draw_sets::proofs::NotedLines::unnoted))]
 fn noted(alloc: Global, old: &[u8], new: &[u8], lines: Vec<u8>) -> Result<Vec<u8>, AllocError>
     ensures { IfOk result (λ v. AreNoted lines.items v.items) }
@@ -267,7 +267,7 @@ fn noted(alloc: Global, old: &[u8], new: &[u8], lines: Vec<u8>) -> Result<Vec<u8
     with_statements(alloc, old_text, new_text, &lines)
 }
 
-/// The lines of transitions that differ, with the statements in which they do.
+/// The lines of transitions that differ, with the statements in which they differ.
 fn way_lines(
     alloc: Global,
     old: &Side,
@@ -283,7 +283,7 @@ fn way_lines(
     noted(alloc, &old.text, &new.text, lines)
 }
 
-/// Writes what two sets differ in, in one write.
+/// Writes the differences of two sets, in one write.
 fn write_difference<W: Write>(
     alloc: Global,
     old: &Side,
@@ -303,7 +303,7 @@ fn write_difference<W: Write>(
     writer.write_all(&text)
 }
 
-/// What two sets differ in.
+/// The differences of two sets.
 fn found_in(alloc: Global, old: &Verified, new: &Verified) -> Result<Difference, AllocError>
     ensures { IfOk result (λ found. AreFound old.now new.now found) }
 {
@@ -324,8 +324,8 @@ fn status_of(found: &Difference) -> u8
     }
 }
 
-/// Says what two sets differ in. Gives the exit status: 0 where nothing is gone, added or something else, 1 where something is, 4 where memory or
-/// the write fails.
+/// Writes the differences of two sets. Returns the exit status: 0 if nothing is removed, added or changed, 1 if
+/// something is, 4 if memory runs out or the write fails.
 fn compare_sides<W: Write>(alloc: Global, old: &Side, new: &Side, writer: &mut W) -> u8
     ensures alike { result ≡ 0 → AreAlike old.now.set new.now.set }
     ensures differ { result ≡ 1 → AreAlike old.now.set new.now.set → ⊥ }
@@ -341,8 +341,8 @@ fn compare_sides<W: Write>(alloc: Global, old: &Side, new: &Side, writer: &mut W
     }
 }
 
-/// Runs `diff` on the two sets that the command line names. Gives the exit status: 0 where they are alike, 1 where they differ, 2 after a
-/// line with the side in front where one is refused, 4 where memory, a file, a read or a write fails.
+/// Runs `diff` on the two sets that the command line names. Returns the exit status: 0 if they are alike, 1 if they
+/// differ, 2 after a line with the side before it if one is refused, 4 if memory, a file, a read or a write fails.
 pub fn run_diff<R: Runtime + AllocGlobal, H: Eprint, W: Write>(
     rt: &R,
     teller: &Teller<'_, H>,

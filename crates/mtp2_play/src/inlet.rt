@@ -1,4 +1,4 @@
-//! What comes in on a line of a set.
+//! The octets received on a line of a set.
 ghost use Rattle.std.specs.Prelude.{◌≤◌, length};
 
 use crate::allowance::Allowance;
@@ -10,29 +10,29 @@ use std::io;
 use std::rt::Files;
 use std::thread::Threads;
 
-/// How many octets are taken of a feed at once.
+/// The number of octets taken from a feed at once.
 const PART: usize = 4_096;
 
-/// How often it is asked in a round, at most.
+/// The largest number of times that the feed is asked in a round.
 const PARTS: usize = 32;
 
-/// What comes in on a line of a set.
+/// The receiving side of a line of a set.
 #[derive(Drop)]
 pub struct Inlet {
     feed: Feed,
-    /// Octets as the feed gives them.
+    /// A buffer for the octets of the feed.
     part: Vec<u8>,
-    /// Octets that don't count yet, the oldest first.
+    /// Octets that wait to be passed on, the oldest first.
     waiting: VecDeque<u8>,
     allowance: Allowance,
 }
 
 impl Inlet {
-    /// Has a thread read a line on which so many octets go ahead of others.
+    /// Starts a thread that reads a line on which `ahead` octets are sent ahead.
     ///
     /// # Errors
     ///
-    /// Where there is no memory, no pipe or no thread.
+    /// Out of memory, or no pipe or thread can be made.
     pub fn start<R: Files + Threads>(
         rt: &R,
         alloc: Global,
@@ -47,7 +47,7 @@ impl Inlet {
         })
     }
 
-    /// The first octets of the part wait, as many as may. The others are thrown away.
+    /// Queues the first octets of the buffer, as many as may wait. The others are discarded.
     fn keep(&mut self, count: usize) {
         let room = self.allowance.room(self.waiting.len());
         let Some(octets) = self.part.as_slice().get(..count.min(room)) else {
@@ -60,7 +60,7 @@ impl Inlet {
         }
     }
 
-    /// Takes what has come: of a new line all, else a part where nothing waits. What the feed says where it is over.
+    /// Takes the octets that came: all on a new line, else only if none wait. Returns `Ended` or `Failed` at the end.
     fn fetch(&mut self) -> Fed {
         for asked in 0..PARTS {
             if !self.allowance.is_new() && !self.waiting.is_empty() {
@@ -84,7 +84,7 @@ impl Inlet {
         Fed::Octets(0)
     }
 
-    /// Octets that wait go to the front of a part, as many as count now. How many.
+    /// Moves waiting octets to the front of a part, as many as may be passed on now. Returns how many.
     fn hand_out(&mut self, part: &mut [u8]) -> usize
         ensures { result ≤ length part.new }
     {
@@ -100,7 +100,7 @@ impl Inlet {
         count
     }
 
-    /// A round: the octets that count, as far as there is room for them in a part. It never waits. Once the line is over that is told behind them.
+    /// Takes a round's octets into `part`, as far as they fit; never waits. The line's end comes after its last octet.
     pub fn take(&mut self, part: &mut [u8]) -> Fed {
         self.allowance.begin();
         let fed = self.fetch();

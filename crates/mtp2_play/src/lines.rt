@@ -18,7 +18,7 @@ use std::rt::Files;
 use std::thread::Threads;
 use std::time::Clock;
 
-/// Has a terminal over a set speak on a line.
+/// Runs a terminal for a set on a line.
 fn line_on<
     H: Files<File = File> + Threads + Eprint + Clock + AllocGlobal,
     S: Read + Drop,
@@ -40,7 +40,7 @@ fn line_on<
     run_on(host, teller, named, end, set, reader, writer)
 }
 
-/// Has a terminal over a set whose text comes from a reader speak on a line.
+/// Runs a terminal for a set whose text comes from a reader on a line.
 fn line_text<
     H: Files<File = File> + Threads + Eprint + Clock + AllocGlobal,
     S: Read + Drop,
@@ -70,7 +70,7 @@ fn line_text<
     )
 }
 
-/// Has a terminal over a set of the program's own speak on a line.
+/// Runs a terminal for a built-in set on a line.
 fn line_own<H: Files<File = File> + Threads + Eprint + Clock + AllocGlobal, R: Read, W: Write>(
     host: &H,
     teller: &Teller<'_, H>,
@@ -87,9 +87,9 @@ fn line_own<H: Files<File = File> + Threads + Eprint + Clock + AllocGlobal, R: R
     line_on(host, teller, set, end, own_set(own), reader, writer)
 }
 
-/// Runs `line`: line octets come from a reader, and go to a writer. Gives the exit status: 0 at the end of the line or at the order `quit`, 2 where
-/// the text is refused or lacks a name, 4 where memory, a file, a read or a write fails. Standard input is the line: a request for it as a text, which
-/// no command line makes, is 4 too.
+/// Runs `line`: it reads line octets from a reader, and writes them to a writer. Returns the exit status: 0 at the end
+/// of the line or at the order `quit`; 2 if the text is refused or lacks a name; 4 if memory, a file, a read or a write
+/// fails. Standard input is the line: a request for it as a text, which no command line makes, returns 4 too.
 pub fn run_line<H: Files<File = File> + Threads + Eprint + Clock + AllocGlobal, R: Read, W: Write>(
     host: &H,
     teller: &Teller<'_, H>,

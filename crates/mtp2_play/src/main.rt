@@ -1,5 +1,5 @@
-//! `mtp2_play`: the program. It runs one end of a set of links, or of a link, on lines; checks, plays, draws and compares process texts; has threads
-//! work on links; and reads signal units.
+//! `mtp2_play`: the program. It runs one end of a link set, or of a link, on lines; checks, plays, draws and compares
+//! process texts; lets threads serve links; and reads signal units.
 #![tactic(auto)]
 
 ghost use Rattle.std.specs.Prelude.{◌≡◌, ◌≢◌, ◌⊎◌, map, string_bytes};
@@ -52,11 +52,11 @@ use std::thread::Threads;
 use std::time::Clock;
 use std::{env, fs};
 
-/// What stands in the place of a standard stream that is closed: a folder, of which each read and each write fails.
+/// The stand-in for a closed standard stream: a directory, on which each read and each write fails.
 const CLOSED: &str = "/";
 
-/// Runs one command but `soak`, and gives the exit status. What it prints goes to the writer; the octets of a line come from the reader. A file that
-/// can't be opened or read is told by its name. Nothing is done for `soak`, which waits for threads: that fails here.
+/// Runs one command and returns the exit status. Output goes to the writer; the octets of a line come from the reader.
+/// A file that can't be opened or read is reported by its name. `soak` fails here, since it waits for threads.
 #[tactic(auto, using(crate::proofs::InTurn::of_same))]
 fn run<
     R: Runtime + AllocGlobal,
@@ -93,8 +93,8 @@ fn run<
     }
 }
 
-/// Prints what the command line is answered where it names no command to run. Gives the exit status: 0 for help, 3 for a fault, 4 where memory
-/// is wanting or it can't be printed.
+/// Prints the answer to a command line that names no command to run. Returns the exit status: 0 for help, 3 for a
+/// fault, 4 if memory runs out or the answer can't be printed.
 fn answer<R: Runtime + AllocGlobal>(rt: &R, error: &Error) -> u8
     ensures help { result ≡ 0 → IsFault (kind_of error.now) → ⊥ }
     ensures usage { result ≡ 3 → IsFault (kind_of error.now) × (kind_of error.now ≢ OutOfMemory) }
@@ -106,7 +106,7 @@ fn answer<R: Runtime + AllocGlobal>(rt: &R, error: &Error) -> u8
     if error.use_stderr() { USAGE } else { HELD }
 }
 
-/// Runs a command on a line that is tapped: the octets of standard input and output go through as they are, and a capture has what is seen there.
+/// Runs a command on a tapped line: standard input and output pass through unchanged, and a capture records them.
 #[tactic(auto, using(crate::proofs::Failing::failed_before, crate::proofs::Failing::over_or_failed))]
 fn run_tapped<
     R: Runtime + AllocGlobal,
@@ -127,7 +127,7 @@ fn run_tapped<
     end_capture(host, teller, path, status, &mut output)
 }
 
-/// Runs a command but `soak` on standard input and output.
+/// Runs a command other than `soak` on standard input and output.
 #[tactic(auto, using(crate::proofs::Failing::was_run))]
 fn run_here<
     R: Runtime + AllocGlobal,
@@ -149,7 +149,7 @@ fn run_here<
     }
 }
 
-/// Does what a request asks for, but for `soak`, which waits for threads: of that, what it asks for.
+/// Carries out a request; a request of `soak`, which waits for threads, is only returned.
 fn obey<
     'a,
     R: Runtime + AllocGlobal,
@@ -163,7 +163,7 @@ fn obey<
     }
 }
 
-/// Does what the words of a command line say, the program's own name first, but for `soak`: of that, what it asks for.
+/// Carries out the words of a command line, the program's name first; a request of `soak` is only returned.
 fn serve<
     'a,
     R: Runtime + AllocGlobal,
@@ -177,7 +177,7 @@ fn serve<
     }
 }
 
-/// The words of the command line, and what stands in the place of standard streams that are closed.
+/// The words of the command line, and the stand-ins for closed standard streams.
 #[derive(Drop)]
 struct CommandLine {
     given: Vec<String>,
@@ -188,7 +188,7 @@ struct CommandLine {
 
 /// Reads the command line.
 ///
-/// A file that is opened takes the least number that is free. So that none takes that of a standard stream that is closed, three are taken first.
+/// A new file gets the lowest free number. Three are opened first, so none gets that of a closed standard stream.
 fn start<R: Runtime + AllocGlobal, H: Files<File = File>>(
     rt: &R,
     host: &H,
@@ -205,7 +205,7 @@ fn start<R: Runtime + AllocGlobal, H: Files<File = File>>(
     })
 }
 
-/// A command on a line has the host itself, whose files are those of the system. Only `soak` waits for threads.
+/// A command on a line uses the host itself, whose files are those of the system. Only `soak` waits for threads.
 fn main(rt: HostRuntime) -> ExitCode {
     let teller = Teller::new(&rt);
     let status = match start(&rt, &rt) {

@@ -1,4 +1,4 @@
-//! What a terminal on a line has measured.
+//! The measurements of a terminal on a line.
 ghost use Rattle.std.specs.Prelude.{◌≡◌, OnOk};
 ghost use Rattle.std.specs.Io.KnownBytes.{Appends};
 ghost use Rattle.std.specs.List.{flat_map};
@@ -9,7 +9,7 @@ use plain_text::write_line;
 use std::alloc::Global;
 use std::io::{self, Write};
 
-/// Writes all that was measured, in its order, `NAME N` a line.
+/// Writes all measurements, in their order, as lines `NAME N`.
 pub fn write_measures<W: Write>(
     alloc: Global,
     writer: &mut W,

@@ -1,4 +1,4 @@
-//! The lines of orders as a trace has them.
+//! The lines of orders in a trace.
 ghost use Rattle.std.specs.Prelude.{◌≡◌, map, IfOk};
 ghost use Rattle.mtp2_play.specs.TracedEnds.{is_reset, asks_measure, is_question, has_no_front, front_of_words, order_front};
 
@@ -15,21 +15,21 @@ fn is_reset(words: &[&str]) -> bool
     }
 }
 
-/// Whether an order with this first word and these behind it asks what was measured.
+/// Whether an order with this first word and these further words is a question about measurements.
 fn asks_measure(word: &str, words: &[&str]) -> bool
     ensures { result ≡ asks_measure word.now (map (λ w. w.now) words.now) }
 {
     word == "measure" && !is_reset(words)
 }
 
-/// Whether an order with this first word asks of a process.
+/// Whether an order with this first word asks about a process.
 fn is_question(word: &str) -> bool
     ensures { result ≡ is_question word.now }
 {
     word == "state" || word == "value"
 }
 
-/// Whether an order of these words only asks, or there are none.
+/// Whether the words are only a question, or there are none.
 fn has_no_front(words: &[&str]) -> bool
     ensures { result ≡ has_no_front (map (λ w. w.now) words.now) }
 {
@@ -39,7 +39,7 @@ fn has_no_front(words: &[&str]) -> bool
     }
 }
 
-/// The line of an order whose words these are.
+/// The line of an order with these words.
 fn front_of_words(alloc: Global, words: &[&str]) -> Result<Vec<u8>, AllocError>
     ensures { IfOk result (λ v. v.items ≡ front_of_words (map (λ w. w.now) words.now)) }
 {
@@ -49,8 +49,8 @@ fn front_of_words(alloc: Global, words: &[&str]) -> Result<Vec<u8>, AllocError>
     front_of(alloc, words)
 }
 
-/// The line of an order in front of what happens by it: `> ` and its words, parted by one space. Nothing, where it only asks: `state P`,
-/// `value P x`, `measure` or `measure NAME`; and where it has no words.
+/// Returns the line of an order, which comes before its events: `> ` and its words, separated by one space. It is empty
+/// for a question (`state P`, `value P x`, `measure` or `measure NAME`), and if there are no words.
 pub fn order_front(alloc: Global, order: &str) -> Result<Vec<u8>, AllocError>
     ensures { IfOk result (λ v. v.items ≡ order_front order.now) }
 {

@@ -1,4 +1,4 @@
-//! The command `draw` on the set that the command line names.
+//! The command `draw` for the set that the command line names.
 ghost use Rattle.std.specs.Prelude.{◌≡◌, ◌⊎◌};
 
 use crate::sets::{STDIN, own_set};
@@ -10,7 +10,7 @@ use std::fs;
 use std::io::Write;
 use std::rt::Runtime;
 
-/// What is to be drawn, by the words for it.
+/// Returns the picture to draw, from its words.
 pub fn picture_of(process: Option<&str>, states: bool) -> Picture<'_> {
     match process {
         Some(name) => {

@@ -17,7 +17,7 @@ use std::fs;
 use std::io::{Read, Write};
 use std::rt::Runtime;
 
-/// What of a script's run is seen beside its replies: whether the lines of commands are, and what is wanted of it in which file, if there is one.
+/// The views of a script's run beside its output: whether lines are echoed, and the view for a file, if any.
 #[derive(Drop)]
 struct Watch<F> {
     echo: bool,
@@ -25,7 +25,7 @@ struct Watch<F> {
     out: Option<F>,
 }
 
-/// Runs a script that comes from a reader on a set, and writes what is wanted of the run to a file.
+/// Runs a script from a reader on a set, and writes a view of the run to a file.
 #[tactic(auto, using(crate::proofs::Known::seen, crate::proofs::Known::seen_in_part, crate::proofs::Known::not_run))]
 fn see_on<H: Eprint, S: Read + Drop, T: Read + Drop, F: Write, W: Write>(
     alloc: Global,
@@ -61,7 +61,7 @@ fn see_on<H: Eprint, S: Read + Drop, T: Read + Drop, F: Write, W: Write>(
     )
 }
 
-/// Runs a script that comes from a reader on a set, and sees it: where the lines of its commands are shown nothing goes to a file.
+/// Runs a script from a reader on a set, with its views: if lines are echoed, nothing goes to a file.
 #[tactic(auto, using(crate::proofs::Known::not_run))]
 fn play_on<H: Eprint, S: Read + Drop, T: Read + Drop, F: Write, W: Write>(
     alloc: Global,
@@ -96,7 +96,7 @@ fn play_on<H: Eprint, S: Read + Drop, T: Read + Drop, F: Write, W: Write>(
     }
 }
 
-/// Runs a script of a file, or of standard input, on a set.
+/// Runs a script from a file, or from standard input, on a set.
 fn play_source<R: Runtime + AllocGlobal, H: Eprint, S: Read + Drop, F: Write, W: Write>(
     rt: &R,
     teller: &Teller<'_, H>,
@@ -139,7 +139,7 @@ fn play_source<R: Runtime + AllocGlobal, H: Eprint, S: Read + Drop, F: Write, W:
     }
 }
 
-/// Runs a script on a set of the program's own.
+/// Runs a script on a built-in set.
 fn play_own<R: Runtime + AllocGlobal, H: Eprint, F: Write, W: Write>(
     rt: &R,
     teller: &Teller<'_, H>,
@@ -200,8 +200,8 @@ fn play_text<R: Runtime + AllocGlobal, H: Eprint, S: Read + Drop, F: Write, W: W
     )
 }
 
-/// Runs `play` on the set and the script that the command line names, with what is wanted of the run in a file, where there is one. A file that can't be opened is
-/// a failure, whatever there is to say of the other text.
+/// Runs `play` on the set and the script that the command line names, with a view of the run in a file, if there is
+/// one. A file that can't be opened is a failure, whatever the other text is.
 fn run_watched<R: Runtime + AllocGlobal, H: Eprint, F: Write, W: Write>(
     rt: &R,
     teller: &Teller<'_, H>,
@@ -239,7 +239,7 @@ fn run_watched<R: Runtime + AllocGlobal, H: Eprint, F: Write, W: Write>(
     }
 }
 
-/// The file of what is to be seen of a run.
+/// The path of the file for a view of a run.
 fn path_of<'a>(sight: &Sight<'a>) -> &'a str
     ensures { result.now ≡ path_by sight.now }
 {
@@ -252,7 +252,7 @@ fn path_of<'a>(sight: &Sight<'a>) -> &'a str
     }
 }
 
-/// What of a run goes to that file, of what is to be seen of it.
+/// The view of a run that goes to that file.
 fn wanted_for(sight: &Sight<'_>, seen: &Seeing<'_>) -> Wanted
     ensures { result ≡ wanted_for seen.now.every seen.now.turns sight.now }
 {
@@ -268,7 +268,7 @@ fn wanted_for(sight: &Sight<'_>, seen: &Seeing<'_>) -> Wanted
     }
 }
 
-/// What is wanted of a run, where there is a file for it.
+/// The view of a run; a trace if there is no file.
 fn wanted_of(seen: &Seeing<'_>) -> Wanted
     ensures { result ≡ wanted_by seen.now }
 {
@@ -278,7 +278,7 @@ fn wanted_of(seen: &Seeing<'_>) -> Wanted
     }
 }
 
-/// The same with what is to be seen of the run.
+/// Runs `play` on the set and the script that the command line names, with the requested views.
 #[tactic(auto, using(crate::proofs::Known::was_played_on))]
 pub(crate) fn run_play<R: Runtime + AllocGlobal, H: Eprint, W: Write>(
     rt: &R,

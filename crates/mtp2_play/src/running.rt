@@ -25,16 +25,16 @@ use std::rt::Files;
 use std::thread::Threads;
 use std::time::Clock;
 
-/// What orders come from, and where reports go.
+/// The source of orders, and the sink of reports.
 #[derive(Drop)]
 struct Streams<'a, H: Eprint> {
     orders: OrderStream,
     reports: ReportStream<Errors<'a, H>>,
-    /// Where measurements go, if somewhere.
+    /// The file for measurements, if there is one.
     measures: Option<File>,
 }
 
-/// Tells by its name that something couldn't be opened.
+/// Reports by its name that a file couldn't be opened.
 fn told<H: Eprint>(teller: &Teller<'_, H>, path: Option<&str>, error: io::Error) -> io::Error {
     if let Some(path) = path {
         teller.tell(path, &error);
@@ -42,7 +42,7 @@ fn told<H: Eprint>(teller: &Teller<'_, H>, path: Option<&str>, error: io::Error)
     error
 }
 
-/// Makes a file anew, if one is named. One that can't be made is told by its name.
+/// Creates a file anew, if one is named. If that fails, it is reported by its name.
 fn create<H: Files<File = File> + Eprint>(
     host: &H,
     teller: &Teller<'_, H>,
@@ -57,7 +57,7 @@ fn create<H: Files<File = File> + Eprint>(
     }
 }
 
-/// Writes what was measured, where that goes somewhere.
+/// Writes the measurements, if there is a file for them.
 fn end_measures(alloc: Global, file: Option<File>, terminal: &Terminal) -> io::Result<()> {
     match file {
         Some(mut file) => write_measures(alloc, &mut file, terminal),
@@ -65,7 +65,7 @@ fn end_measures(alloc: Global, file: Option<File>, terminal: &Terminal) -> io::R
     }
 }
 
-/// The status of a run, which is 4 where what was measured couldn't be written.
+/// The status of a run; 4 if the measurements couldn't be written.
 fn status_of(status: u8, measured: io::Result<()>) -> u8
     requires { (status ≡ 0) ⊎ (status ≡ 4) }
     ensures zero { result ≡ 0 → status ≡ 0 }
@@ -77,7 +77,7 @@ fn status_of(status: u8, measured: io::Result<()>) -> u8
     }
 }
 
-/// Opens what orders come from, where reports go and where measurements go. What can't be opened is told by its name.
+/// Opens the source of orders, the sink of reports and the file for measurements. A failure is reported by the name.
 fn open_streams<'a, H: Files<File = File> + Threads + Eprint + AllocGlobal>(
     host: &'a H,
     teller: &Teller<'_, H>,
@@ -107,7 +107,7 @@ fn open_streams<'a, H: Files<File = File> + Threads + Eprint + AllocGlobal>(
     })
 }
 
-/// Ends a run: what was measured is written, and reports that are still to go on are waited for. Gives the exit status: the one that is given, or 4.
+/// Ends a run: writes the measurements and waits for pending reports. Returns the exit status: `status`, or 4.
 fn end_streams<H: Files + Eprint + Clock + AllocGlobal>(
     host: &H,
     measures: Option<File>,
@@ -127,7 +127,7 @@ fn end_streams<H: Files + Eprint + Clock + AllocGlobal>(
     }
 }
 
-/// Runs a terminal on its line, behind the octets that go ahead.
+/// Runs a terminal on its line, after the octets sent ahead.
 fn serve<O: Orders, P: Reports, R: Read, W: Write>(
     alloc: Global,
     end: &LineEnd<'_>,
@@ -152,7 +152,7 @@ fn serve<O: Orders, P: Reports, R: Read, W: Write>(
     run_link(alloc, desk, end.bits, ahead, reader, writer)
 }
 
-/// Has a terminal at its desk speak on its line, and ends its run.
+/// Runs a terminal at its desk on its line, and ends its run.
 fn speak_plain<H: Files<File = File> + Threads + Eprint + Clock + AllocGlobal, R: Read, W: Write>(
     host: &H,
     end: &LineEnd<'_>,
@@ -186,7 +186,7 @@ fn speak_plain<H: Files<File = File> + Threads + Eprint + Clock + AllocGlobal, R
     )
 }
 
-/// The same of one with a trace.
+/// Runs a terminal with a trace at its desk on its line, and ends its run.
 fn speak_traced<H: Files<File = File> + Threads + Eprint + Clock + AllocGlobal, R: Read, W: Write>(
     host: &H,
     teller: &Teller<'_, H>,
@@ -223,7 +223,7 @@ fn speak_traced<H: Files<File = File> + Threads + Eprint + Clock + AllocGlobal, 
     )
 }
 
-/// Has a terminal speak on its line, with a trace where one is asked for.
+/// Runs a terminal on its line, with a trace if one is requested.
 fn speak<H: Files<File = File> + Threads + Eprint + Clock + AllocGlobal, R: Read, W: Write>(
     host: &H,
     teller: &Teller<'_, H>,
@@ -263,14 +263,15 @@ fn speak<H: Files<File = File> + Threads + Eprint + Clock + AllocGlobal, R: Read
     speak_traced(host, teller, end, &mut desk, measures, reader, writer)
 }
 
-/// Puts one end of a link on a line: line octets come from a reader, and one goes to a writer for each, after those that go ahead (8,000 at
-/// most). Cyclic retransmission is forced within the limits of the set that is named, but for those that are chosen. A trace of its processes
-/// goes to a file, if one is named. Orders, reports and a trace that can't be opened are told by their names.
+/// Puts one end of a link on a line: it reads line octets from a reader, and writes one for each, after those sent
+/// ahead (at most 8,000). Chosen limits force cyclic retransmission, or else those of the named set. A trace of its
+/// processes goes to a file, if named. Orders, reports and a trace that can't be opened are reported by name.
 ///
-/// Gives the exit status: 0 at the end of what there is to read, or at the order `quit`; 2 where the text is refused or lacks a name that a
-/// terminal wants; 4 where memory, a file, a read or a write fails, of reports and of a trace too. However it ends, what is written on the line
-/// is a beginning of what the terminal gives for octets that were read. (Tests alone show that a refusal is told on standard error, and that the
-/// text of its processes is read first, then its orders and reports are opened, then its trace, and then its line.)
+/// Returns the exit status. 0: the input ended, or at the order `quit`. 2: the text is refused or lacks a name that a
+/// terminal needs. 4: memory, a file, a read or a write failed, also of reports and of a trace. With any status the
+/// output on the line is a beginning of what the terminal sends for the octets read. (Only tests show that standard
+/// error gets a refusal, and that the text is read first; then orders and reports are opened, then the trace, then the
+/// line.)
 pub fn run_line<
     H: Files<File = File> + Threads + Eprint + Clock + AllocGlobal,
     S: Read + Drop,

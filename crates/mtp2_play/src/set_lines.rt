@@ -13,10 +13,10 @@ use std::io::{self, ErrorKind};
 use std::rt::Files;
 use std::thread::Threads;
 
-/// How many rounds lie between two tries to open a line.
+/// The number of rounds between two attempts to open a line.
 const BETWEEN: u64 = 1_000;
 
-/// For so many rounds no line is open before the run ends.
+/// The number of rounds without an open line after which the run ends.
 const PATIENCE: u64 = 10_000;
 
 /// A line that is open.
@@ -29,16 +29,16 @@ struct Open {
 /// A line, open or not.
 #[derive(Drop)]
 struct SetLine<'a> {
-    /// Where its octets come from.
+    /// The path of its input.
     input: &'a str,
-    /// Where they go to, where that is another file.
+    /// The path of its output, if that is another file.
     output: Option<&'a str>,
-    /// How many octets go ahead of others.
+    /// The number of octets sent ahead.
     ahead: usize,
     open: Option<Open>,
-    /// For how many rounds it hasn't been open.
+    /// The number of rounds for which it hasn't been open.
     shut: u64,
-    /// Whether it failed, and didn't end, as it was open last.
+    /// Whether it failed, rather than ended, when it was last open.
     failed: bool,
     /// Whether octets couldn't be written since it was opened.
     broken: bool,
@@ -52,9 +52,9 @@ pub struct SetLines<'a, H: Eprint> {
     alloc: Global,
     bits: Bits,
     lines: Vec<SetLine<'a>>,
-    /// Octets as they go out.
+    /// A buffer for the octets to send.
     part: Vec<u8>,
-    /// What is captured, if anything is.
+    /// The capture, if there is one.
     pub tap: Option<SetTap>,
 }
 
@@ -66,7 +66,7 @@ fn paths(word: &str) -> (&str, Option<&str>) {
     }
 }
 
-/// Opens a file to read and to write. At the first try it is told by its name where that can't be.
+/// Opens a file for reading and writing. On the first attempt a failure is reported by the name.
 fn open_told<H: Files<File = File> + Eprint>(
     host: &H,
     teller: &Teller<'_, H>,
@@ -85,7 +85,7 @@ fn open_told<H: Files<File = File> + Eprint>(
 }
 
 impl SetLine<'_> {
-    /// It isn't open any more.
+    /// Marks the line as no longer open.
     fn close(&mut self, failed: bool) {
         self.open = None;
         self.shut = 1;
@@ -93,7 +93,7 @@ impl SetLine<'_> {
         self.broken = false;
     }
 
-    /// Opens it. One file for both ways is opened once: a channel of a card has one that holds it.
+    /// Opens the line. One file for both directions is opened once: only one process can hold a card's channel.
     fn try_open<H: Files<File = File> + Threads + Eprint>(
         &self,
         host: &H,
@@ -112,7 +112,7 @@ impl SetLine<'_> {
         })
     }
 
-    /// Opens it, where it is time to try.
+    /// Opens the line, if it is time for an attempt.
     fn reopen<H: Files<File = File> + Threads + Eprint>(
         &mut self,
         host: &H,
@@ -138,7 +138,7 @@ impl SetLine<'_> {
         }
     }
 
-    /// What came of it, as far as it counts.
+    /// Takes the octets received, as many as may be passed on.
     fn take<H: Files<File = File> + Threads + Eprint>(
         &mut self,
         host: &H,
@@ -164,7 +164,7 @@ impl SetLine<'_> {
         }
     }
 
-    /// Octets go out. Where they can't be written the line has failed, as is told next.
+    /// Sends octets. If they can't be written, the line has failed; this is reported next.
     fn give(&mut self, octets: &[u8]) {
         match &mut self.open {
             Some(open) => {
@@ -178,11 +178,11 @@ impl SetLine<'_> {
 }
 
 impl<'a, H: Eprint> SetLines<'a, H> {
-    /// Lines that these words name, none of them open, on which so many octets go ahead of others.
+    /// Returns the lines that these words name, none of them open, on which `ahead` octets are sent ahead.
     ///
     /// # Errors
     ///
-    /// Where there is no memory.
+    /// Out of memory.
     pub fn shut(
         host: &'a H,
         teller: &'a Teller<'a, H>,

@@ -1,4 +1,4 @@
-//! What is captured of a set's lines.
+//! The captures of a set's lines.
 ghost use Rattle.std.specs.Prelude.{◌≡◌, ◌⊎◌};
 
 use line_streams::{Capture, Kept, RecordStream, Seen, header, record};
@@ -8,27 +8,27 @@ use std::io::{self, Write};
 use std::rt::Files;
 use std::time::Clock;
 
-/// A line of which units are captured.
+/// A line whose signal units are captured.
 #[derive(Drop)]
 struct Tapped {
     capture: Capture,
-    /// What came in this round.
+    /// The octets received in this round.
     came: Vec<u8>,
 }
 
-/// What is captured of a set's lines: of each the units that went out and came in by octets of the same rounds, those that say nothing new left out. A
-/// unit has the time of its round.
+/// A capture of a set's lines: the signal units of each line, from the octets sent and received in the same rounds,
+/// without repeats. A unit has the time of its round.
 #[derive(Drop)]
 pub struct SetTap {
     lines: Vec<Tapped>,
     sink: RecordStream,
-    /// The microsecond at which the round began.
+    /// The time at which the round began, in microseconds.
     at: u64,
-    /// What failed: from then on nothing is captured, and the run ends.
+    /// The error that ended the capture: from then on nothing is captured, and the run ends.
     trouble: Option<io::Error>,
 }
 
-/// Writes the record of a unit, if there is one, with this microsecond.
+/// Writes the record of a signal unit, if there is one, with this time in microseconds.
 fn put(seen: Option<Seen>, at: u64, sink: &mut RecordStream) -> io::Result<()> {
     let Some(seen) = seen else {
         return Ok(());
@@ -49,7 +49,7 @@ fn put(seen: Option<Seen>, at: u64, sink: &mut RecordStream) -> io::Result<()> {
 }
 
 impl Tapped {
-    /// As many octets went out as came in.
+    /// Captures the octets sent, as many as were received.
     fn exchange(&mut self, gone: &[u8], at: u64, sink: &mut RecordStream) -> io::Result<()> {
         for (gone, come) in gone.iter().zip(self.came.as_slice()) {
             let Kept { went, came } = self.capture.exchange(*gone, *come)?;
@@ -61,11 +61,11 @@ impl Tapped {
 }
 
 impl SetTap {
-    /// Before the first octet of so many lines. The records go to a sink, which has pcap's header from now on.
+    /// Returns a capture of `links` lines before their first octets, and writes pcap's header to its sink.
     ///
     /// # Errors
     ///
-    /// Where there is no memory, or the header can't be written.
+    /// Out of memory, or the header can't be written.
     pub fn start(alloc: Global, links: usize, sink: RecordStream) -> io::Result<SetTap> {
         let mut lines = Vec::with_capacity(alloc, links)?;
         for link in 0..links {
@@ -84,12 +84,12 @@ impl SetTap {
         })
     }
 
-    /// A round begins.
+    /// Begins a round.
     pub fn begin(&mut self, now: u64) {
         self.at = now.saturating_mul(1_000);
     }
 
-    /// Octets came on a line, the first bit of each its lowest.
+    /// Notes octets received on a line; the first bit of each is its least significant one.
     pub fn come(&mut self, link: usize, octets: &[u8]) {
         let Some(line) = self.lines.get_mut(link) else {
             return;
@@ -100,7 +100,7 @@ impl SetTap {
         }
     }
 
-    /// Octets go on a line. Those that go ahead aren't captured.
+    /// Captures octets sent on a line, except those sent ahead.
     pub fn go(&mut self, link: usize, octets: &[u8]) {
         let Some(line) = self.lines.get_mut(link) else {
             return;
@@ -114,13 +114,13 @@ impl SetTap {
         line.came.clear();
     }
 
-    /// Whether something failed.
+    /// Returns whether something failed.
     pub fn has_failed(&self) -> bool {
         self.trouble.is_some()
     }
 
-    /// Ends it: waits for records that are still to go on, and tells how many were lost, with the millisecond. Gives the exit status: the one that is given,
-    /// or 4 where a record couldn't be written or told.
+    /// Ends the capture: waits until pending records are written, and reports how many were lost, with the millisecond.
+    /// Returns the exit status: `status`, or 4 if a record couldn't be written or the loss couldn't be reported.
     pub fn end<H: Files + Eprint + Clock + AllocGlobal>(
         &mut self,
         host: &H,

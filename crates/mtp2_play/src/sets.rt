@@ -1,4 +1,4 @@
-//! The sets of the program's own, and what sets are called.
+//! The built-in sets, and the names of sets.
 ghost use Rattle.std.specs.Prelude.{◌≡◌};
 ghost use Rattle.script_check.specs.Checked.{own_word};
 ghost use Rattle.mtp2_play.specs.Sets.{word_text};
@@ -6,10 +6,10 @@ ghost use Rattle.mtp2_play.specs.Sets.{word_text};
 use mtp2_words::{Named, OwnSet};
 use script_check::SetWord;
 
-/// What standard input is called where a read of it fails.
+/// The name of standard input in the report of a failed read.
 pub const STDIN: &str = "standard input";
 
-/// A set of the program's own, with no reader.
+/// Returns a built-in set, which needs no reader.
 pub fn own_set<'a>(own: OwnSet) -> SetWord<&'a [u8]>
     ensures { result ≡ own_word own }
 {

@@ -14,7 +14,7 @@ use std::rt::Runtime;
 use std::sync::Wait;
 use std::thread::Threads;
 
-/// Runs `soak` on a script that comes from a reader.
+/// Runs `soak` on a script from a reader.
 #[tactic(auto, using(crate::proofs::Known::soaked, crate::proofs::Known::in_vain, crate::proofs::Known::turned_down))]
 fn soak_on<R: Runtime + AllocGlobal + Threads + Wait + Sync, H: Eprint, S: Read + Drop, W: Write>(
     rt: &R,
@@ -65,7 +65,7 @@ fn run_soak<R: Runtime + AllocGlobal + Threads + Wait + Sync, H: Eprint, W: Writ
     }
 }
 
-/// Has threads serve links, where that is what the words of a command line ask for. Gives the exit status.
+/// Lets threads serve links, as the words of a command line request. Returns the exit status.
 pub fn serve_links<R: Runtime + AllocGlobal + Threads + Wait + Sync, H: Eprint>(
     rt: &R,
     teller: &Teller<'_, H>,

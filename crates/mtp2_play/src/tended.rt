@@ -26,15 +26,15 @@ use std::thread;
 use std::thread::Threads;
 use std::time::{Clock, Duration, Instant};
 
-/// How many octets of each line are taken in a round, and how many while rounds are late.
+/// The number of octets of each line taken in a round; `LATE_PART` is the number while rounds are late.
 const PART: usize = 4_096;
 
 const LATE_PART: usize = 16;
 
-/// A round that begins more than so many milliseconds after its time is late.
+/// The number of milliseconds after its time from which a round is late.
 const LATE: u64 = 4;
 
-/// Waits until a round is due, counted from the beginning. Whether it is late.
+/// Waits until a round is due, counted from the beginning. Returns whether it is late.
 fn wait<R: Clock>(rt: &R, begin: Instant, round: u64) -> io::Result<bool> {
     let gone = u64::try_from(begin.elapsed(rt)?.as_millis()).unwrap_or(u64::MAX);
     if gone < round {
@@ -44,7 +44,7 @@ fn wait<R: Clock>(rt: &R, begin: Instant, round: u64) -> io::Result<bool> {
     Ok(gone - round > LATE)
 }
 
-/// Round after round, each due with a millisecond of the clock, up to `quit` or the end of all lines.
+/// Makes round after round, each due with a millisecond of the clock, up to `quit` or the end of all lines.
 fn go_round<H: Clock + AllocGlobal, L: Lines, O: Orders, P: Reports>(
     host: &H,
     desk: &mut SetDesk<O, P>,
@@ -71,7 +71,7 @@ fn go_round<H: Clock + AllocGlobal, L: Lines, O: Orders, P: Reports>(
     Err(io::Error::from(ErrorKind::Other))
 }
 
-/// Where a capture goes that is asked for, with its header. What can't be opened is told by its name, and the exit status is given.
+/// Opens a requested capture, with its header. A failure is reported by the name, and the exit status returned.
 fn tap_of<H: Files<File = File> + Threads + Eprint + AllocGlobal>(
     host: &H,
     teller: &Teller<'_, H>,
@@ -93,7 +93,7 @@ fn tap_of<H: Files<File = File> + Threads + Eprint + AllocGlobal>(
     }
 }
 
-/// Ends a capture, if there is one. Gives the exit status: the one that is given, or 4.
+/// Ends a capture, if there is one. Returns the exit status: `status`, or 4.
 fn end_tap<H: Files + Eprint + Clock + AllocGlobal>(
     host: &H,
     teller: &Teller<'_, H>,
@@ -109,7 +109,7 @@ fn end_tap<H: Files + Eprint + Clock + AllocGlobal>(
     }
 }
 
-/// The exit status of a run, by how it and its reports ended.
+/// The exit status of a run, from the results of the run and of its reports.
 fn status_of(ran: io::Result<()>, ended: io::Result<()>) -> u8
     ensures ran { result ≡ 0 → IsOk ran }
     ensures status { (result ≡ 0) ⊎ (result ≡ 4) }
@@ -123,7 +123,7 @@ fn status_of(ran: io::Result<()>, ended: io::Result<()>) -> u8
     }
 }
 
-/// Runs a set on its lines. Gives the exit status.
+/// Runs a link set on its lines. Returns the exit status.
 fn serve<H: Files<File = File> + Threads + Eprint + Clock + AllocGlobal>(
     host: &H,
     teller: &Teller<'_, H>,
@@ -162,7 +162,7 @@ fn serve<H: Files<File = File> + Threads + Eprint + Clock + AllocGlobal>(
     end_tap(host, teller, end.capture, open_lines.tap.take(), status)
 }
 
-/// Opens what orders come from and where reports go, and runs a set. What can't be opened is told by its name. Gives the exit status.
+/// Opens the source of orders and the sink of reports, and runs a link set. A failure is reported by the name.
 fn begin<H: Files<File = File> + Threads + Eprint + Clock + AllocGlobal>(
     host: &H,
     teller: &Teller<'_, H>,
@@ -187,7 +187,7 @@ fn begin<H: Files<File = File> + Threads + Eprint + Clock + AllocGlobal>(
     serve(host, teller, lines, end, tender, orders, reports)
 }
 
-/// Runs a set over processes. Gives the exit status.
+/// Runs a link set with a process set. Returns the exit status.
 fn run_on<H: Files<File = File> + Threads + Eprint + Clock + AllocGlobal, S: Read + Drop>(
     host: &H,
     teller: &Teller<'_, H>,
@@ -215,7 +215,7 @@ fn run_on<H: Files<File = File> + Threads + Eprint + Clock + AllocGlobal, S: Rea
     }
 }
 
-/// Runs a set over processes whose text comes from a reader. Gives the exit status.
+/// Runs a link set with a process set whose text comes from a reader. Returns the exit status.
 fn run_text<H: Files<File = File> + Threads + Eprint + Clock + AllocGlobal, S: Read + Drop>(
     host: &H,
     teller: &Teller<'_, H>,
@@ -229,7 +229,7 @@ fn run_text<H: Files<File = File> + Threads + Eprint + Clock + AllocGlobal, S: R
     run_on(host, teller, named, lines, end, SetWord::Text(text))
 }
 
-/// Runs a set over processes of the program's own. Gives the exit status.
+/// Runs a link set with a built-in process set. Returns the exit status.
 fn run_own<H: Files<File = File> + Threads + Eprint + Clock + AllocGlobal>(
     host: &H,
     teller: &Teller<'_, H>,
@@ -243,8 +243,8 @@ fn run_own<H: Files<File = File> + Threads + Eprint + Clock + AllocGlobal>(
     run_on(host, teller, named, lines, end, own_set(own))
 }
 
-/// Runs `set`: one end of a set of links, each on its line. Gives the exit status: 0 behind `quit`, or once no line could be opened for 10 s and all
-/// have ended; 2 where the text is refused or lacks a name; 4 where memory, orders or reports fail, or a line did.
+/// Runs `set`: one end of a link set on its lines. Returns the exit status. 0: after `quit`, or no line could be opened
+/// for 10 s and all have ended. 2: the text is refused or lacks a name. 4: memory, orders, reports or a line failed.
 pub fn run_set<H: Files<File = File> + Threads + Eprint + Clock + AllocGlobal>(
     host: &H,
     teller: &Teller<'_, H>,

@@ -7,7 +7,7 @@ use mtp2_words::OwnSet;
 use script_check::{FAILED, HELD};
 use std::io::Write;
 
-/// Prints a text. Gives the exit status.
+/// Prints a text. Returns the exit status.
 fn print_text<W: Write>(text: &str, writer: &mut W) -> u8
     ensures held { result ≡ 0 → Appends (W.contents writer.old) (W.contents writer.new) text.now }
     ensures ends { (result ≡ 0) ⊎ (result ≡ 4) }
@@ -18,7 +18,7 @@ fn print_text<W: Write>(text: &str, writer: &mut W) -> u8
     }
 }
 
-/// Prints the text of a set of the program's own. Gives the exit status: 0, or 4 where a write fails.
+/// Prints the text of a built-in set. Returns the exit status: 0, or 4 if a write fails.
 pub fn print_own<W: Write>(set: OwnSet, writer: &mut W) -> u8
     ensures { IsPrinted set result (W.contents writer.old) (W.contents writer.new) }
 {

@@ -21,8 +21,8 @@ use std::rt::Files;
 use std::thread::Threads;
 use std::time::Clock;
 
-/// A terminal to which nothing happened, with a trace to a file of this name; whether what has no effect is traced too. What can't be opened is
-/// told by its name.
+/// Returns a new terminal with a trace to the file at `path`; `every`: whether dull events are traced too. A file that
+/// can't be opened is reported by its name.
 pub fn open_traced<H: Files<File = File> + Threads + Eprint + AllocGlobal>(
     host: &H,
     teller: &Teller<'_, H>,
@@ -56,7 +56,7 @@ pub fn open_traced<H: Files<File = File> + Threads + Eprint + AllocGlobal>(
     Ok(TracedEnd { end, trace })
 }
 
-/// An end on a line, before any octet came or went, with what gives it orders and where it tells what becomes of it.
+/// Returns an end on a line, before any octet was received or sent, with its source of orders and sink of reports.
 pub fn traced_desk<T, O, P>(traced: TracedEnd<T>, orders: O, reports: P) -> Desk<TracedEnd<T>, O, P>
     ensures terminal { result.terminal ≡ traced }
     ensures silent { IsSilent result.voice }
@@ -72,7 +72,7 @@ pub fn traced_desk<T, O, P>(traced: TracedEnd<T>, orders: O, reports: P) -> Desk
     }
 }
 
-/// Runs an end on its line as `run_link` does, and traces what happens.
+/// Runs an end on its line as `run_link` does, and traces its events.
 fn run_traced<T: Write, O: Orders, P: Reports, R: Read, W: Write>(
     alloc: Global,
     desk: &mut Desk<TracedEnd<T>, O, P>,
@@ -96,7 +96,7 @@ fn run_traced<T: Write, O: Orders, P: Reports, R: Read, W: Write>(
     }
 }
 
-/// Runs an end on its line, behind the octets that go ahead, and traces what happens.
+/// Runs an end on its line, after the octets sent ahead, and traces its events.
 pub fn serve_traced<T: Write, O: Orders, P: Reports, R: Read, W: Write>(
     alloc: Global,
     end: &LineEnd<'_>,
@@ -121,8 +121,8 @@ pub fn serve_traced<T: Write, O: Orders, P: Reports, R: Read, W: Write>(
     run_traced(alloc, desk, end.bits, ahead, reader, writer)
 }
 
-/// Ends a trace: waits for lines that are still to go on, and tells how often some were lost, with the millisecond. Gives the exit status: the
-/// one that is given, or 4 where the trace went no further, or that couldn't be told.
+/// Ends a trace: waits until pending lines are written, and reports how often some were lost, with the millisecond.
+/// Returns the exit status: `status`, or 4 if the trace was cut short or the loss couldn't be reported.
 pub fn end_trace<H: Eprint + Clock + AllocGlobal>(
     host: &H,
     teller: &Teller<'_, H>,

@@ -1,4 +1,4 @@
-//! An end of a link of which a trace is made.
+//! An end of a link with a trace.
 ghost use Rattle.std.specs.Prelude.{OnOk};
 ghost use Rattle.script_play.specs.TracedActs.{Follows};
 ghost use Rattle.mtp2_play.specs.TracedEnds.{FollowsBehind};
@@ -10,16 +10,16 @@ use script_play::Tracer;
 use std::alloc::Global;
 use std::io::{self, ErrorKind, Write};
 
-/// A trace of what happens to the processes of an end of a link.
+/// A trace of the events of the processes of an end of a link.
 #[derive(Drop)]
 pub struct Trace<W> {
-    /// Where its memory is.
+    /// The allocator.
     pub alloc: Global,
-    /// The processes once more, up to what is traced of them.
+    /// A replica of the processes, up to the last traced event.
     pub tracer: Tracer,
-    /// Where the lines go.
+    /// The writer of the lines.
     pub out: W,
-    /// Why no more go there, if something failed.
+    /// The error after which no more lines are written, if any.
     pub trouble: Option<io::Error>,
 }
 
@@ -33,7 +33,7 @@ pub struct TracedEnd<W> {
 }
 
 impl<W> Trace<W> {
-    /// Keeps what failed.
+    /// Keeps an error.
     fn fail(&mut self, error: io::Error) -> io::Error {
         self.trouble = Some(error);
         io::Error::from(ErrorKind::Other)
@@ -41,7 +41,7 @@ impl<W> Trace<W> {
 }
 
 impl<W: Write> Trace<W> {
-    /// Traces what has happened to the end since. What fails of that is kept.
+    /// Traces the events of the end since the last call. An error is kept.
     fn follow(&mut self, end: &LinkEnd) -> io::Result<()>
         ensures { OnOk result (Follows end.now.terminal.processes.book self.old.tracer self.new.tracer (W.contents self.old.out) (W.contents self.new.out)) }
     {
@@ -54,7 +54,7 @@ impl<W: Write> Trace<W> {
         }
     }
 
-    /// The same, behind the line of an order.
+    /// Traces the line of an order, followed by the events of the end since the last call.
     fn follow_order(&mut self, front: &[u8], end: &LinkEnd) -> io::Result<()>
         ensures { OnOk result (FollowsBehind front.now end.now.terminal self.old.tracer self.new.tracer (W.contents self.old.out) (W.contents self.new.out)) }
     {

@@ -1,4 +1,4 @@
--- What was written is the lines so far.
+-- The text written is the lines so far.
 use Rattle.std.proofs.Common.{take}
 use Rattle.std.specs.List.{flat_map}
 use Rattle.std.specs.Io.KnownBytes.{Appends}
