@@ -1,3 +1,4 @@
 pub mod Opening
 pub mod Outcomes
 pub mod Saving
+pub mod Scratch

@@ -131,7 +131,7 @@ pub(crate) fn forget_timer(actors: &mut [Actor], number: usize, timer: TimerNumb
 
 /// Puts the signal of a timer into an actor's port, after all others; an earlier one of that timer is removed.
 #[tactic(auto, using(crate::proofs::TimerItems::none_left))]
-fn hear(actor: &mut Actor, timer: TimerNumber)
+pub(crate) fn hear(actor: &mut Actor, timer: TimerNumber)
     requires { timer.0 < MOST_TIMERS_EACH }
     ensures { actor.new ≡ hears timer.0 actor.old }
 {

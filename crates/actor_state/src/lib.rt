@@ -11,6 +11,7 @@ mod offer;
 mod open;
 mod refusal;
 mod ring;
+mod scratch;
 mod turn;
 
 pub use link_actors::LinkActors;

@@ -39,7 +39,7 @@ fn opened_actor(
 }
 
 /// A copy of an actor's turn, if it has one out.
-fn copied_given(given: &Option<Given>) -> Option<Given>
+pub(crate) fn copied_given(given: &Option<Given>) -> Option<Given>
     ensures { result ≡ given.now }
 {
     match given {
