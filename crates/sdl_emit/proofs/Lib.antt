@@ -1,5 +1,5 @@
 pub mod Collecting
-pub mod Copies
+pub mod CopiedCode
 pub mod Emitting
 pub mod Gathering
 pub mod Landed

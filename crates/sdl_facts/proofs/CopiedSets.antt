@@ -11,7 +11,7 @@ use Rattle.sdl_meaning.specs.Outcomes.{Scope}
 use Rattle.sdl_meaning.specs.Code.{text_at}
 use Rattle.sdl_facts.specs.Entries.{entry_at, met, connection_met}
 use Rattle.sdl_facts.specs.Facts.{text_sets}
-use Rattle.sdl_emit.proofs.Copies.{there, nowhere, copy_is}
+use Rattle.sdl_emit.proofs.CopiedCode.{there, nowhere, copy_is}
 use Rattle.sdl_facts.proofs.TrimmedSets.{met_same, sets_same}
 
 module _ (c : Scope) (t : Transition) (whole : Text) (is : text_of t ≡ trimmed whole) where

@@ -6,7 +6,7 @@ use Rattle.sdl_emit.specs.Scopes.{scope_in}
 use Rattle.sdl_meaning.specs.Code.{add_number, joined}
 use Rattle.sdl_emit.specs.Placing.{AreMarked}
 use Rattle.sdl_emit.proofs.Gathering.{first_gathered, next_gathered, last_gathered, gathered_few, next_there}
-use Rattle.sdl_emit.proofs.Copies.{named_so, joined_so}
+use Rattle.sdl_emit.proofs.CopiedCode.{named_so, joined_so}
 use Rattle.sdl_emit.proofs.placing.place_connections.Goals as goal
 
 pub loop-next-init : goal.loop-next-init

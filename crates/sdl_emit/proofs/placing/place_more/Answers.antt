@@ -3,7 +3,7 @@ use Rattle.std.specs.Prelude.{OnOk, fold}
 use Rattle.sdl_emit.specs.Scopes.{scope_in}
 use Rattle.sdl_meaning.specs.Code.{text_at, add_number}
 use Rattle.sdl_emit.proofs.Emitting.{each_named}
-use Rattle.sdl_emit.proofs.Copies.{copies_length, copy_is, named_so, joined_so}
+use Rattle.sdl_emit.proofs.CopiedCode.{copies_length, copy_is, named_so, joined_so}
 use Rattle.sdl_emit.proofs.placing.place_more.Goals as goal
 
 pub bounds-copies-number : goal.bounds-copies-number

@@ -1,7 +1,7 @@
 use Rattle.std.proofs.Common.{length, ◌++◌, ap, sym, ◌∙◌, append-nil, arith}
 use Rattle.sdl_emit.specs.Scopes.{scope_in, places_by}
 use Rattle.sdl_meaning.specs.Code.{text_at, text_code}
-use Rattle.sdl_emit.proofs.Copies.{copy_is, named_so, size_so, code_so, no_text}
+use Rattle.sdl_emit.proofs.CopiedCode.{copy_is, named_so, size_so, code_so, no_text}
 use Rattle.sdl_emit.proofs.texts.emit_connection.Goals as goal
 
 pub emit_text-requires-clause-named : goal.emit_text-requires-clause-named

@@ -3,7 +3,7 @@ use Rattle.sdl_ast.specs.Views.{text_of}
 use Rattle.sdl_emit.specs.Scopes.{scope_in, places_by, piece_in}
 use Rattle.sdl_meaning.specs.Code.{places_code}
 use Rattle.sdl_emit.proofs.Emitting.{each_named, text_fits, connections_follow, piece_whole}
-use Rattle.sdl_emit.proofs.Copies.{named_so, size_so, code_so}
+use Rattle.sdl_emit.proofs.CopiedCode.{named_so, size_so, code_so}
 use Rattle.sdl_emit.proofs.texts.emit_piece.Goals as goal
 
 pub returns : goal.returns

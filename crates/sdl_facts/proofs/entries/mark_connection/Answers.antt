@@ -5,7 +5,7 @@ use Rattle.sdl_meaning.specs.Code.{text_at}
 use Rattle.sdl_facts.specs.Entries.{entry_at}
 use Rattle.sdl_facts.specs.Facts.{text_sets}
 use Rattle.sdl_emit.proofs.Emitting.{each_named}
-use Rattle.sdl_emit.proofs.Copies.{copy_is, named_so, no_text}
+use Rattle.sdl_emit.proofs.CopiedCode.{copy_is, named_so, no_text}
 use Rattle.sdl_facts.proofs.CopiedSets.{sets_so}
 use Rattle.sdl_facts.proofs.entries.mark_connection.Goals as goal
 

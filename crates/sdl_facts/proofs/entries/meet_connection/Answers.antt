@@ -4,7 +4,7 @@ use Rattle.sdl_emit.specs.Scopes.{scope_in}
 use Rattle.sdl_meaning.specs.Code.{text_at}
 use Rattle.sdl_facts.specs.Entries.{entry_at, met}
 use Rattle.sdl_emit.proofs.Emitting.{each_named}
-use Rattle.sdl_emit.proofs.Copies.{copy_is, named_so}
+use Rattle.sdl_emit.proofs.CopiedCode.{copy_is, named_so}
 use Rattle.sdl_facts.proofs.CopiedSets.{copy_met, no_met}
 use Rattle.sdl_facts.proofs.entries.meet_connection.Goals as goal
 

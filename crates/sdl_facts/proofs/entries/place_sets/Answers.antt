@@ -7,7 +7,7 @@ use Rattle.sdl_facts.specs.Reads.{everything}
 use Rattle.sdl_facts.specs.Entries.{AreOfAll}
 use Rattle.sdl_facts.proofs.Marking.{piece_whole}
 use Rattle.sdl_facts.proofs.Unchanged.{start_kept, met_kept}
-use Rattle.sdl_emit.proofs.Copies.{named_so}
+use Rattle.sdl_emit.proofs.CopiedCode.{named_so}
 use Rattle.sdl_facts.proofs.CopiedSets.{sets_so, met_so}
 use Rattle.sdl_facts.proofs.entries.place_sets.Goals as goal
 
