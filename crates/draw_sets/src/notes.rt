@@ -377,9 +377,8 @@ fn lines_noted(
     Ok(text)
 }
 
-/// Returns the lines of transitions in which two texts differ, each unchanged. Below that of a transition of both texts
-/// are the statements that differ, with line numbers, and the changed connections that it reaches. After all lines
-/// follow these connections.
+/// Returns the lines of transitions in which two texts differ, each unchanged. Below one that both texts have follow
+/// the statements that differ, numbered, and the changed connections that it reaches, which come after all lines.
 ///
 /// # Errors
 ///
