@@ -1,6 +1,6 @@
-"""Programs that are measured beside each other: `trials` as it is now, and where TRIALS_BEFORE names one, that of the commit before.
+"""Programs that are measured beside each other: `trials` as it is now, and if TRIALS_BEFORE names one, that of the commit before.
 
-TRIALS names another program of now; else it is proved and built, where that isn't done. RUNS says how often each runs; the best run of each counts, since a
+TRIALS names another program of now; else it is proved and built, if that isn't done. RUNS says how often each runs; the best run of each counts, since a
 shared machine slows some by half."""
 import os
 import pathlib
@@ -15,7 +15,7 @@ NONE_BEFORE = """no program of the commit before: TRIALS_BEFORE names none. To m
 
 
 def asked(words, head, *usual):
-    """The numbers of a command line, the first of 1 or more; those that it doesn't have are the usual ones. Else all ends with how it is called, as the head says."""
+    """The numbers of a command line, the first of 1 or more; those that it doesn't have are the usual ones. Else ends all with the usage of the head."""
     if len(words) > len(usual) or not all(it.isdecimal() for it in words) or (words and int(words[0]) == 0):
         sys.exit(head.rsplit("\n\n", 1)[1])
     return [*map(int, words), *usual[len(words):]]
@@ -30,7 +30,7 @@ def runs(usual):
 
 
 def that_runs(word, name):
-    """The path of a program; where there is none, all ends."""
+    """The path of a program; if there is none, ends all."""
     if not os.path.isfile(name) or not os.access(name, os.X_OK):
         sys.exit(f"{word}: {name} is no program that can be run")
     return os.path.abspath(name)
@@ -53,7 +53,7 @@ def programs(wants_before=True):
 
 
 def shown(program, *words):
-    """The lines that a program shows of what the words say, as words; none where it fails, as it does where it doesn't know them: then it is told that it did."""
+    """The lines that a program prints for these words, as words; none if it fails, as it does with unknown words: then that is printed."""
     run = subprocess.run([ROUNDS, *map(str, words)], env={**os.environ, "TRIALS": program}, stdout=subprocess.PIPE, text=True)
     if run.returncode:
         print(f"{program}: failed at the words {' '.join(map(str, words))}", file=sys.stderr)
@@ -62,7 +62,7 @@ def shown(program, *words):
 
 
 def said_by(command):
-    """What a command says; where it fails, all ends."""
+    """The output of a command; if it fails, ends all."""
     run = subprocess.run(command, stdout=subprocess.PIPE, text=True)
     if run.returncode:
         sys.exit(f"{command[0]}: ended with status {run.returncode}")
@@ -70,7 +70,7 @@ def said_by(command):
 
 
 def numbers(lines):
-    """The number behind each name."""
+    """The number after each name."""
     return {line[0]: int(line[1]) for line in lines if len(line) > 1 and line[1].isdigit()}
 
 
@@ -81,7 +81,7 @@ def keep_best(best, found):
 
 
 def left_out(best):
-    """Says which rows the program before doesn't know. Where that of now knows none, all ends."""
+    """Says which rows the program before doesn't know. If that of now knows none, ends all."""
     if not best["now"]:
         sys.exit("trials shows nothing")
     lacking = [name for name in best["now"] if "before" in best and name not in best["before"]]
@@ -90,7 +90,7 @@ def left_out(best):
 
 
 def beside(before, now):
-    """A figure of now, with that of before in front where there is one."""
+    """A figure of now, preceded by that of before if there is one."""
     return f"before {before:,}, now {now:,}, now/before {now / before:.2f}" if before else f"now {now:,}"
 
 

@@ -1,4 +1,4 @@
-/* Routes that a table of them puts into one group, where the table's key is a digest of the declared names alone (two words of 64 bits, in hexadecimal):
+/* Routes that a table of them puts into one group, where the table's key is a digest of only the declared names (two words of 64 bits, in hexadecimal):
    of all paths FROM pI TO pJ WITH sK among so many processes and signals those whose hashes agree in these lowest bits (the group) and in these bits of the
    highest eight (which a group keeps of each). Prints I, J and K one path a line. The hash is the keyed one of the kit's maps, SipHash-1-3.
 
@@ -32,7 +32,7 @@ static uint32_t hash(const unsigned char *octets, size_t length) {
     return (uint32_t)(state ^ state >> 32);
 }
 
-/* What is hashed: of a process the number of its variant and its name with an octet 255 behind it, of a signal the name and that octet. */
+/* Hash input: of a process the number of its variant and its name followed by an octet 255, of a signal the name and that octet. */
 struct part {
     unsigned char octets[24];
     size_t length;

@@ -31,7 +31,7 @@ struct line { uint8_t *octets; size_t length; uint32_t part; unsigned filled, on
 struct stuffed { uint16_t bits; uint8_t count, ones; };
 static struct stuffed stuffing[5][256];
 
-/* What is left of an octet behind so many 1s, unless six 1s come in a row. */
+/* The rest of an octet after this many 1s, unless six 1s come in a row. */
 struct unstuffed { uint8_t bits, count, ones, six; };
 static struct unstuffed unstuffing[6][256];
 

@@ -53,13 +53,13 @@ def _(size):
     return fill(size, head, lambda i: "TASK '';", "STOP; ENDPROCESS; ENDBLOCK;")
 
 
-@text("S10 a chain of connections behind a transition that stands 4,032 times, each with an instruction")
+@text("S10 a chain of connections after a transition that stands 4,032 times, each with an instruction")
 def _(size):
     count = 505 * size // MOST
     return wide("JOIN c0; CONNECTION before:").replace("NEXTSTATE s0;\nENDPROCESS", "STOP;\n" + "".join(f"CONNECTION c{i}: JOIN c{i + 1};\n" for i in range(count)) + f"CONNECTION c{count}: STOP;\nENDPROCESS")
 
 
-@text("S10 connections that nobody joins, beside a transition that stands 4,032 times")
+@text("S10 connections that no JOIN names, beside a transition that stands 4,032 times")
 def _(size):
     before, behind = wide("NEXTSTATE s0; @@ CONNECTION last:").split("@@")
     return fill(size, before, lambda i: f"CONNECTION c{i}:STOP;", behind)

@@ -133,8 +133,8 @@ def _(size):
 
 
 def colliding(count):
-    """So many names that a table by the kit's own hash, whose seed is fixed, puts into one group, with half of what a group keeps of a name the same. (With
-    all of that the same a look-up compares sixteen times as many names; to find those takes a minute: collide 14500 11 8.)"""
+    """So many names that a table by the kit's own hash, whose seed is fixed, puts into one group, with half of a group's key of each name the same. (With the whole key the same a look-up
+    compares sixteen times as many names; to find those takes a minute: collide 14500 11 8.)"""
     return searched("collide.c", count, 11, 4)
 
 
@@ -196,7 +196,7 @@ def _(size):
 
 
 # ---- ways through the text (S4, S7)
-@text("S4 DECISIONs one behind another")
+@text("S4 DECISIONs one after another")
 def _(size):
     return in_start(size, lambda i: "DECISION x; (1): ELSE: ENDDECISION;\n")
 

@@ -60,12 +60,12 @@ def _(size):
 
 
 def joined(head, size, does="OUTPUT n TO SENDER;"):
-    """A head, and as many connections as fit behind it, each of which does this and joins the next one."""
+    """A head, and as many connections as fit after it, each of which does this and joins the next one."""
     count = (size - len(head) - 60) // (29 + len(does))
     return head + "".join(f"CONNECTION c{i}:{does}JOIN c{i + 1};\n" for i in range(count)) + f"CONNECTION c{count}:STOP;\nENDPROCESS; ENDBLOCK;"
 
 
-@text("S5 many connections behind one INPUT, of a signal that many may have sent")
+@text("S5 many connections after one INPUT, of a signal that many may have sent")
 def _(size):
     text = "BLOCK B;SIGNAL a,n;\n"
     for number in range(size // 195):
@@ -73,7 +73,7 @@ def _(size):
     return joined(text + "PROCESS P;START;NEXTSTATE s;STATE s;INPUT a;JOIN c0;\n", size)
 
 
-@text("S5 many connections behind one INPUT, of 80 signals that many may have sent")
+@text("S5 many connections after one INPUT, of 80 signals that many may have sent")
 def _(size):
     names = ",".join(f"a{i}" for i in range(80))
     text = f"BLOCK B;SIGNAL n,{names};\n"
@@ -126,7 +126,7 @@ def _(size):
     return chained(size // 81, "OUTPUT s0 TO SENDER;")
 
 
-@text("S5 many connections that send 20 signals back, behind one INPUT of a signal that many may have sent")
+@text("S5 many connections that send 20 signals back, after one INPUT of a signal that many may have sent")
 def _(size):
     names = ",".join(f"n{i}" for i in range(20))
     text = f"BLOCK B;SIGNAL a,{names};\n"
@@ -135,7 +135,7 @@ def _(size):
     return joined(text + "PROCESS P;START;NEXTSTATE s;STATE s;INPUT a;JOIN c0;\n", size, f"OUTPUT {names} TO SENDER;")
 
 
-@text("S5 a connection behind one INPUT of 50 signals, each of which as many as fit may have sent")
+@text("S5 a connection after one INPUT of 50 signals, each of which as many as fit may have sent")
 def _(size):
     names = ",".join(f"{a}{b}" for a in "ghijk" for b in "0123456789")
     text = f"BLOCK B;SIGNAL n,{names};\n"
@@ -144,7 +144,7 @@ def _(size):
     return text + f"PROCESS P;START;STOP;STATE s;INPUT {names};JOIN c;CONNECTION c:OUTPUT n TO SENDER;STOP;ENDPROCESS;ENDBLOCK;"
 
 
-@text("S5 a connection behind one INPUT of 26 signals of one letter, each of which as many as fit may have sent")
+@text("S5 a connection after one INPUT of 26 signals of one letter, each of which as many as fit may have sent")
 def _(size):
     letters = "abcdefghijklmnopqrstuvwxyz"
     listed, tails = ",".join(letters), letters + "0123456789_"
@@ -159,7 +159,7 @@ def _(size):
     return fill(size, f"BLOCK b;SIGNAL {listed};", pair, end)
 
 
-@text("S5 a connection behind as many INPUTs of 25 signals as fit beside as many senders of others")
+@text("S5 a connection after as many INPUTs of 25 signals as fit beside as many senders of others")
 def _(size):
     count, listed = size // 220, ",".join("abcdefghijklmopqrstuvwxyz")
     text = f"BLOCK B;SIGNAL n,{listed},{','.join(f's{i}' for i in range(count))};SIGNALROUTE r FROM ENV TO P WITH {listed};FROM P TO ENV WITH n;\n"
@@ -218,8 +218,7 @@ def _(size):
 
 
 def from_all_to_all(size, collide):
-    """Paths between all of some processes, so many signals each as a table puts into one group whose key is a digest of the declared names alone; or as many
-    others."""
+    """Paths between all of some processes, so many signals each as a table puts into one group whose key is a digest of only the declared names; or as many others."""
     processes, signals, bits = int(64 * (size / MOST) ** 0.5), 6000 * size // MOST, (size // 128).bit_length() - 1
     ends = [(one, other) for one in range(processes) for other in range(processes)]
     declared = [f"s{i}" for i in range(signals)] + [f"r{i}" for i in range(len(ends) // 2)] + [f"p{i}" for i in range(processes)]

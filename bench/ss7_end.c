@@ -94,7 +94,7 @@ static unsigned check_of(const unsigned char *octets, int count)
 	return check;
 }
 
-/* the next unit, behind a flag */
+/* the next unit, after a flag */
 static void refill(struct line *line)
 {
 	unsigned char unit[600];

@@ -1,20 +1,20 @@
-"""Adds up what the scripts of the repository take of a set: its transitions, and the answers of its decisions. By the
-plain players, which were written apart from the program; and by the built program's own `play --coverage`, where that
-is asked for.
+"""Adds up which transitions of a set, and answers of its decisions, the scripts of the repository take. By the plain
+players, which were written apart from the program; and by the built program's own `play --coverage`, if --played asks
+for that.
 
 usage: tools/coverage [standard|q703] [--lcov FILE] [--played]
 
 Prints `SET: N of M transitions, K of L answers`, and a line for each that no script takes: `PROCESS STATE/INPUT` or
-`PROCESS line N, answer M`, with what examples/untaken.txt says of it. With --lcov FILE it is written there in lcov's
+`PROCESS line N, answer M`, with the reason in examples/untaken.txt. With --lcov FILE it is written there in lcov's
 format, from which `genhtml --branch-coverage -o FOLDER FILE` makes pages. Of `standard` these are the scripts of
 examples/links, commands.txt and q781, of `q703` those of examples/q781 and examples/links. With --played the program
-(crates/mtp2_play/out/mtp2_play, or which MTP2_PLAY names) plays each of them with `--coverage`; a second line has what
-its files add up to, and each transition and each answer has to be taken as often as by the plain players. Scripts whose
-journal begins anew within a command, of which the program tells nothing, are left out of both, and counted on that
-line.
+(crates/mtp2_play/out/mtp2_play, or which MTP2_PLAY names) plays each of them with `--coverage`; a second line has the
+sums of its files, and each transition and each answer has to be taken as often as by the plain players. Scripts whose
+journal begins anew within a command, for which the program prints no coverage, are left out of both, and counted on
+that line.
 
-The last line is `N passed, M failed`: one for each that isn't taken, which passes where untaken.txt says why, and one
-for each line of untaken.txt, which fails where a script takes it. The status is 1 where one failed."""
+The last line is `N passed, M failed`: one for each that isn't taken, which passes if untaken.txt says why, and one for
+each line of untaken.txt, which fails if a script takes it. The status is 1 if one failed."""
 import collections
 import pathlib
 import sys
@@ -45,7 +45,7 @@ def scripts(word):
 
 
 def taken(text, word, name, script):
-    """What a script takes: turns, answers, decisions that were asked, statements. None of one that isn't run here."""
+    """The turns, answers, decisions and statements that a script takes. None for a script that isn't run here."""
     try:
         seen, _ = plain_trace.seen_of(text, script)
     except (plain_term.BadLine, SystemExit, ValueError, KeyError, UnicodeDecodeError, Refusal):
@@ -71,8 +71,8 @@ def told(lines):
 
 
 def played(text, word, name, script):
-    """The same by the program, and by the plain player: how often each was taken. None of a script of which the program
-    tells nothing."""
+    """How often each was taken, by the program and by the plain player. None for a script for which the program prints
+    no coverage."""
     parts = taken(text, word, name, script)
     with tempfile.TemporaryDirectory() as room:
         path = pathlib.Path(room) / "coverage"
@@ -91,7 +91,7 @@ def played(text, word, name, script):
 
 
 def by_program(word, text, given, count):
-    """Counts what the program's own files add up to, and says it."""
+    """Adds up the program's own files, and prints the sums."""
     ours, theirs, ran, silent = collections.Counter(), collections.Counter(), 0, 0
     for it in side_by_side(played, given):
         if it is None:
@@ -119,7 +119,7 @@ def by_program(word, text, given, count):
 
 
 def reasons(word):
-    """Why no script takes what has this name, by untaken.txt."""
+    """Why no script takes the transition or answer with this name, by untaken.txt."""
     found = {}
     for line in (EXAMPLES / "untaken.txt").read_text().split("\n"):
         here, _, rest = line.partition(" ")

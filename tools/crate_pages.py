@@ -1,4 +1,4 @@
-"""What the crates' README.md say that isn't there, and what they leave out. `tools/ready` asks it.
+"""Names in the crates' README.md that aren't there, and names that these leave out. `tools/ready` calls it.
 
 - Each crate has one.
 - Each contract that 'What a caller may rest on' cites, as (`function`: clause, clause; `Type::function`), is one of the
@@ -82,8 +82,8 @@ def defines(text, name):
 
 
 def defined(folder, text):
-    """The definitions and files that its table names and the crate lacks, and the files of specs of which 'Definitions'
-    says nothing."""
+    """The definitions and files that its table names and the crate lacks, and the files of specs that 'Definitions'
+    doesn't name."""
     specs = {it.stem: it.read_text() for it in sorted((folder / "specs").glob("*.antt"))}
     for names, files in tabled(text):
         yield from (f"no file {it} in specs" for it in files if it not in specs)
@@ -112,7 +112,7 @@ def crates(root):
 
 
 def lacking(root):
-    """What is to be mended, a line each."""
+    """The faults, a line each."""
     found = []
     for folder in crates(root):
         text = text_of(folder / "README.md")

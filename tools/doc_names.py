@@ -1,10 +1,10 @@
-"""What the documents name and the repository lacks: files, definitions, functions and clauses; and what they leave out.
-`tools/ready` asks it.
+"""Names in the documents that the repository lacks: files, definitions, functions and clauses; and names that the
+documents leave out. `tools/ready` calls it.
 
 - docs/architecture.md: each crate has its row in the table of the rooms, and each row its crate.
 - docs/standards.md: each definition, function, edit, quoted word of examples/ and heading of docs/ is there, and a
   quoted name is that of one entry.
-- README.md and docs/*.md: each path that they write is there, what is built aside.
+- README.md and docs/*.md: each path that they write is there, except built files.
 - tools/README.md: each tool is named there."""
 import functools
 import re
@@ -25,14 +25,14 @@ def rows(text):
 
 
 def sections(text):
-    """Each heading of second rank with the text behind it."""
+    """Each heading of second rank with the text after it."""
     parts = re.split(r"^## (.*)$", text, flags=re.M)
     return list(zip(parts[1::2], parts[2::2]))
 
 
 def names_one(words, held):
-    """Whether a text without entries has these words, or an entry has them for its name, or one alone begins so; a set
-    in front of a name aside."""
+    """Whether a text without entries has these words, or an entry has them for its name, or exactly one begins with
+    them; a set's name in front doesn't count."""
     entries = [[it, it.partition(": ")[2]] for it in re.findall(r"^== (.*)$", held, re.M)]
     if not entries:
         return words in held
@@ -121,7 +121,7 @@ def tools(root):
 
 
 def lacking(root):
-    """What is to be mended, a line each."""
+    """The faults, a line each."""
     look = Look(root)
     architecture(look, (root / "docs" / "architecture.md").read_text())
     standards(look, (root / "docs" / "standards.md").read_text())

@@ -1,8 +1,8 @@
 """Tries wrong bodies by hand: the edits in edits/CRATE/, which have the form of must-fail edits. The prover has to
 refuse each.
 
-Which edits the gate tries, and which stand here, is said in edits/README.md, and what edits/sums.txt keeps: when those
-of a crate were tried last, counted in landings.
+edits/README.md says which edits the gate tries, which are here, and what edits/sums.txt records: when the edits of a
+crate were tried last, counted in landings.
 
 usage: tools/edits [CRATE | CRATE/EDIT ..]
            these; without words all of edits/. CRATE/EDIT is one, of edits/CRATE/ or of crates/CRATE/must-fail/
@@ -11,9 +11,9 @@ usage: tools/edits [CRATE | CRATE/EDIT ..]
            landing (with 0 it only records that); to be called once before a landing
        tools/edits --apart ..                in front of these: each edit in a check of its own
 
-It ends with status 1 where one isn't refused. Edits of different functions of a crate are tried together in one check
+It ends with status 1 if one isn't refused. Edits of different functions of a crate are tried together in one check
 (tools/building/wrong_bodies.py), side by side with those of other crates, on as many processors as RT_JOBS says, or as
-there are. A line tells what each edit came to, and the last one how many came to what."""
+there are. A line gives the result of each edit, and the last one the counts of the results."""
 import collections
 import os
 import pathlib
@@ -61,7 +61,7 @@ class Run:
         self.landing = edit_sums.coming(ROOT) if until else None
 
     def one(self, name):
-        """Tries the edits of a crate, where there is still time to begin with them."""
+        """Tries the edits of a crate, if there is still time to begin with them."""
         if self.until and time.time() >= self.until:
             return
         crate = self.crates[name]
@@ -86,7 +86,7 @@ class Run:
         self.rt.in_lanes(tasks)
 
     def tell(self):
-        """Says how many edits came to what. Gives the status."""
+        """Prints the counts of the results. Returns the status."""
         counts = collections.Counter(self.came.values())
         wanted = sum(map(len, self.chosen.values()))
         left = wanted - len(self.came)

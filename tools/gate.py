@@ -1,9 +1,9 @@
-"""All tests: `rt ci`, whose output is passed on as it comes, and where that passed, the tools below on the programs
-that it built. The last line is `N passed, M failed`, of everything, and the status 0 only where nothing failed. What
-was skipped stands in the line before.
+"""All tests: `rt ci`, whose output is passed on as it comes, and if that passed, the tools below on the programs that
+it built. The last line is `N passed, M failed`, of everything, and the status 0 only if nothing failed. The line before
+says what was skipped.
 
 usage: tools/gate             all
-       tools/gate --steps     the tools alone, on what an earlier run or `rt run` built
+       tools/gate --steps     only the tools, on the programs of an earlier run or `rt run`
 
 Beside `rt ci` runs tools/building/gate-cost, which records what it takes."""
 import contextlib
@@ -44,7 +44,7 @@ def steps():
 
 
 def passed_on(process):
-    """Passes on what a process writes, as it comes, until it has ended. Gives the end of it."""
+    """Passes on a process's output, as it comes, until the process has ended. Returns the end of the output."""
     kept = b""
     while part := os.read(process.stdout.fileno(), 65536):
         sys.stdout.buffer.write(part)
@@ -55,8 +55,8 @@ def passed_on(process):
 
 
 def counted(name, process, text):
-    """How many passed, failed and were skipped, as the last line says that tells it; one failed more where none does,
-    or it isn't what the status says."""
+    """How many passed, failed and were skipped, by the last line that says so; one more failed if no line does, or if
+    the status contradicts it."""
     found = LAST.findall(text)
     counts = [int(it or 0) for it in found[-1]] if found else [0, 0, 0]
     if not found or (process.returncode and not counts[1]):
@@ -75,7 +75,7 @@ def free():
 
 
 def surroundings():
-    """The environment of `rt ci`; what it says already stays. Three lanes for four processors, where the memory holds a
+    """The environment of `rt ci`; its present settings stay. Three lanes for four processors, if the memory holds a
     check in each, and one job for each check: by itself `rt ci` plans on several times the memory that checks take, so
     that lanes are idle, and gives one of the upper crates four jobs, each of which reads all libraries below; a fourth
     lane makes each check take more processor time, edits a third more (`RT_JOBS=2` takes the least, and half an hour
@@ -91,7 +91,7 @@ def surroundings():
 
 
 def proofs():
-    """Runs `rt ci`. Gives its counts."""
+    """Runs `rt ci`. Returns its counts."""
     if not shutil.which("rt"):
         print("gate: no `rt` on the PATH")
         return [0, 1, 0]
@@ -103,7 +103,7 @@ def proofs():
 
 
 def watch(number):
-    """Has tools/building/gate-cost record what a process takes. The gate goes on without where that can't be had."""
+    """Has tools/building/gate-cost record the cost of a process. The gate goes on without if that fails."""
     silent = dict.fromkeys(["stdin", "stdout", "stderr"], subprocess.DEVNULL)
     try:
         subprocess.Popen(
@@ -114,13 +114,13 @@ def watch(number):
 
 
 def end(process):
-    """Ends a tool that still runs, with all that it started."""
+    """Ends a tool that still runs, with all processes that it started."""
     if process.returncode is None:
         os.killpg(process.pid, signal.SIGKILL)
 
 
 def step(tool, program):
-    """Runs a tool on a program. Gives its counts."""
+    """Runs a tool on a program. Returns its counts."""
     print(f"== {tool}: {program.relative_to(ROOT)}", flush=True)
     since, how = time.time(), {
         "stdin": subprocess.DEVNULL,
@@ -149,7 +149,7 @@ def processor():
 
 
 def after(counts):
-    """Runs the tools, and gives all counts together."""
+    """Runs the tools, and returns all counts together."""
     since, before = time.time(), processor()
     for it in steps():
         counts = [one + other for one, other in zip(counts, step(*it))]

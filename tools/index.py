@@ -2,7 +2,7 @@
 one for each public call of a crate, with its crate, its file and the names of its contract's clauses, all by name.
 
 usage: tools/index            writes docs/index.md, and says how many rows it has
-       tools/index --check    says whether it is what would be written (status 0), or not (1); `tools/ready` asks it"""
+       tools/index --check    says whether it is up to date (status 0), or not (1); `tools/ready` calls it"""
 import pathlib
 import sys
 

@@ -1,11 +1,11 @@
-"""Says which pictures in docs/pictures aren't what `draw` makes of the sets `standard` and examples/q703.sdl, and makes
-them anew.
+"""Lists the pictures in docs/pictures that differ from those that `draw` makes of the sets `standard` and
+examples/q703.sdl, and makes them anew.
 
-usage: tools/pictures            the stale ones, one a line, and the status 1 where there are some
+usage: tools/pictures            the stale ones, one a line, and the status 1 if there are some
        tools/pictures --make     writes those that are stale, and takes away those of processes that are gone
 
 The program is crates/mtp2_play/out/mtp2_play, else the one that bin/try compiles, where no source is newer, or that
-MTP2_PLAY names; where there is none it says so and ends with 0. Of each set there is SET/block.dot, of each process
+MTP2_PLAY names; if there is none it says so and ends with 0. Of each set there is SET/block.dot, of each process
 SET/PROCESS.svg and SET/PROCESS.states.dot. Where `dot` is on the PATH --make has it write block.svg and
 PROCESS.states.svg beside them, and refuses a diagram of which it warns."""
 import os
@@ -53,7 +53,7 @@ def processes(play, name):
 
 
 def pictures(play):
-    """The name of each picture, and what it is."""
+    """The name of each picture, and its contents."""
     for name, word in SETS.items():
         if isinstance(word, pathlib.Path) and not word.exists():
             continue

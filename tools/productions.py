@@ -1,13 +1,13 @@
-"""Writes what follows from the productions of the grammar. Each production of
+"""Writes the specs and proofs that follow from the productions of the grammar. Each production of
 crates/sdl_tree/specs/DeclarationSyntax.antt and Syntax.antt has a reading
 (sdl_productions/specs/DeclarationProductions.antt, Productions.antt), a proof that the reading gives no more tokens
 back than it got (sdl_productions/proofs/Lengths.antt) and a proof that the reading decides the production
-(sdl_tree/proofs/DeclarationsDecide.antt, SyntaxDecides.antt): the same steps in other words. The steps of a transition
-are written by hand.
+(sdl_tree/proofs/DeclarationsDecide.antt, SyntaxDecides.antt): three forms of one list of steps. The steps of a
+transition are written by hand.
 
 usage: tools/productions [--check]
-           writes them (run `rt fmt` behind it); --check only names those that aren't what follows, and ends with status
-           1 where there are any"""
+           writes them (run `rt fmt` after it); --check only names those that differ, and ends with status 1 if there
+           are any"""
 import pathlib
 import re
 import sys
@@ -155,8 +155,7 @@ def blocks(text, after):
 
 
 def renew(path, after, wanted, text, there):
-    """The text with each block as it is wanted, and the names of those that were another; `there` gets the names of
-    all."""
+    """The text with each block as it should be, and the names of those that differed; `there` gets the names of all."""
     stale, out, last = [], [], 0
     for name, start, end in blocks(text, after):
         if name not in wanted:
@@ -171,7 +170,7 @@ def renew(path, after, wanted, text, there):
 
 
 def wanted_lengths(found, text):
-    """What Lengths is to have: that a token is taken where it says so, else that none is given back more."""
+    """The contents of Lengths: that a step takes a token if it says so, else that it gives no more tokens back."""
     takes = {name for name, start, end in blocks(text, "_takes") if "unfolding" in text[start:end]}
     shorter = {name: production for name, production in found.items() if name != "block"}
     return [

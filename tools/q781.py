@@ -1,28 +1,28 @@
-"""Plays the tests of Q.781 (the acceptance tests of MTP level 2), and those beside them, on a set: the scripts of
+"""Plays the tests of Q.781 (the acceptance tests of MTP level 2), and our own beside them, on a set: the scripts of
 examples/q781.
 
 usage: tools/q781 [SET] [NAME ..]
-           prints `NAME TITLE: passed`, or `failed line N` with what was expected and what came, for each script whose
-           name begins so (all where none is named), and the sums; status 0 where those failed that known.txt says of
-           SET, and no others
+           prints `NAME TITLE: passed`, or `failed line N` with the expected and the actual line, for each script whose
+           name begins so (all if none is named), and the sums; status 0 if exactly those failed that known.txt lists
+           for SET
        tools/q781 --changes [NAME ..]
            makes each one-place change of changes.txt in examples/q703.sdl (those seen by a test whose name begins so),
-           and plays the test that it names: status 0 where each change is seen
+           and plays the test that it names: status 0 if each change is seen
        --plain in front of these       asks the plain player, written apart from the program
        --n2 N in front of a file       forced retransmission begins at N octets, 300 to 8,192, in the scripts that
                                        choose no N2 (also: --n2=N)
 
 The program is crates/mtp2_play/out/mtp2_play, where that is built, or the one that MTP2_PLAY names, else the one that
-bin/mtp2 takes. SET is `q703` (also where none is named), `standard`, or a file, looked up from the current folder: a
+bin/mtp2 takes. SET is `q703` (also if none is named), `standard`, or a file, looked up from the current folder: a
 text that has the names of a terminal. A word with which a test's name begins is a NAME; write `./7` for a file of that
-name. Test x.26 has an N2 of 3,000 octets, and a file 8,192, so it is skipped but where --n2 says 2,731 to 3,003. Status
-1: a test failed of which known.txt doesn't say so, or passed of which it does; a change wasn't seen. 2: there is no
-such file, its text is refused, or there is no program. 3: no test has such a name, or the words are others.
+name. Test x.26 has an N2 of 3,000 octets, and a file 8,192, so it is skipped unless --n2 says 2,731 to 3,003. Status 1:
+a test failed that known.txt doesn't list, or passed that it lists; a change wasn't seen. 2: there is no
+such file, its text is refused, or there is no program. 3: no test has such a name, or the words are wrong.
 
-A script is a black box: units, octets of the line, commands and time go in; what goes out, what level 3 is told, the
-number accepted last and what is measured are expected, as Q.703 has them. N.MM is Q.781's test; x.NN is beside it. In
+A script is a black box: units, octets of the line, commands and time go in; the script expects the units sent, the
+reports to level 3, the number accepted last and the measurements, by Q.703. N.MM is Q.781's test; x.NN is beside it. In
 known.txt `SET NAME WHY` is a line. In changes.txt `== NAME: WHAT` begins a change that the test NAME sees; a line `--`
-parts what stands in the text once from what is put in its place."""
+parts words that stand in the text once from their replacement."""
 import os
 import pathlib
 import re
@@ -37,17 +37,17 @@ TESTS = ROOT / "examples" / "q781"
 TEXT = ROOT / "examples" / "q703.sdl"
 # The sets of the program's own.
 OWN = ("standard", "q703")
-# The test of N2 where nothing is chosen, and those N2 by which it passes. What may be chosen, and what a file has.
+# The test of N2 if nothing is chosen, and the N2 with which it passes. The N2 that may be chosen, and that of a file.
 OF_N2, ITS_N2 = "x.26", range(2731, 3004)
 CHOICE, USUAL_N2 = range(300, 8193), 8192
 
 
 class Wrong(Exception):
-    """Why nothing is played: the exit status, and a sentence."""
+    """Why no script is played: the exit status, and a sentence."""
 
 
 def scripts(names):
-    """The names of the scripts that are asked for, in order."""
+    """The names of the requested scripts, in order."""
     found = [it.name.removesuffix(".script") for it in TESTS.glob("*.script")]
     ordered = sorted(
         found, key=lambda it: (it.startswith("x"), [int(part) for part in it.split(".") if part.isdigit()])
@@ -56,7 +56,7 @@ def scripts(names):
 
 
 def octets_of(name, n2=None):
-    """The octets of a script, with this N2 where it chooses none."""
+    """The octets of a script, with this N2 if it chooses none."""
     octets = (TESTS / f"{name}.script").read_bytes()
     return re.sub(rb"(?m)^terminal cyclic$", b"terminal cyclic 127 %d" % n2, octets) if n2 else octets
 
@@ -67,7 +67,7 @@ def title(name):
 
 
 def played(plain, word, octets):
-    """The lines that are printed for a script, the status, and what is said on standard error."""
+    """The lines that are printed for a script, the status, and standard error."""
     if plain:
         lines = []
         status = play(word, octets, lines.append)
@@ -77,7 +77,7 @@ def played(plain, word, octets):
 
 
 def fault(plain, word, name, n2=None):
-    """How a script failed; nothing where it passed."""
+    """How a script failed; None if it passed."""
     octets = octets_of(name, n2)
     lines, status, _ = played(plain, word, octets)
     if status == 0:
@@ -92,13 +92,13 @@ def fault(plain, word, name, n2=None):
 
 
 def known(word):
-    """What is known to fail on a set."""
+    """The tests that are known to fail on a set."""
     said = [it.split(" ", 2) for it in (TESTS / "known.txt").read_text().split("\n") if it and not it.startswith("#")]
     return [name for where, name, _ in said if where == word]
 
 
 def tests(plain, word, names, n2):
-    """Plays them, and prints what came. Gives the exit status."""
+    """Plays them, and prints the results. Returns the exit status."""
     skipped = [] if word in OWN or n2 in ITS_N2 else [it for it in scripts(names) if it == OF_N2]
     wanted, expected = [it for it in scripts(names) if it not in skipped], known(word)
     failed = []
@@ -122,7 +122,7 @@ def tests(plain, word, names, n2):
 
 
 def changes():
-    """The test that sees a change, what it is, what stands in the text, and what is put there."""
+    """The test that sees a change, its title, the words in the text, and their replacement."""
     for part in ("\n" + (TESTS / "changes.txt").read_text()).split("\n== ")[1:]:
         name, rest = part.split("\n", 1)
         test, what = name.split(": ", 1)
@@ -131,7 +131,7 @@ def changes():
 
 
 def unseen(plain, test, what, old, new):
-    """Why a change isn't seen; nothing where it is."""
+    """Why a change isn't seen; None if it is."""
     text = TEXT.read_text()
     if text.count(old) != 1:
         return f"what it changes stands {text.count(old)} times in the text"
@@ -157,7 +157,7 @@ def all_changes(plain, names):
 
 
 def options(words):
-    """Whether the plain player is asked, N2 where it is chosen, and the words behind these."""
+    """Whether the plain player is asked, N2 if it is chosen, and the words after these."""
     plain, n2, words = False, None, list(words)
     while words and (words[0] == "--plain" or words[0].split("=")[0] == "--n2"):
         word, _, number = words.pop(0).partition("=")
@@ -172,7 +172,7 @@ def options(words):
 
 
 def asked(words):
-    """The set, and the names behind it."""
+    """The set, and the names after it."""
     if not words or words[0] in OWN:
         return (words or ["q703"])[0], words[1:]
     if scripts(words[:1]):
@@ -193,7 +193,7 @@ def check_names(names):
 
 
 def check_text(plain, word):
-    """Tells once what every test would: that a text is refused."""
+    """Says once, for all tests, that a text is refused."""
     lines, status, said = played(plain, word, b"terminal basic\n")
     if status:
         raise Wrong(2, f"{word}: {' '.join(lines) or f'status {status}'}\n{said}".rstrip("\n"))

@@ -1,25 +1,25 @@
-"""All tests that want no proof, on the program that `bin/try` compiles: in five minutes at most on four processors,
-once that is compiled (it takes two minutes more where it isn't). For between; what counts is tools/gate. The last line
-is `N passed, M failed`, and the status 0 only where nothing failed.
+"""All tests that need no proof, on the program that `bin/try` compiles: in five minutes at most on four processors,
+once that is compiled (else two minutes more). For use between two gates; tools/gate is the test that counts. The last
+line is `N passed, M failed`, and the status 0 only if nothing failed.
 
 usage: tools/quick            all steps
        tools/quick STEP ..
-           these alone: ready, table, examples, plain, commands, lines, ends, streams, refused_memory, captures,
+           only these: ready, table, examples, plain, commands, lines, ends, streams, refused_memory, captures,
            acceptance
 
-- ready, table: what the gate would refuse before any proof is tried, and whether the input of the program trials is the
-  one that its tables make.
-- examples: the tables of texts, and of scripts of books, terminals and link sets, by `check` and `play`; plain: the
-  same by the plain programs in Python.
+- ready, table: the faults that the gate refuses before any proof is tried, and whether the input of the program trials
+  is the one that its tables make.
+- examples: the tables of texts, and of scripts of books, terminals and link sets, by `check` and `play`; plain: these
+  tables by the plain programs in Python.
 - commands: the table of command lines. lines: `line`, on files, pipes and FIFOs.
-- ends: `line`, where the streams of its orders and reports fail, come in pieces or late.
+- ends: `line`, with streams of orders and reports that fail, come in pieces or late.
 - acceptance: the tests of examples/q781 on `q703` and on `standard`, and changes of `q703` that they see.
 - streams: reads, writes and threads that fail, and input that is cut or changed, a few of each kind; the gate tries
   more.
 - refused_memory: requests for memory that fail, a few of each kind.
 
-MTP2_PLAY names another program for all steps. What wants the programs of tests, as two terminals over a noisy line or
-an hour of two link sets, is left to the gate."""
+MTP2_PLAY names another program for all steps. Tests that need the programs of tests, as two terminals over a noisy line
+or an hour of two link sets, are left to the gate."""
 import concurrent.futures
 import os
 import pathlib
@@ -102,7 +102,7 @@ def counted(status, wrote):
 
 
 def step(name, words, play):
-    """Runs a step, and says what came of it. Gives its counts."""
+    """Runs a step, and prints its result. Returns its counts."""
     status, wrote, seconds, used = run(words, play)
     counts = (int(status == 0), int(status != 0), 0) if name in LOOKS else counted(status, wrote)
     shown = wrote if counts[1] or counts[2] else ""

@@ -1,6 +1,6 @@
-"""Says what the gate would refuse before any proof is tried: files that aren't in `rt fmt`'s layout, files where no
-check looks, words that stand for something else in a contract, must-fail edits that don't apply or that name what their
-file doesn't import, a text of the program's own that isn't the one in examples/, what follows from the grammar's
+"""Lists the faults that the gate refuses before any proof is tried: files that aren't in `rt fmt`'s layout, files where
+no check looks, words that stand for something else in a contract, must-fail edits that don't apply or that name what
+their file doesn't import, a text of the program's own that isn't the one in examples/, what follows from the grammar's
 productions and wasn't written again (tools/productions), names in the documents and in the crates' READMEs that aren't
 there any more, an index (tools/index) that isn't theirs, pictures (tools/pictures) that aren't what `draw` makes, lines
 of specs that are too wide to be read, too many ways down crates.txt, crates whose edits in edits/ were last tried ten
@@ -8,16 +8,15 @@ landings ago (edits/README.md), functions and lines of the tools that are too lo
 functions in the crates than there were (tools/looks/counts.py), a README.md of more than 170 lines, links and commands
 of the pages that lead nowhere, and more of the English that is to go than there was (tools/looks/pages.py). A few
 seconds; to be run before a commit that is to land. Beside that it notes which crates' edits are to be tried by
-tools/edits, since their contracts changed, and whether the landing is recorded: that is nothing to mend.
+tools/edits, since their contracts changed, and whether the landing is recorded: neither is a fault.
 
 usage: tools/ready [FOLDER]
-           of the repository in FOLDER, else of this one; ends with status 1 where it found something, 2 where it
-           couldn't ask
+           of the repository in FOLDER, else of this one; ends with status 1 if it found something, 2 if it couldn't ask
        tools/ready --counts [CRATE ..]
            how many files, bodies, lists of parameters and lines are longer than they should be, by crate, and where
            those of these crates stand
        tools/ready --english
-           where that English stands, and how often
+           the places of that English, and its counts
 
 It asks the kit's own `rt`, whose functions it calls."""
 import os
@@ -119,7 +118,7 @@ def productions(root):
 
 
 def index(root):
-    """The index, where it isn't the one of the READMEs and the sources."""
+    """The index, if it isn't the one of the READMEs and the sources."""
     asked = subprocess.run([root / "tools" / "index", "--check"], capture_output=True, text=True)
     return asked.stdout.splitlines() if asked.returncode else []
 

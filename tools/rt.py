@@ -1,5 +1,5 @@
-"""The kit's `rt`, which asks for each library's sum once a run (tools/building/kit.py says how): the same words and the
-same answers, in seconds in the upper crates. The gate is `rt ci`, the kit's own."""
+"""The kit's `rt`, which asks for each library's sum once a run (tools/building/kit.py says how): with the words and
+answers of `rt`, in seconds in the upper crates. The gate is `rt ci`, the kit's own."""
 import sys
 
 from tools.building.kit import kit, plant

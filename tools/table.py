@@ -1,9 +1,9 @@
-"""Writes what the program trials reads and has to print: crates/trials/stdin and stdout. Its trials stand with their
-lines in examples/heard.txt, ports.txt, wheels.txt, events.txt, pools.txt and rounds.txt, and in
+"""Writes the input and the required output of the program trials: crates/trials/stdin and stdout. Its trials are, with
+their lines, in examples/heard.txt, ports.txt, wheels.txt, events.txt, pools.txt and rounds.txt, and in
 examples/links/runs.txt, reports.txt, pairs.txt, tended.txt, rounds.txt and calls.txt. Likewise the streams of
 examples/m3ua/frames.txt for the program trials_m3ua.
 
-usage: tools/table [--check]     with --check it writes nothing, and ends with status 1 where the files differ
+usage: tools/table [--check]     with --check it writes nothing, and ends with status 1 if the files differ
 
 In a table `== NAME` begins an entry, and a line `--` parts its trial from the lines that are printed for it. In a trial
 of events `%N{..}` stands for N copies of what is in the braces, in which `#` is the number of the copy, from 1; a last
@@ -44,7 +44,7 @@ def trials():
 
 
 def streams():
-    """A stream of M3UA with the lines of what stands on it."""
+    """A stream of M3UA with the lines of its messages."""
     return [(stream, lines) for _, stream, lines in examples.parted("m3ua/frames.txt")]
 
 

@@ -1,5 +1,5 @@
 #!/usr/bin/env python3
-"""Two ends of a set of links, each a process of `mtp2_play set`, tied by FIFOs at 64 kbit/s, on which things go wrong as they are told to. `two_ends` beside this file, bench/set_faults
+"""Two ends of a set of links, each a process of `mtp2_play set`, tied by FIFOs at 64 kbit/s, with faults by order. `two_ends` beside this file, bench/set_faults
 and bench/set_ss7 drive them.
 
 usage: none of its own; MTP2_PLAY names another program than bin/mtp2"""
@@ -18,14 +18,14 @@ PLAY = os.environ.get("MTP2_PLAY", str(HERE.parents[1] / "bin" / "mtp2"))
 
 PACE = 8  # octets a millisecond on each way
 BEAT = 0.002  # seconds between two looks at the lines
-LATE = 0.1  # for so many seconds at most a line makes up for a look that came late
+LATE = 0.1  # the most seconds that a line makes up for a look that came late
 ROOM = 65_536  # what a FIFO holds
-OUT = 256  # so many messages may wait for their answers
-PART = 64  # so many that were refused go once more at once
+OUT = 256  # how many messages may wait for their answers
+PART = 64  # how many refused messages go once more at once
 
 
 class Way:
-    """One way of a line, from one FIFO to another: octets pass while the weather is fair (False), none while it is `cut`, late and all at once where it was `stall`; a number is how
+    """One way of a line, from one FIFO to another: octets pass while the weather is fair (False), none while it is `cut`, late and all at once after `stall`; a number is how
     many octets go by on average before one is garbled."""
 
     def __init__(self, source, sink, dice):
@@ -52,7 +52,7 @@ class Way:
         return bytes(it ^ 1 << self.dice.randrange(8) if self.dice.random() < 1 / between else it for it in octets)
 
     def give(self, octets):
-        """What nobody takes is lost."""
+        """Octets that no end reads are lost."""
         try:
             os.write(self.sink, octets)
         except BlockingIOError:
@@ -89,7 +89,7 @@ class Ended(Exception):
 
 
 class End:
-    """One end: its process, its orders and what it tells."""
+    """One end: its process, its orders and its reports."""
 
     def __init__(self, room, name, own, peer, links, more, user):
         self.name, self.own, self.peer, self.room, self.user = name, own, peer, room, user
@@ -112,7 +112,7 @@ class End:
         return [PLAY, "set", "basic", *links, "--own", str(own), "--peer", str(peer), "--orders", str(self.orders), "--reports", str(self.reports), *more]
 
     def listen(self):
-        """Hears what it tells, up to an empty line, which `end` puts behind all else."""
+        """Reads its reports, up to an empty line, which `end` puts after all others."""
         rest = b""
         while True:
             *lines, rest = (rest + os.read(self.back, ROOM)).split(b"\n")
@@ -151,7 +151,7 @@ class End:
             self.send_now()
 
     def is_through(self):
-        """Whether all that it was given was taken. What was refused is given once more: twice as many at once as before, or one where one of those was refused again."""
+        """Whether all that it was given was taken. Refused messages are given once more: twice as many at once as before, or one if one of those was refused again."""
         if not self.asked:
             self.burst = min(PART, 2 * self.burst) if self.refused == self.seen else 1
             self.seen = self.refused
@@ -160,7 +160,7 @@ class End:
         return not self.asked and not self.again
 
     def send_now(self):
-        """The first that waits goes, where not too many are without an answer. Whether it does."""
+        """Sends the first that waits, if not too many are without an answer. Returns whether it does."""
         if len(self.asked) >= OUT:
             return False
         number = self.again.pop(0)
@@ -173,7 +173,7 @@ class End:
         return sum(line.split(" ", 1)[1] == text for line in self.told) >= times
 
     def is_whole(self, links):
-        """Whether the last that it told of each link is that it carries messages."""
+        """Whether its last report of each link is that it carries messages."""
         last = {}
         for line in self.told:
             _, link, *words = line.split(" ")
@@ -197,7 +197,7 @@ class End:
         return empty
 
     def unsure(self):
-        """Of how many messages it told that they may have arrived or not."""
+        """How many messages it reported as unsure."""
         return sum(int(line.split(" ")[3]) for line in self.told if line.split(" ")[2:3] == ["unsure"])
 
     def end(self):
@@ -234,13 +234,13 @@ def lacking(one, other):
 
 
 def stopped(number, _frame):
-    """What a signal that ends the script does: all that it began is ended on its way out."""
+    """Called by a signal that ends the script: ends all that the script began."""
     sys.exit(128 + number)
 
 
 class Pair:
     """Both ends and the lines between them: of each link the way from near to far, and back. The FIFOs lie in a folder. The ends are of these kinds, and send messages with this service
-    information octet. Behind a `with` nothing of it runs any more."""
+    information octet. After a `with` nothing of it runs any more."""
 
     def __init__(self, room, links, *words, seed=1, kinds=(End, End), user=0x83):
         room, self.dice = pathlib.Path(room), random.Random(seed)
@@ -275,7 +275,7 @@ class Pair:
         self.lines.end()
 
     def until(self, wanted, seconds):
-        """Waits for what is wanted, for so many seconds at most, while both ends go on."""
+        """Waits until the condition holds, for so many seconds at most, while both ends go on."""
         return until(lambda: "so" if wanted() else any(it.process.poll() is not None for it in self.ends), seconds) == "so"
 
     def befall(self, link, over, back=None):
@@ -292,7 +292,7 @@ class Pair:
         return all([it.is_empty(self.links) for it in self.ends])
 
     def traffic(self, seconds, number, rate, wanted=None):
-        """Messages both ways, so many a second, for so many seconds, or until what is wanted is so; the number of the next one."""
+        """Messages both ways, so many a second, for so many seconds, or until the condition holds; returns the number of the next one."""
         begin, sent = time.monotonic(), 0
         while sent < int(seconds * rate) and not (wanted and wanted()):
             for it in self.ends:
@@ -306,7 +306,7 @@ class Pair:
         return until(lambda: all([it.is_through() for it in self.ends]), seconds)
 
     def quit(self, seconds=10):
-        """The exit status of each process behind `quit`; none of one that doesn't end in so many seconds."""
+        """The exit status of each process after `quit`; none for one that doesn't end in so many seconds."""
         for it in self.ends:
             it.order("quit")
         until(lambda: all(it.process.poll() is not None for it in self.ends), seconds)

@@ -1,9 +1,9 @@
 """Proves and builds the libraries below a program, side by side on all processors as their order and the memory allow,
-and says which as it goes. What is built already stays. The program itself is left to `rt run`, which then finds all of
+and says which as it goes. Built libraries stay. The program itself is left to `rt run`, which then finds all of
 them built. `bin/mtp2_play` calls it.
 
 usage: tools/building/build [PROGRAM]
-           mtp2_play where none is named; ends with status 1 where a library isn't proved, 2 where it couldn't try
+           mtp2_play if none is named; ends with status 1 if a library isn't proved, 2 where it couldn't try
        tools/building/build --jobs
            prints how many jobs a program's own proof can have once nothing else is proved
 
@@ -91,7 +91,7 @@ def known_times():
 
 def work_of(crates):
     """How many seconds each crate's proof will take by one job, by name: as long as it took once, else by its lines.
-    What has the longest chain behind it is proved first."""
+    The library with the longest chain above it is proved first."""
     known = known_times()
     return {it.name: known.get(it.name, lines(it) / LINES_A_SECOND) for it in crates}
 

@@ -6,7 +6,7 @@ usage: tools/building/gate-cost               prints the table of the last run, 
            records what the processes below PID take until PID has ended; tools/gate starts it so, beside `rt ci`
 
 It looks at /proc once a second, so what a process took in its last second is missed; the first line has the whole run's
-own time as the system counts it. It says nothing to the gate, and the gate waits for nothing of it. The record is
+own time as the system counts it. It doesn't report to the gate, and the gate doesn't wait for it. The record is
 out/gate-cost at the top."""
 import os
 import pathlib

@@ -1,13 +1,12 @@
-"""The kit's own `rt` as a module, for the tools that call its functions, and all that is put in place of something of
-the kit.
+"""The kit's own `rt` as a module, for the tools that call its functions, and all replacements in the kit.
 
-What is replaced, why, and what of the kit would make that needless:
+What is replaced, why, and what change of the kit would make that needless:
 
 - `Crate.below` and `Crate.stamp` (`Sums`): `rt` asks for the sum of each library on every way down crates.txt, which
   takes minutes in an upper crate. Here each is asked once a run. Needless once `rt` keeps the sums of a run.
 - `Crate.is_built`, `Crate.build_rlib`, `take_rlib` (`Libraries`): `rt check` builds the libraries below with all their
-  proofs, and an upper crate then loads these, minutes and gigabytes. Here they are built with their statements alone,
-  as `rt ci` does. Needless once `rt check` builds libraries with `--statements`.
+  proofs, and an upper crate then loads these, minutes and gigabytes. Here they are built with only their statements, as
+  `rt ci` does. Needless once `rt check` builds libraries with `--statements`.
 - `Crate.front_end`: before a check `rt` looks through the sources of all crates below, ten minutes and 10 GB in an
   upper crate. Here it doesn't; the build of each library finds what that would. Needless once `rt` looks only at what
   isn't built.

@@ -7,7 +7,7 @@ it calls another one that isn't proved is no matter of its own. So each edit is 
 - something of its own isn't proved: the edit is refused;
 - all errors are in proof files that name what the edit took away: it is refused by a name only, which says little of
   the contract;
-- else the edit is tried alone, in a check of the whole crate: so are edits outside of the bodies of functions, and
+- else the edit is tried by itself, in a check of the whole crate: so are edits outside of the bodies of functions, and
   those in files that can't be compiled.
 
 All checks of a crate keep their work in one folder, and begin with what `tools/rt check` kept. Where something was

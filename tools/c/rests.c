@@ -1,9 +1,9 @@
 /* A library to load before a program: a thread that wrote to a file whose path ends as WRITES_OF says goes on by so many single instructions, and rests then. It rests until
-   standard output had one write more than that file, a second at most. So what another thread does meanwhile comes between any two instructions of the way from such a
-   write to the thread's next read. How many instructions that way has is counted behind the first write. Behind each further one another place of it is taken, spread evenly.
+   standard output had one write more than that file, a second at most. So the work of another thread comes between any two instructions of the way from such a
+   write to the thread's next read. The number of instructions of that way is counted after the first write. After each further one another place of it is taken, spread evenly.
        WRITES_OF     how the path of the file ends
        RESTS         a file to which an octet is written as a thread rests, and where it comes to its read without a rest: one for each write
-   On x86-64 alone: elsewhere nobody rests, and nothing is told. */
+   Only on x86-64: elsewhere no thread rests, and nothing is written. */
 #define _GNU_SOURCE
 #include <errno.h>
 #include <fcntl.h>
@@ -34,7 +34,7 @@ static void tell(void) {
     if (told >= 0) syscall(SYS_write, told, ".", 1);
 }
 
-/* Behind an instruction: rests behind the last of them. */
+/* After an instruction: rests after the last of them. */
 static void behind(int number, siginfo_t *why, void *how) {
     (void)number, (void)why;
     if (--left > 0) return;

@@ -2,7 +2,7 @@
 same shape with other names.
 
 usage: tools/looks/alike [--lines N] [--most N] [--same] [PART ..]
-           12 lines or more, at most 200 pairs; --same without those of one shape alone;
+           12 lines or more, at most 200 pairs; --same without those that share only the shape;
     PART: src, specs or proofs, or crates by their names; else all
 
 It runs `duplicates` over copies, since that command doesn't know the endings .rt and .antt: imports, contracts' imports
@@ -39,7 +39,7 @@ def copied(crates, folder, parts, names):
 
 
 def number(words, option, usual):
-    """The number behind an option, which goes; else the usual one."""
+    """The number after an option, which is removed; else the usual one."""
     if option not in words:
         return usual
     at = words.index(option)

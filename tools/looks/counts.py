@@ -1,6 +1,6 @@
 """Counts what is longer or wider than it should be, by crate: files, bodies of functions, lists of parameters, lines.
-`tools/ready --counts` prints it. `tools/ready` refuses what there is none of today: such a place in the tools, and more
-of these files, bodies and lists than there are."""
+`tools/ready --counts` prints it. `tools/ready` refuses any such place in the tools, and more of these files, bodies and
+lists in the crates than there are today."""
 import ast
 import re
 import subprocess

@@ -3,7 +3,7 @@ it.
 
 Its first line is `landing NUMBER SUM`: how many landings were recorded, and the sum over all contracts and edits at the
 last one. Each other line is `CRATE SUM NUMBER`: the sum over the crate's contracts and its edits, as they were when the
-prover refused all of these, and the landing at which it did. The sum is `-` where they haven't all been refused yet;
+prover refused all of these, and the landing at which it did. The sum is `-` if they haven't all been refused yet;
 the number then says since when the crate has edits here.
 
 A landing is recorded by `tools/edits --minutes N`, and counts only where a contract or an edit has changed since the
@@ -22,7 +22,7 @@ HEAD = "# When each crate's edits here were tried last, by landings; tools/edits
 
 @dataclasses.dataclass
 class Entry:
-    """What is kept of a crate: the sum at which all its edits were refused, `-` for none, and the landing."""
+    """The record of a crate: the sum at which all its edits were refused, `-` for none, and the landing."""
 
     sum: str
     landing: int
@@ -30,7 +30,7 @@ class Entry:
 
 @dataclasses.dataclass
 class Sums:
-    """What edits/sums.txt says."""
+    """The contents of edits/sums.txt."""
 
     landing: int
     whole: str
@@ -75,7 +75,7 @@ def with_edits(root):
 
 
 def kept(root):
-    """What is kept."""
+    """The records."""
     path = root / "edits" / "sums.txt"
     rows = (
         [it.split(" ") for it in path.read_text().split("\n") if it and not it.startswith("#")]
@@ -87,7 +87,7 @@ def kept(root):
 
 
 def write(root, sums):
-    """Writes what is kept, with an entry for each crate that has edits."""
+    """Writes the records, with an entry for each crate that has edits."""
     entries = {it: sums.entries.get(it) or Entry("-", sums.landing) for it in with_edits(root)}
     lines = [
         HEAD,
@@ -98,7 +98,7 @@ def write(root, sums):
 
 
 def keep(root, name, landing=None):
-    """Keeps that a crate's edits were all refused, at a landing: the last one, where none is named."""
+    """Keeps that a crate's edits were all refused, at a landing: the last one if none is named."""
     sums = kept(root)
     sums.entries[name] = Entry(sum_of(root, name), sums.landing if landing is None else landing)
     write(root, sums)

@@ -1,4 +1,4 @@
-"""What the pages say that isn't there, and the English that is to go. `tools/ready` asks it.
+"""Links and commands of the pages that lead nowhere, and wordings to avoid. `tools/ready` calls it.
 
 - README.md has at most 170 lines.
 - Each link of a page leads to a file or a heading that is there.
@@ -19,7 +19,7 @@ COMMAND = re.compile(r"(?<![\w/.])((?:bin|tools|bench|examples)/[\w./-]*\w)")
 PROGRAM = re.compile(r"(?<![\w/.])(?:bin/mtp2_play|bin/mtp2|bin/try|mtp2_play) ([a-z]\w*)([^|>;&`\n]*)")
 NAMED = re.compile(r'alloc,\s*"([\w-]+)",')
 CODE = re.compile(r"`[^`]*`")
-# What is to go, and what says it better. Each is looked for in a line outside of code.
+# The wordings to avoid. Each is looked for in a line outside of code.
 ENGLISH = {
     "behind": r"\bbehind\b",
     "want of memory": r"\bwant of memory\b",

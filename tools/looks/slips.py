@@ -1,9 +1,9 @@
-"""Makes one-place changes of a process text (examples/q703.sdl), and tells which of them no test of examples/q781 sees.
+"""Makes one-place changes of a process text (examples/q703.sdl), and lists those that no test of examples/q781 sees.
 
 usage: tools/looks/slips [KIND ..]
-           the changes of these kinds, all where none is named; status 1 where one isn't seen
+           the changes of these kinds, all if none is named; status 1 if one isn't seen
        tools/looks/slips --list [KIND ..]     names them, and plays nothing
-       tools/looks/slips --search N [KIND ..] plays N scripts made by chance too, on the text and on each change that no
+       tools/looks/slips --search N [KIND ..] plays N scripts made at random too, on the text and on each change that no
                                               test sees: names one that tells the two apart
        --at N in front of these               only changes of that line of the text
        --text FILE in front of these          another text in place of examples/q703.sdl
@@ -24,10 +24,10 @@ usage: tools/looks/slips [KIND ..]
 | `starts` | a variable begins with another value |
 
 A test is played where on the unchanged text it takes the transition that is changed (of a connection: one of its
-process): until then both do the same. Tests that take a thousand units are played by the program all the same, on
-changes of SUERM. A change that is refused as a text is none. Scripts made by chance are those of
-tools/oracles/random_terminals without what isn't seen from outside (states, values, how many timers ran out). One that
-tells two texts apart is left in out/slips/."""
+process): until then both do the same. Tests that take a thousand units are always played by the program, on changes of
+SUERM. A change whose text is refused doesn't count. Random scripts are those of
+tools/oracles/random_terminals without questions that can't be answered from outside (states, values, how many timers
+ran out). One that tells two texts apart is left in out/slips/."""
 import copy
 import pathlib
 import random
@@ -385,7 +385,7 @@ def outside(lines):
 
 
 def chance(text, number):
-    """A script made by chance on a text, without questions about what is inside."""
+    """A script made at random on a text, without questions about what is inside."""
     lines = random_terminals.script(random.Random(f"slips {number}"), text.encode(), ()).split("\n")
     return "\n".join(it for it in lines if not it.startswith(("state ", "value ", "expect "))).encode()
 

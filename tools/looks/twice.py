@@ -1,11 +1,11 @@
-"""Counts the statements that are proved in two files or more: what could stand once, below the crates that want it.
+"""Counts the statements that are proved in two files or more: those could stand once, below the crates that use them.
 
 usage: tools/looks/twice [--all] [CRATE ..]
            the most frequent 40, or all; of the crates that are named, or of the whole repository
 
 A statement is the type of an item of proofs/ that has clauses, with the parameters of the module that it stands in; the
-names of items and of bound variables don't count. It reads the files alone and proves nothing, so two statements that
-only mean the same count as two."""
+names of items and of bound variables don't count. It only reads the files and proves nothing, so two statements in
+different words with one meaning count as two."""
 import pathlib
 import re
 import sys
@@ -33,7 +33,7 @@ def blocks(lines):
 
 
 def items(lines, given=""):
-    """Each item that has clauses: its name, its type behind what is given, and how many lines it has."""
+    """Each item that has clauses: its name, its type after its parameters, and how many lines it has."""
     types, sizes = {}, {}
     for block in blocks(lines):
         module = MODULE.match(block[0]) if block[0].startswith("module ") else None

@@ -5,7 +5,7 @@ laws.rt, which are laws, aren't asked for. What docs/proving.md names with its r
 test calls', isn't listed.
 
 usage: tools/looks/untested
-           ends with status 1 where it lists something, or docs/proving.md names what is called
+           ends with status 1 if it lists something, or docs/proving.md names what is called
        tools/looks/untested --all       lists those with a reason too"""
 import pathlib
 import re
@@ -16,7 +16,7 @@ PROGRAMS = ["mtp2_play", "trials"]
 REASONS = "### Public functions that no test calls"
 NOTE = re.compile(r"//[^\n]*|/\*.*?\*/|b?\"(?:\\.|[^\"\\])*\"|b?'(?:\\.[^']*|[^'\\])'", re.S)
 WORD = re.compile(r"[A-Za-z_]\w*|::|[^\w\s]")
-# Words behind which a block stands that is no body.
+# Words before a block that is no body.
 CLAUSES = {"requires", "ensures", "ghost"}
 
 
@@ -55,7 +55,7 @@ class Function:
 
 
 def closing(words, at):
-    """The place behind the group that opens here."""
+    """The place after the group that opens here."""
     depth = 0
     for place in range(at, len(words)):
         depth += (words[place] in "{([") - (words[place] in "})]")

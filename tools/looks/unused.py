@@ -1,10 +1,10 @@
-"""Lists the lemmas and definitions that nothing names: what may go.
+"""Lists the lemmas and definitions that nothing names: these may be removed.
 
 usage: tools/looks/unused [CRATE ..]     of the crates that are named, or of the whole repository
 
 It reads the items of proofs/*.antt and specs/*.antt (but proofs/Examples.antt, which nothing names), and asks for each
 whether its name stands in a source, a definition or a proof of any crate outside the item's own lines, imports left out
-(but for those that give another name). What only unused items name is unused too. It reads the files alone: a name that
+(but for those that give another name). What only unused items name is unused too. It only reads the files: a name that
 several items have, or a variable, counts as used for all of them, so a few more may be unused. Before an item goes, a
 check of its crate and of the crates above decides; tools/ready says where a README names it."""
 import collections

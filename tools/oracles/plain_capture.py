@@ -1,4 +1,4 @@
-"""A capture of a line, worked out plainly and apart from the program: to hold `mtp2_play line --capture` against.
+"""A capture of a line, worked out plainly and apart from the program: to compare with `mtp2_play line --capture`.
 
 usage: tools/oracles/plain_capture.py CAME WENT [--ahead N] [--bits high] [--every]
            writes the capture of octets that came in and of octets that went out
@@ -57,8 +57,8 @@ def seen(came, went):
 
 
 def kept(all_units):
-    """Those that aren't left out, by the rule as it is told: the last record of the way is looked for, and whether one
-    of the other way behind it is news."""
+    """The records that aren't left out, by the documented rule: it looks for the last record of the way, and whether
+    one of the other way after it is news."""
     records = []
     for at, way, unit in all_units:
         mine = [place for place, record in enumerate(records) if record[1] == way]
@@ -148,7 +148,7 @@ def of_links(records, every):
 
 
 def script_capture(text, script, every=False, say=lambda line: None, usual=()):
-    """The capture of a script on a text, and the status; with these N1 and N2 where it says none."""
+    """The capture of a script on a text, and the status; with these N1 and N2 if it says none."""
     watch = Watch()
     base_in, base_out = plain_term.Terminal.line_in, plain_term.Terminal.unit_out
     links = []

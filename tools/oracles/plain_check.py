@@ -1,4 +1,4 @@
-"""A plain checker of process texts, written apart from the program: to hold `mtp2_play check` against.
+"""A plain checker of process texts, written apart from the program: to compare with `mtp2_play check`.
 
 usage: tools/oracles/plain_check FILE ..     prints the lines that check prints for each
 

@@ -1,5 +1,5 @@
-"""What the plain programs of this folder say to command lines of mtp2_play: the lines and the status; none where they
-don't know. They were written apart from the program, on whole lists and from the standards."""
+"""The answers of the plain programs of this folder to command lines of mtp2_play: the lines and the status; None if
+they don't know. They were written apart from the program, on whole lists and from the standards."""
 import re
 
 from tools.oracles import plain_group, plain_term
@@ -43,7 +43,7 @@ def standard_says(script):
 
 
 def soak_says(script):
-    """Of `soak`: what the links do isn't known here, but that nothing differs."""
+    """Of `soak`: the work of the links isn't known here, only that nothing differs."""
     if not is_text(script):
         return NO_TEXT
     if len(script) > LONGEST:

@@ -1,4 +1,4 @@
-"""What two process texts differ in, written apart from the program: to hold `mtp2_play diff` against.
+"""The differences of two process texts, written apart from the program: to compare with `mtp2_play diff`.
 
 usage: tools/oracles/plain_diff.py OLD NEW     prints the lines that diff prints
 
@@ -14,7 +14,7 @@ from tools.oracles.plain_term import WANTED, has
 
 
 class Side:
-    """One text: its names, what it declares, and its transitions in a form in which equal ones mean the same."""
+    """One text: its names, what it declares, and its transitions in a form in which equal ones have one meaning."""
 
     def __init__(self, text):
         lines, book = check(text), Book(text, 64, 1024, 65536)
@@ -192,7 +192,7 @@ LEVELS = [("OR", "XOR"), ("AND",), ("=", "/=", "<", "<=", ">", ">="), ("+", "-")
 
 class Written:
     """The statements of a process as they are written: names as they are declared, parentheses where they are
-    wanted."""
+    needed."""
 
     def __init__(self, side, process):
         self.side, self.line = side, 0
@@ -260,7 +260,7 @@ class Written:
 
 
 def trimmed(olds, news):
-    """How many statements are the same in front, and how many behind these at the end."""
+    """How many statements are equal at the beginning, and how many after these at the end."""
     pairs = [one[1].lower() == other[1].lower() for one, other in zip(olds, news)]
     front = pairs.index(False) if False in pairs else len(pairs)
     least = min(len(olds), len(news)) - front
@@ -302,7 +302,7 @@ def first(name, others):
 
 
 def counts(old, new):
-    """Both costs of a transition, the other one behind where it differs."""
+    """Both costs of a transition, the other one after it if it differs."""
     one, other = old.split(), new.split()
     return " ".join(["budget", *(a if a == b else f"{a} -> {b}" for a, b in zip(one, other))])
 

@@ -1,10 +1,10 @@
-"""A plain player of events, written apart from the program: to hold the rows of examples/events.txt against.
+"""A plain player of events, written apart from the program: to compare with the rows of examples/events.txt.
 
 usage: tools/oracles/plain_events.py --table FILE
-           says which rows of a table have other lines, and ends with status 1 where one has
+           says which rows of a table have other lines, and ends with status 1 if one has
        tools/oracles/plain_events.py FILE             prints the lines of the trial in a file
 
-A trial's first line has the limits, and then come events, each by the number of its actor; behind a line `text` stands
+A trial's first line has the limits, and then come events, each by the number of its actor; after a line `text` stands
 a process text, or `standard`. What a process does is plain_play.py's: it goes through the statements of the text
 themselves."""
 import pathlib
@@ -100,7 +100,7 @@ class Events(Book):
         return f"from {process}.{number or 1} signal {self.names.index(signal.lower())}{said}"
 
     def happens(self, words):
-        """What is answered to an event."""
+        """The answer to an event."""
         calls = {
             "offer": self.offers,
             "begin": self.begins,
@@ -116,7 +116,7 @@ class Events(Book):
 
 
 def counted(answers):
-    """The answers, of those that are alike one and how many there are."""
+    """The answers; equal ones in a row once, with their number."""
     lines = []
     for it in answers:
         if lines and lines[-1][0] == it:

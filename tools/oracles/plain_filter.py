@@ -1,18 +1,18 @@
-"""A plain terminal on a line as a filter, written apart from the program: to hold `mtp2_play line` against. An octet
+"""A plain terminal on a line as a filter, written apart from the program: to compare with `mtp2_play line`. An octet
 goes out for each that comes in, and eight of them are a millisecond. The terminal is that of plain_term.py.
 
 usage: tools/oracles/plain_filter.py [LIFE ..]
-           plays the lives of examples/line/lives.txt, all or those that are named, and ends with status 1 where one
+           plays the lives of examples/line/lives.txt, all or those that are named, and ends with status 1 if one
            differs
        tools/oracles/plain_filter.py --octets LIFE         writes the octets that come in during a life
        tools/oracles/plain_filter.py MODE ORDERS
-           reads octets from standard input, writes those that go out, and tells to standard error
+           reads octets from standard input, writes those that go out, and reports to standard error
 
 In lives.txt `== NAME` begins an entry, and its first line has the mode. Lines `MS WHAT ..` say what comes in from that
 millisecond on, each up to the next one's: `ones`, `flags` (each shares its 0 with the next), `unit HEX` (over and over,
-check octets are put on), `once HEX` (and behind it flags), `bad HEX` (once, with its last bit the other way round), and
-`end`. What comes at a millisecond begins behind what has begun: a flag or a unit is never cut off, only `ones` are.
-Then come a line `--`, the orders, a line `--`, and what has to be told."""
+check octets are put on), `once HEX` (and after it flags), `bad HEX` (once, with its last bit the other way round), and
+`end`. The input of a millisecond begins after the end of the flag or unit that has begun, which is never cut off; only
+`ones` are. Then come a line `--`, the orders, a line `--`, and the expected reports."""
 import pathlib
 import sys
 
@@ -95,7 +95,7 @@ class Voice:
 
 
 def told(end):
-    """What the terminal has to tell: what a unit led to of the link, and then its message."""
+    """The terminal's reports: the changes of the link by a unit, and then its message."""
     names = {
         "InServiceNow": "in service",
         "Down": "down",
@@ -182,7 +182,7 @@ def obeyed(end, order):
 
 
 def run(text, cyclic, octets, orders, say, end=None):
-    """Has a terminal speak on a line, a new one where none is given, and gives the octets that go out."""
+    """Has a terminal speak on a line, a new one if none is given, and returns the octets that go out."""
     end, voice, out, orders = end or End(text, cyclic), Voice(), bytearray(), list(orders)
     for count, octet in enumerate(octets):
         out.append(voice.octet(end))

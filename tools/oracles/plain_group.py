@@ -1,15 +1,15 @@
-"""A plain player of link sets' scripts, written apart from the program: to hold `mtp2_play play standard` against.
+"""A plain player of link sets' scripts, written apart from the program: to compare with `mtp2_play play standard`.
 
 usage: tools/oracles/plain_group.py SCRIPT
            prints the lines that play prints for it on the set `standard`, and ends with its status
        tools/oracles/plain_group.py --table FILE
-           plays each entry of a table of scripts, and ends with status 1 where one prints something else
+           plays each entry of a table of scripts, and ends with status 1 if one prints something else
 
 The terminals are those of plain_term.py, which plays the scripts of other kinds too. Load sharing and changeover
-(Q.704) are on whole lists: what a link holds is counted anew each time that it is asked for.
+(Q.704) are on whole lists: what a link holds is counted anew each time.
 
 A table is written as plain_term.py says. `<UP N>` as a line is the way into service of links 0 to N - 1, all at once;
-link 0 is spoken of behind it."""
+after it commands are for link 0."""
 import pathlib
 import sys
 
@@ -23,7 +23,7 @@ from tools.oracles.plain_term import copied, do, octets_in, spoken, wanted, whol
 TEXT = ROOT / "examples" / "standard.sdl"
 OWN, OTHER = 1, 2
 COO, COA, ECO, ECA = 0x11, 0x21, 0x12, 0x22
-# What stands behind the label of a message that is bound to a link, by its service indicator and heading: how many
+# The octets after the label of a message that is bound to a link, by its service indicator and heading: how many
 # octets, or None for a pattern.
 BOUND = {
     (0, COO): 1,
@@ -94,9 +94,9 @@ class Link(Terminal):
         # Its changeover: the place up to which messages were accepted as the other end told, whether any answer came,
         # and ticks since it began.
         self.changing, self.told, self.answered, self.waited, self.out = False, None, False, 0, False
-        # What it handed out in that and isn't diverted yet.
+        # The messages that it handed out in that and that aren't diverted yet.
         self.hand = []
-        # Behind the beginning of its last changeover: whether there was one, and the ticks since it last came into
+        # After the beginning of its last changeover: whether there was one, and the ticks since it last came into
         # service then.
         self.had_one, self.since = False, None
         self.points = OWN, OTHER
@@ -110,7 +110,7 @@ class Link(Terminal):
         self.is_to_clear = True
 
     def obey_clear(self):
-        """Empties the buffers, where the text asked for that. How many messages went that aren't the link's own."""
+        """Empties the buffers, if the text asked for that. Returns how many removed messages aren't the link's own."""
         if not self.is_to_clear:
             return 0
         went = sum(not self.is_own(it) for it in self.held())
@@ -569,7 +569,7 @@ def play(word, script, say):
 
 
 def play_text(text, script, say, usual=()):
-    """Plays a script of any kind on a text, and gives the status; with these N1 and N2 where it says none."""
+    """Plays a script of any kind on a text, and gives the status; with these N1 and N2 if it says none."""
     if head(script) is None:
         return plain_term.play_text(text, script, say, usual)
     try:

@@ -1,4 +1,4 @@
-"""What the transitions of a process text take, and the limits that a text is held to (S10): for plain_check.py."""
+"""The costs of the transitions of a process text, and the limits of a text (S10): for plain_check.py."""
 import dataclasses
 
 from tools.oracles.plain_reader import Refusal, bodies, lo
@@ -137,7 +137,8 @@ class Measures:
         return count, effects, most
 
     def ways(self, action, count, effects, number):
-        """The same of a DECISION: the greatest of its ways, each with the tests in front of it."""
+        """The greatest count, effects and depth of a DECISION: the greatest of its ways, each with the tests in front
+        of it."""
         _, _, question, answers, otherwise = action
         is_truth, tests, ways, most = self.text.processes[number].is_truth(question), 0, [], depth(question)
         for ranges, body in [*answers, *([(None, otherwise)] if otherwise is not None else [])]:
@@ -209,7 +210,7 @@ def of_text(text, measures, kind):
 
 
 def of_processes(text, kind):
-    """The same of each process."""
+    """The counts against a limit of each process."""
     most = LIMITS[kind][0]
     for process in text.processes:
         name = process.tree[0]
@@ -225,7 +226,7 @@ def of_processes(text, kind):
 
 
 def of_transitions(measures, kind):
-    """The same of each transition, as they stand in the text."""
+    """The counts against a limit of each transition, in the order of the text."""
     count = {
         "Piece": lambda row, _: measures.piece_size(row),
         "Depth": lambda _, measure: measure.depth,

@@ -1,6 +1,6 @@
 """Two plain terminals (plain_term.py) whose lines are tied together: makes the runs of examples/links/runs.txt on the
-same bits of noise, and prints the lines that the program `trials` has to print for them. Nothing of the program is read
-but the octets of a message.
+bits of noise of the program `trials`, and prints the lines that the program `trials` has to print for them. Nothing of
+the program is read but the octets of a message.
 
 usage: tools/oracles/plain_lines.py                                             the runs of examples/links/runs.txt
        tools/oracles/plain_lines.py MODE SEED RATE MESSAGES GIVEN UNITS         one run"""
@@ -30,7 +30,7 @@ def table():
 
 
 def noisy(bits, rate, noise):
-    """What the far end gets of these bits."""
+    """The bits that the far end gets for these."""
     if not rate:
         return bits
     arrived = []

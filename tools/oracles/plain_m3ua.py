@@ -139,7 +139,7 @@ def protocol_of(msu):
 
 
 def items(stream):
-    """What stands on a stream, by the lengths in the headers only: messages, headers of what is too long, or a
+    """The parts of a stream, by the lengths in the headers only: messages, headers of what is too long, or a
     broken one."""
     while len(stream) >= HEADER:
         told = struct.unpack(">I", stream[4:8])[0]

@@ -1,9 +1,9 @@
 """Two plain link sets (plain_group.py) back to back: makes the runs of examples/links/pairs.txt by the rules of
-crates/trials_groups/src/schedule.rt, and prints the lines that the program `trials` has to print for them. What was
-sent and what came stands in lists, from which all is counted at the end.
+crates/trials_groups/src/schedule.rt, and prints the lines that the program `trials` has to print for them. The messages
+sent and received are in lists, from which all is counted at the end.
 
 usage: tools/oracles/plain_pairs.py
-           the runs of examples/links/pairs.txt, but for the late ones
+           the runs of examples/links/pairs.txt, except the late ones
        tools/oracles/plain_pairs.py MODE LINKS SEED MESSAGES LOST [late]      one run"""
 import sys
 
@@ -256,7 +256,7 @@ class Pair:
 
 
 def verdict(one, other):
-    """What is to be said of one way, by the lists of each selection."""
+    """The lines of one way, by the lists of each selection."""
     missing = 0
     for selection in range(16):
         sent = [content for it, content in one.sent if it == selection]
@@ -297,7 +297,7 @@ def show(mode, links, seed, messages, lost, late=False):
 
 
 def table():
-    """The runs of the table, but for those in which messages come late: what is printed for them is what has to be."""
+    """The runs of the table, except those in which messages come late: for them the required result is printed."""
     for entry in RUNS.read_text().split("\n== ")[1:]:
         for words in map(str.split, entry.split("\n--\n")[0].split("\n")[1:]):
             if len(words) == 5:

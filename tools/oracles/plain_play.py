@@ -1,9 +1,9 @@
-"""A plain player of book scripts, written apart from the program: to hold `mtp2_play play` against.
+"""A plain player of book scripts, written apart from the program: to compare with `mtp2_play play`.
 
 usage: tools/oracles/plain_play.py TEXT SCRIPT     prints the lines that play prints for them, and ends with its status
 
 It goes through the statements of the text themselves, knows no instruction, and has no proofs. It reads texts by
-plain_check.py. A set is a text alone, and scripts of terminals aren't played (plain_term.py does)."""
+plain_check.py. A set is only a text, and scripts of terminals aren't played (plain_term.py does)."""
 import pathlib
 import re
 import sys
@@ -20,7 +20,7 @@ class Failed(Exception):
 
 
 class Process:
-    """What the text says of a process."""
+    """A process of the text."""
 
     def __init__(self, parsed, signals):
         (self.name, _), declarations, (_, self.start), states, connections, self.instances = parsed

@@ -10,8 +10,8 @@ RES = set(
 
 
 class Refusal(Exception):
-    """The line of a refusal without its first word, and the place of what is refused, if it has one; of S10 and S11
-    what is said of it."""
+    """The line of a refusal without its first word, and the place of what is refused, if it has one; of S10 and S11 the
+    message about it."""
 
     at, said = None, ""
 
@@ -247,7 +247,7 @@ class P:
         return (a, b, w)
 
     def count(s):
-        # how many instances a process has: 1 where nothing is said
+        # how many instances a process has: 1 if nothing is said
         if not s.opt("("):
             return 1
         if s.k() != "num" or s.t[s.i][1] == 0:

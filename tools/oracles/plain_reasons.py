@@ -1,4 +1,4 @@
-"""What is said of a refused text beside its place: what is wrong there, what the word is, and what could be written.
+"""The messages about a refused text: what is wrong at the place, what the word is, and what could be written.
 Written apart from the program, by the tree of plain_reader.py and the rules of docs/process-texts.md."""
 import re
 
@@ -7,7 +7,7 @@ from tools.oracles.plain_reader import P, Refusal, lex, line_of
 OPERANDS = ["NOT", "(", "-", "TRUE", "FALSE", "name", "num"]
 STATEMENTS = ["TASK", "OUTPUT", "SET", "RESET", "DECISION", "NEXTSTATE", "STOP", "JOIN"]
 OPERATORS = ["=", "/=", "<", "<=", ">", ">=", "+", "-", "*", "/", "MOD", "REM", "AND", "OR", "XOR"]
-# What may be wanted, in the order in which it is told.
+# What may be expected, in the order in which it is printed.
 KINDS = [
     "NOT",
     "(",
@@ -53,9 +53,9 @@ KINDS = [
 ]
 ENTITIES = {"SIGNAL", "SIGNALROUTE", "CONNECT", "PROCESS"}
 CLOSED = {"ENDBLOCK": "BLOCK", "ENDPROCESS": "PROCESS", "ENDSTATE": "STATE", "ENDCONNECTION": "CONNECTION"}
-# Of a text with more tokens the head of its block and the last signals, route or process tell what is wanted.
+# Of a text with more tokens the head of its block and the last signals, route or process determine what is expected.
 WHOLE = 1500
-# Behind more tokens of a process it isn't said what is wanted.
+# After more tokens of a process nothing says what is expected.
 MOST_TRIED = 4096
 SORTS = {"INTEGER": "an Integer", "BOOLEAN": "a Boolean", None: "a value"}
 
@@ -121,7 +121,7 @@ def again(tokens, index, row):
 
 
 def spelled(text, tokens):
-    """The tokens with each one's own octets behind it."""
+    """The tokens, each followed by its own octets."""
     ends = [it[2] for it in tokens[1:]] + [len(text)]
     made = []
     for (kind, value, at), end in zip(tokens, ends):
@@ -317,7 +317,7 @@ def goes_off(part):
 
 
 def off_answer(text, part):
-    """The place of the answer at which a list of statements runs off its end; none where it does so behind its last
+    """The place of the answer at which a list of statements runs off its end; None if it does so after its last
     statement."""
     if not part[0] or part[0][-1][0] != "decide":
         return None
@@ -430,7 +430,7 @@ def first(tree):
 
 
 def operands(process, tree):
-    """Each operand that is otherwise than its operator wants it, the outer ones first: its place and what is said of
+    """Each operand of another sort than its operator requires, the outer ones first: its place and the message about
     it."""
     if tree[0] == "un":
         parts = [("behind", tree[2], "BOOLEAN" if tree[1] == "NOT" else "INTEGER")]
@@ -532,7 +532,7 @@ def comes(process, part, name):
 
 
 def lost(process, begins, signal):
-    """Why a signal TO SENDER of a transition gets to nobody."""
+    """Why a signal TO SENDER of a transition reaches no process."""
     if begins[0] == "start":
         return "START has no sender"
     for name, _ in begins[2]:
@@ -632,7 +632,7 @@ def of_lexis(text, code, at):
 
 
 def reasons(text, why):
-    """What is said behind the fault, under the word, and in a line of its own."""
+    """The words after the fault, under the word, and in a separate line."""
     code, at = str(why).split()[0], why.at
     if code.startswith("L"):
         return of_lexis(text, code, at)

@@ -3,9 +3,9 @@
 the program.
 
 usage: tools/oracles/plain_rounds [NAME ..]
-           the entries whose names begin with one of these words, or all; status 1 where one tells something else
+           the entries whose names begin with one of these words, or all; status 1 if one reports something else
        tools/oracles/plain_rounds --loud NAME
-           prints what an entry tells, each line with its round"""
+           prints the reports of an entry, each line with its round"""
 import contextlib
 import functools
 import sys
@@ -18,7 +18,7 @@ from tools.oracles.plain_term import FLAG, ROOT, bits_of, check_octets, octets_o
 from tools.oracles.plain_units import Line, decoded, unstuffed
 
 ROUNDS = ROOT / "examples" / "links" / "rounds.txt"
-# What goes ahead on a line, and what is heard of one that is silent.
+# The octets ahead on a line, and those heard of a silent one.
 ONES = b"\xff" * 8
 SILENT = 1_000
 

@@ -1,5 +1,5 @@
-"""The state diagram of a process in Graphviz's language, written apart from the program: to hold `mtp2_play draw SET
-PROCESS --states` against.
+"""The state diagram of a process in Graphviz's language, written apart from the program: to compare with `mtp2_play
+draw SET PROCESS --states`.
 
 usage: tools/oracles/plain_states.py FILE PROCESS     prints what draw prints
 
@@ -93,7 +93,7 @@ class Diagram:
         return made
 
     def gone(self, before, transition, at=0):
-        """The same from one of its statements on; without an end where one runs off."""
+        """The ways from one of its statements on; without an end if one runs off."""
         actions, end = transition
         if at == len(actions):
             yield before, self.end(end)
@@ -134,7 +134,7 @@ class Diagram:
         )
 
     def inside(self, name, ways):
-        """What stands in the box of a state."""
+        """The contents of the box of a state."""
         saves = [words for words, end in ways if end == ("save",)]
         loops = [words for words, end in ways if end == ("state", name)]
         quiet = [words for words in loops if not any(look in ("task", "output") for look, _ in words)]

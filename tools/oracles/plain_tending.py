@@ -6,9 +6,10 @@ usage: tools/oracles/plain_tending.py LINKS SEED SECONDS FAULTS RATE [WORD ..]
 Two sets of so many links carry RATE messages a second each way, while for SECONDS faults come, one in FAULTS
 milliseconds on average (0 for none); 40 seconds without any follow. WORDs: `untested` (links carry messages as they
 come into service), `outages` (processors fail too), `stops` (links are stopped and started by order), `staggered` (all
-lines are cut one after another, for 17 seconds), `loud` (all that is told is printed). It prints what was sent and
-came, twice or out of order, what is lacking, what was told as unsure, and whether both ends are whole at the end; the
-status is 1 where something came twice or out of order, more is lacking than was told as unsure, or an end isn't whole.
+lines are cut one after another, for 17 seconds), `loud` (all that is told is printed). It prints how many messages were
+sent, came, came twice or out of order, are lacking, and were reported as unsure, and whether both ends are whole at the
+end;  the status is 1 if a message came twice or out of order, more are lacking than were reported as unsure, or an end
+isn't whole.
 
 The sets are those of plain_group.py. The terminals below them are no texts here: they are as quick as units, and know
 alignment, units with their numbers, silence, errors and outages of processors, no more."""
@@ -242,7 +243,7 @@ class Tender:
     # What links tell.
 
     def heed(self, at):
-        """What a link tells: messages first."""
+        """The reports of a link: messages first."""
         link = self.set.links[at]
         while link.messages or link.statuses:
             if link.messages:

@@ -1,18 +1,18 @@
-"""A plain player of terminal scripts, written apart from the program: to hold `mtp2_play play` against.
+"""A plain player of terminal scripts, written apart from the program: to compare with `mtp2_play play`.
 
 usage: tools/oracles/plain_term.py SET SCRIPT      prints the lines that play prints for them, and ends with its status
        tools/oracles/plain_term.py --table FILE
-           plays each entry of a table of scripts, and ends with status 1 where one prints something else
+           plays each entry of a table of scripts, and ends with status 1 if one prints something else
 
-SET is `standard`, `q703`, `monitors` or the file of a text; ` | OLD -> NEW` behind it is an edit, made everywhere in
+SET is `standard`, `q703`, `monitors` or the file of a text; ` | OLD -> NEW` after it is an edit, made everywhere in
 the text, and there may be several. Its actors are those of plain_play.py, which plays book scripts too. The line, the
 stores and the terminal are as Q.703 and the profile say them, on whole lists: no bit of the line and no message is ever
 forgotten.
 
 A table is written as tools/table says, with these differences: `== SET: NAME` begins an entry, copies are also written
-out in the wanted lines, and comment lines among them are nothing; `%A-B{..}` are copies with the numbers A to B. `<UP>`
-as a line is the way into service, `<PROVING>` the script of that name, `<STATES>` asks for the states of all processes;
-among the wanted lines they stand for what is printed, where the states follow behind the word."""
+out in the expected lines, and comment lines among them aren't compared; `%A-B{..}` are copies with the numbers A to B.
+`<UP>` as a line is the way into service, `<PROVING>` the script of that name, `<STATES>` prints the states of all
+processes; among the expected lines they stand for the printed lines, and the states follow the word."""
 import contextlib
 import pathlib
 import re
@@ -27,15 +27,15 @@ from tools.oracles.plain_units import FLAG, Line, Receiver, Sender, bits_of, che
 
 ROOT = pathlib.Path(__file__).resolve().parents[2]
 SETS = {"standard": "standard.sdl", "q703": "q703.sdl", "monitors": "monitors.sdl"}
-# N1 and N2 over a set where nothing else is chosen; elsewhere those of a sender.
+# N1 and N2 over a set if nothing else is chosen; elsewhere those of a sender.
 USUAL = {"q703": (127, 3000)}
 STATUSES = ["SIO", "SIN", "SIE", "SIOS", "SIPO", "SIB", "6", "7"]
 COPIES = re.compile(r"%(?:(\d+)-)?(\d+)\{([^}]*)\}")
 UP = ["command power", "command start", "unit FFFF0100", "unit FFFF0101", "tick 8200", "unit FFFF00"]
 IS_UP = ["ok", "ok", "ok", "ok", "ok due 1", "ok"]
 PROCESSES = ["LSC", "IAC", "AERM", "SUERM", "TXC", "RC", "POC", "CC"]
-# What a terminal wants of a text, in its order: processes, signals to a process, and signals to the environment, with
-# the sorts of their parameters.
+# The names that a terminal requires of a text, in its order: processes, signals to a process, and signals to the
+# environment, with the sorts of their parameters.
 WANTED = """LSC AERM SUERM TXC RC CC
 LSC/PowerOn LSC/StartLink LSC/StopLink LSC/Emergency LSC/Calm LSC/LocalOut LSC/LocalBack CC/Busy CC/Free
 AERM/Good SUERM/Good AERM/Errored SUERM/Errored TXC/AckSeen RC/Bad RC/Unit TXC/MsuSent
@@ -51,12 +51,12 @@ SORTS = {
     "Odd": "INTEGER",
     "Counting": "BOOLEAN",
 }
-# What is measured (Q.752), in the order in which it is printed; the times are ticks.
+# The measurements (Q.752), in the order in which they are printed; the times are ticks.
 MEASURES = """service_time failures stops alignment_failures error_failures far_failures t1_failures number_failures
 t7_failures t6_failures errored_units errored_octets nacks_received nacks_sent octets_sent octets_repeated
 octets_received messages_sent messages_received far_outages far_outage_time outages outage_time busy busy_time far_busy
 far_busy_time rounds_n1 rounds_n2 aborted_periods""".split()
-# Why a link went down, by the number that is told; 0 is a stop.
+# Why a link went down, by the number reported; 0 is a stop.
 CAUSES = dict(enumerate("alignment error far t1 number t7 t6".split(), 1))
 # What a text may have besides.
 OPTIONAL = (
@@ -83,7 +83,7 @@ class Terminal:
         self.book = Book(text, 64, 1024, 65536)
         self.line, self.sender, self.receiver = Line(), Sender(cyclic, *limits), Receiver(cyclic)
         self.take, self.withheld, self.kind, self.busy, self.faults = False, None, None, False, []
-        # Whether a link set holds it, and whether it does so behind the next beginning of both directions too.
+        # Whether a link set holds it, and whether it does so after the next beginning of both directions too.
         self.is_held = self.stays_held = False
         self.messages, self.statuses = [], []
         self.names = {it for it in OPTIONAL if has(self.book, it)}
@@ -180,7 +180,7 @@ class Terminal:
             self.far_busy = False
 
     def clear(self):
-        """Nothing waits and nothing is unacknowledged any more; the next new message has the number behind the last
+        """Nothing waits and nothing is unacknowledged any more; the next new message has the number after the last
         acknowledged one."""
         out, sender = self.sender.sent - self.sender.acknowledged, self.sender
         self.spare, self.cleared = out or self.spare, self.cleared + len(sender.all) - sender.acknowledged
@@ -241,7 +241,7 @@ class Terminal:
             self.offer("SUERM", "Errored")
             return
         head, status, message = unit
-        # The far side is congested from its SIB on, where messages are out and more may go.
+        # The far side is congested from its SIB on, if messages are out and more may go.
         if status == 5 and self.kind == 9 and self.sender.sent > self.sender.acknowledged and not self.far_busy:
             self.far_busy = True
             self.counts["far_busy"] += 1
@@ -334,7 +334,7 @@ class Terminal:
 
 
 def has(book, wanted):
-    """Whether a text has a name that a terminal wants."""
+    """Whether a text has a name that a terminal requires."""
     party, _, name = wanted.partition("/")
     if not name:
         return any(it.process.name.lower() == party.lower() for it in book.actors)
@@ -344,7 +344,7 @@ def has(book, wanted):
     return brought and sorts == ([SORTS[name]] if name in SORTS else [])
 
 
-# What a text may have besides, in the order in which it is asked for.
+# What a text may have besides, in the order in which a terminal looks for it.
 ASKED = (
     "LSC/Flush LSC/Continue CC/Overload ENV/Deliver ENV/Cleared ENV/Clear RC/Odd AERM/Counting SUERM/Counting".split()
 )
@@ -455,7 +455,7 @@ def times(word):
 
 
 def octets_of_words(words):
-    """The octets of a unit that is written as `out` prints it, but for a message's field, which stands behind `sif`."""
+    """The octets of a unit that is written as `out` prints it, except a message's field, which follows `sif`."""
     kind, names, values = words[0], words[1::2], words[2::2]
     wanted = {"FISU": [], "LSSU": ["status"], "MSU": ["sio", "sif"]}
     if kind not in wanted or names != ["bsn", "bib", "fsn", "fib", *wanted[kind]] or len(values) != len(names):
@@ -476,7 +476,7 @@ def octets_of_words(words):
 
 
 def told(terminal):
-    """What the terminal tells next."""
+    """The terminal's next report."""
     if terminal.messages:
         return "message " + bytes(terminal.messages.pop(0)).hex().upper()
     if not terminal.statuses:
@@ -486,7 +486,7 @@ def told(terminal):
 
 
 def retrieved(terminal, behind):
-    """Hands out what comes behind a number, or what was never sent; a text hears of it where messages were out."""
+    """Hands out the messages after a number, or those never sent; a text hears of it if messages were out."""
     sender = terminal.sender
     out = sender.sent - sender.acknowledged
     count = out if behind is None else (behind - (sender.acknowledged - sender.origin - 1)) % 128
@@ -572,7 +572,7 @@ def is_terminal(script):
 
 
 def limits_of(words):
-    """The limits N1 and N2 that the first line of a terminal script says, if it is one."""
+    """The limits N1 and N2 of the first line of a terminal script, if it is one."""
     if words in (["terminal", "basic"], ["terminal", "cyclic"]):
         return []
     if words[:2] != ["terminal", "cyclic"] or len(words) != 4:
@@ -605,7 +605,7 @@ def play(word, script, say):
 
 
 def play_text(text, script, say, usual=()):
-    """Plays a script on a text, and gives the status; with these N1 and N2 where it says none."""
+    """Plays a script on a text, and gives the status; with these N1 and N2 if it says none."""
     if not is_terminal(script):
         return play_book(text, script, say)
     (_, first), *lines = spoken(script)

@@ -1,4 +1,4 @@
-"""A plain terminal on a line, written apart from the program: to hold `mtp2_play line` against. Its terminal is that of
+"""A plain terminal on a line, written apart from the program: to compare with `mtp2_play line`. Its terminal is that of
 plain_term.py; the octets, the orders and the reports are as docs/links.md says them, on whole lists.
 
 usage: tools/oracles/plain_tied.py MODE [--text SET] [--n1 N] [--n2 N] [--orders FILE] [--reports FILE] [--bits
@@ -6,8 +6,8 @@ low|high] [--ahead N]
                                                                       a filter, as `mtp2_play line` is; it reads all
                                                                       before it writes
        tools/oracles/plain_tied.py --two MODE MILLISECONDS FIRST SECOND
-           two of them tied crosswise, by their files of orders: what each tells, and how many octets each sent, with
-           their CRC-32
+           two of them tied crosswise, by their files of orders: the reports of each, and how many octets each sent,
+           with their CRC-32
        tools/oracles/plain_tied.py --tied [--check]
            examples/line/tied.txt with its lives worked out; with --check nothing is printed, and the status is 1 where
            it differs"""
@@ -39,7 +39,7 @@ def millisecond(word):
     return int(word) if DIGITS.fullmatch(word) and int(word) < 2**64 else None
 
 
-# What a report that is no order has behind its millisecond.
+# The word after the millisecond of a report that is no order.
 REPORTED = ("in", "down", "far", "cleared", "message", "state", "value", *ASKED, "refused", "lost", "orders")
 
 
@@ -68,7 +68,7 @@ def orders_of(stream):
 
 
 class Filter:
-    """One end. What it sent and what it told are whole lists."""
+    """One end. The octets sent and the reports are whole lists."""
 
     def __init__(self, mode, orders=b"", ahead=0, text=TEXT, limits=()):
         self.terminal, self.orders = Far(text, mode == "cyclic", *limits), list(orders_of(orders))
@@ -76,7 +76,7 @@ class Filter:
         self.ready, self.rest, self.begun = [], [], False
 
     def step(self, octet):
-        """An octet out, one in, and behind each eighth a tick."""
+        """An octet out, one in, and after each eighth a tick."""
         self.sent.append(self.octet_out())
         assert self.terminal.line_in(bytes([octet])) == 1
         self.tell_all(self.count // 8)
@@ -128,7 +128,7 @@ class Filter:
             self.tell_all(now)
 
     def obey(self, words):
-        """What an order asked for, if it asked for something."""
+        """The answer to an order, if it has one."""
         book = self.terminal.book
         if words[0] == "command" and len(words) == 2 or words[0] in ORDERS and len(words) == 1:
             if words[-1] not in ORDERS:
@@ -187,7 +187,7 @@ def two(mode, milliseconds, first, second, damaged=None, sets=("standard", "stan
 
 
 def entries():
-    """The lives of the table: the name, what stands before its line `--`, the words for `two`, and the lines behind
+    """The lives of the table: the name, what stands before its line `--`, the words for `two`, and the lines after
     it."""
     for entry in TIED.read_text().split("\n== ")[1:]:
         given, shown = entry.split("\n--\n")

@@ -1,5 +1,5 @@
-"""What happens as a script runs, by the plain players of plain_play.py, plain_term.py and plain_group.py, which were
-written apart from the program: a line for each event, a chart, and what of the text was taken.
+"""The events as a script runs, by the plain players of plain_play.py, plain_term.py and plain_group.py, which were
+written apart from the program: a line for each event, a chart, and the parts of the text taken.
 
 usage: tools/oracles/plain_trace.py SET SCRIPT [--every]      prints the trace of a script
        tools/oracles/plain_trace.py SET SCRIPT --chart [--turns A..B]     prints it as a chart in mscgen's language
@@ -8,8 +8,8 @@ usage: tools/oracles/plain_trace.py SET SCRIPT [--every]      prints the trace o
        tools/oracles/plain_trace.py SET SCRIPT --thrown
            prints which signals were thrown away in which states, and how often, in the order of the first time
 
-SET and SCRIPT are as plain_term.py has them; the status is that of the script. Lines of a trace, behind the ticks gone
-by:
+SET and SCRIPT are as plain_term.py has them; the status is that of the script. Lines of a trace, each after the ticks
+gone by:
 
     > COMMAND                                               a line of the script, but for state, value, measure NAME and
                                                             expect
@@ -18,11 +18,11 @@ by:
     T skip ACTOR STATE/SIG v .. from SENDER                 with --every; a timer has no sender
     T turn N ACTOR STATE/SIG v .. from SENDER, STATE count C of BUDGET, EFFECT .., VAR := V ..
 
-In a script of a link set what happens on a link stands behind `on L`, link by link; in front of that stands what
-messages of changeover said: T heard COO link L fsn N, T said ... A turn has a line as it ends, with its number from 0
+In a script of a link set the events of a link follow `on L`, link by link; before that come the messages of changeover:
+T heard COO link L fsn N, T said ... A turn has a line as it ends, with its number from 0
 as it began, in the order of all turns. Without --every one that keeps its state and has no effect has none. EFFECT is
-`SIG v .. to ACTOR`, with `lost WHY` behind it where nobody got it, `set TIMER at T` or `reset TIMER`; of variables
-those stand there that the turn changed."""
+`SIG v .. to ACTOR`, followed by `lost WHY` if no actor got it, `set TIMER at T` or `reset TIMER`; of variables it has
+those that the turn changed."""
 import collections
 import pathlib
 import sys
@@ -41,7 +41,7 @@ def values(given):
     return " ".join(map(shown, given))
 
 
-# What is taken of a text.
+# The parts of a text that are taken.
 
 
 class Taken:
@@ -122,7 +122,7 @@ class Taken:
 
 
 class SeenTurn(plain_turn.Turn):
-    """A turn of which it is told what it takes."""
+    """A turn that records the parts of the text that it takes."""
 
     def __init__(self, book, actor):
         self.taken, self.answers = book.seen.taken, {}
@@ -148,11 +148,11 @@ class SeenTurn(plain_turn.Turn):
         return super().decide(act)
 
 
-# What is told.
+# The records.
 
 
 class SeenBook(Book):
-    """A book of which it is told what happens."""
+    """A book that records its events."""
 
     seen = None
 
@@ -230,7 +230,7 @@ class SeenBook(Book):
 
 
 class Seen:
-    """What is seen of a script as it runs."""
+    """The records of a script as it runs."""
 
     def __init__(self, text, every=False):
         self.text, self.every, self.lines, self.turns = text, every, [], []

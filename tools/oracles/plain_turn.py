@@ -1,4 +1,4 @@
-"""A turn of an actor, by the statements of its process text: what the books of plain_play.py stand on."""
+"""A turn of an actor, by the statements of its process text: for the books of plain_play.py."""
 from tools.oracles.plain_check import lo
 
 LEAST, GREATEST = -(2**31), 2**31 - 1
@@ -18,7 +18,7 @@ def constant(it):
 
 
 class Turn:
-    """What a turn does: its effects, the variables behind it, its end (None for a STOP), and what it counts."""
+    """A turn: its effects, the variables after it, its end (None for a STOP), and what it counts."""
 
     def __init__(self, book, actor):
         self.book, self.process, self.variables, self.effects, self.count = (

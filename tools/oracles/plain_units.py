@@ -1,5 +1,5 @@
-"""Signal units, the line and the stores of Q.703, plainly and on whole lists: what the terminals of plain_term.py stand
-on. Each counts what Q.752 asks of it, by name."""
+"""Signal units, the line and the stores of Q.703, plainly and on whole lists: for the terminals of plain_term.py. Each
+keeps the counts of Q.752, by name."""
 from collections import Counter
 
 from tools.oracles.plain_turn import Refused
@@ -48,7 +48,7 @@ def decoded(octets):
 
 
 def stuffed(bits):
-    """The bits with a 0 behind each five 1s."""
+    """The bits with a 0 after each five 1s."""
     line, ones = [], 0
     for bit in bits:
         line.append(bit)
@@ -60,7 +60,7 @@ def stuffed(bits):
 
 
 def unstuffed(bits):
-    """The bits without the 0 behind each five 1s; a 1 there stays."""
+    """The bits without the 0 after each five 1s; a 1 there stays."""
     content, ones = [], 0
     for bit in bits:
         if ones == 5 and not bit:
@@ -107,7 +107,7 @@ class Line:
         return [unit] if unit or not was else []
 
     def is_long(self):
-        """Whether there is too much behind the last flag, eight bits less than so far."""
+        """Whether there are too many bits after the last flag, eight bits less than so far."""
         bits = self.bits[self.content : -7]
         return len(bits) > 2224 and len(unstuffed(bits)) > 2224
 

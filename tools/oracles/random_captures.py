@@ -1,9 +1,9 @@
-"""Holds captures of `mtp2_play line` against tools/oracles/plain_capture.py, on the lines of
+"""Compares captures of `mtp2_play line` with tools/oracles/plain_capture.py, on the lines of
 tools/oracles/random_lines: the octets that go out are those without a capture, and the capture is that of the octets
 each way.
 
 usage: tools/oracles/random_captures [COUNT [SEED]]
-           100 lines where nothing is said; ends with status 1 where one differs"""
+           100 lines if nothing is said; ends with status 1 if one differs"""
 import pathlib
 import sys
 import tempfile

@@ -1,6 +1,6 @@
-"""What random_texts, random_scripts, random_terminals, random_groups and random_lines share: cases made by number and
-seed, side by side on all processors, held against what the plain programs of this folder say. A case that differs is
-left in out/NAME/, with both answers."""
+"""Code shared by random_texts, random_scripts, random_terminals, random_groups and random_lines: cases made by number
+and seed, side by side on all processors, held against what the plain programs of this folder say. A case that differs
+is left in out/NAME/, with both answers."""
 import collections
 import os
 import random
@@ -55,7 +55,7 @@ def differs(name, make, seed, number):
 
 
 def several(name, make, seed, numbers):
-    """The same of several cases, so that few of them are handed to and fro: how many came to what, and the
+    """Makes and plays several cases at once, so that few of them are handed to and fro: how many came to what, and the
     differences."""
     sums, found = collections.Counter(), []
     for number in numbers:
@@ -69,7 +69,7 @@ def hold(name, make, words, count):
     """Makes so many cases, and tells which differ and what the others came to. `make` gives for dice the words of a
     command line, what stands in standard input, the lines or the octets and the status that are wanted (and what has to
     be told on standard error, where that is compared, or what says what is wrong there), or none where they aren't
-    known, and what is shown of the case. Gives the exit status."""
+    known, and what is shown of the case. Returns the exit status."""
     asked = Asked(words, count)
     if missing(PLAY):
         return 2

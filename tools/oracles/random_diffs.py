@@ -1,9 +1,9 @@
-"""Holds `mtp2_play diff` against tools/oracles/plain_diff.py on random pairs of process texts: a text of examples/ or
-one made by the grammar, and the same with few changes: a token replaced, statements or whole parts moved, connections
+"""Compares `mtp2_play diff` with tools/oracles/plain_diff.py on random pairs of process texts: a text of examples/ or
+one made by the grammar, and a copy with few changes: a token replaced, statements or whole parts moved, connections
 renamed, something declared in front of the others or left out.
 
 usage: tools/oracles/random_diffs [COUNT [SEED]] [-j JOBS]
-           300 pairs where nothing is said; ends with status 1 where one differs
+           300 pairs if nothing is said; ends with status 1 if one differs
        tools/oracles/random_diffs [COUNT [SEED]] --only N      makes the Nth pair and says what comes of it
 
 The first text of each pair is left in out/random_diffs/; of a pair that differs the second one too, with both answers.

@@ -1,11 +1,11 @@
-"""Holds `mtp2_play play` against tools/oracles/plain_group.py on random scripts of link sets, on the sets of
+"""Compares `mtp2_play play` with tools/oracles/plain_group.py on random scripts of link sets, on the sets of
 tools/oracles/random_terminals.
 
 usage: tools/oracles/random_groups [COUNT [SEED]] [-j JOBS]
-           100 scripts where nothing is said; ends with status 1 where one differs
+           100 scripts if nothing is said; ends with status 1 if one differs
        tools/oracles/random_groups [COUNT [SEED]] --only N      prints the Nth script and what comes of it
        tools/oracles/random_groups --plain COUNT
-           plays them by the plain player alone, and tells what was seen
+           plays them only by the plain player, and prints the kinds seen
 
 A script is made while the plain player plays it, so that its messages of changeover are mostly such as the other end
 could send just then. One that differs is left in out/random_groups/, with both answers. MTP2_PLAY names another program
@@ -82,7 +82,7 @@ def bound(dice):
 
 
 def steps(dice, player):
-    """What may come next in a changeover of the link that is spoken of."""
+    """What may come next in a changeover of the current link."""
     link = player.group.links[player.on]
     if link.out:
         return dice.choice(

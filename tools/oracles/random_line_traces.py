@@ -1,8 +1,8 @@
-"""Holds `mtp2_play line --trace` against tools/oracles/plain_trace.py on the lines of tools/oracles/random_lines: what
-is traced, and that what goes out and is told is as without a trace.
+"""Compares `mtp2_play line --trace` with tools/oracles/plain_trace.py on the lines of tools/oracles/random_lines: the
+trace, and that output and reports are as without a trace.
 
 usage: tools/oracles/random_line_traces [COUNT [SEED]] [-j JOBS]
-           100 lines where nothing is said; ends with status 1 where one differs
+           100 lines if nothing is said; ends with status 1 if one differs
        tools/oracles/random_line_traces [COUNT [SEED]] --only N
            writes the Nth line's octets, and tells what comes of it
 

@@ -1,10 +1,10 @@
-"""Holds `mtp2_play line` against tools/oracles/plain_tied.py on random lines: two plain ends are tied, each by orders
+"""Compares `mtp2_play line` with tools/oracles/plain_tied.py on random lines: two plain ends are tied, each by orders
 of its own and on a set of its own (those of
-tools/oracles/random_terminals), over a channel that damages bits; then the program gets what the first one heard, and
-its orders, and has to send and to tell the same.
+tools/oracles/random_terminals), over a channel that damages bits; then the program gets the octets that the first one
+heard, and its orders, and has to send the same octets and reports.
 
 usage: tools/oracles/random_lines [COUNT [SEED]] [-j JOBS]
-           100 lines where nothing is said; ends with status 1 where one differs
+           100 lines if nothing is said; ends with status 1 if one differs
        tools/oracles/random_lines [COUNT [SEED]] --only N      writes the Nth line's octets, and tells what comes of it
 
 The orders are left in out/random_lines/, and of a line that differs both answers. MTP2_PLAY names another program than

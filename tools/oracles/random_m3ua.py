@@ -1,8 +1,8 @@
-"""Holds the program trials_m3ua against tools/oracles/plain_m3ua, on streams of tampered messages in pieces: octets
+"""Compares the program trials_m3ua with tools/oracles/plain_m3ua, on streams of tampered messages in pieces: octets
 changed, left out, doubled and put between, lengths that are wrong, messages cut off.
 
 usage: tools/oracles/random_m3ua PROGRAM [COUNT [SEED]]     PROGRAM is trials_m3ua as it was built; 2,000 streams where
-nothing is said; ends with status 1 where one differs"""
+nothing is said; ends with status 1 if one differs"""
 import subprocess
 import sys
 

@@ -1,8 +1,8 @@
-"""Holds captures of `mtp2_play play` against tools/oracles/plain_capture.py on random scripts, those of
+"""Compares captures of `mtp2_play play` with tools/oracles/plain_capture.py on random scripts, those of
 random_terminals and of random_groups, each with `--every` or without.
 
 usage: tools/oracles/random_played [COUNT [SEED]] [-j JOBS]
-           300 scripts where nothing is said; ends with status 1 where one differs
+           300 scripts if nothing is said; ends with status 1 if one differs
        tools/oracles/random_played [COUNT [SEED]] --only N      prints the Nth script and what comes of it
 
 A script that differs is left in out/random_played/, with both answers. MTP2_PLAY names another program than the built

@@ -1,9 +1,9 @@
-"""Holds what `mtp2_play check` points at in a refused text, and what it says of it, against
+"""Compares the place that `mtp2_play check` points at in a refused text, and its message, with
 tools/oracles/plain_point.py and plain_reasons.py: each text is an accepted one, of examples/ or made by the grammar, in
 which one word was changed: another of its kind, one of any kind, one left out, one more.
 
 usage: tools/oracles/random_points [COUNT [SEED]] [-j JOBS]
-           300 refused texts where nothing is said; ends with status 1 where one differs
+           300 refused texts if nothing is said; ends with status 1 if one differs
        tools/oracles/random_points [COUNT [SEED]] --only N      prints the Nth text and what comes of it
 
 A text that differs is left in out/random_points/, with both answers. MTP2_PLAY

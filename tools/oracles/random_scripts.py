@@ -1,9 +1,9 @@
-"""Holds `mtp2_play play` against tools/oracles/plain_play.py on random scripts: half of them over the texts of
+"""Compares `mtp2_play play` with tools/oracles/plain_play.py on random scripts: half of them over the texts of
 examples/ and examples/scripts/, half over random texts (those of tools/oracles/random_texts that are accepted), whose
 processes have up to 8 instances.
 
 usage: tools/oracles/random_scripts [COUNT [SEED]] [-j JOBS]
-           200 scripts where nothing is said; ends with status 1 where one differs
+           200 scripts if nothing is said; ends with status 1 if one differs
        tools/oracles/random_scripts [COUNT [SEED]] --only N      prints the Nth script and what comes of it
 
 A script that differs is left in out/random_scripts/, with both answers; the random texts are left there too. The

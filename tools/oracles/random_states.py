@@ -1,8 +1,8 @@
-"""Holds `mtp2_play draw SET PROCESS --states` against tools/oracles/plain_states.py on a process of accepted process
+"""Compares `mtp2_play draw SET PROCESS --states` with tools/oracles/plain_states.py on a process of accepted process
 texts: those of examples/ and such as are made by the grammar.
 
 usage: tools/oracles/random_states [COUNT [SEED]] [-j JOBS]
-           300 diagrams where nothing is said; ends with status 1 where one differs
+           300 diagrams if nothing is said; ends with status 1 if one differs
        tools/oracles/random_states [COUNT [SEED]] --only N      prints the Nth text and what comes of it
 
 A text whose diagram differs is left in out/random_states/, with both answers. MTP2_PLAY names another program than the

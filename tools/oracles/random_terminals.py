@@ -1,11 +1,11 @@
-"""Holds `mtp2_play play` against tools/oracles/plain_term.py on random scripts of terminals: a third of them on
+"""Compares `mtp2_play play` with tools/oracles/plain_term.py on random scripts of terminals: a third of them on
 `standard`, the others on `q703`, on copies of `standard` with other numbers and on the texts of examples/links.
 
 usage: tools/oracles/random_terminals [COUNT [SEED]] [-j JOBS]
-           100 scripts where nothing is said; ends with status 1 where one differs
+           100 scripts if nothing is said; ends with status 1 if one differs
        tools/oracles/random_terminals [COUNT [SEED]] --only N      prints the Nth script and what comes of it
        tools/oracles/random_terminals --plain COUNT
-           plays them by the plain player alone, and tells which states were seen
+           plays them only by the plain player, and prints the states seen
 
 A script is made while the plain player plays it, so its units are mostly such as the other end could send just then.
 One that differs is left in out/random_terminals/, with both answers; the copies are left there too. MTP2_PLAY names
@@ -198,7 +198,7 @@ def any_set(dice):
 
 
 def script(dice, text=TEXT, usual=()):
-    """A random script on a set, with these N1 and N2 where it says none."""
+    """A random script on a set, with these N1 and N2 if it says none."""
     mode, chosen = dice.choice(["basic", "cyclic"]), []
     if mode == "cyclic" and dice.random() < 0.5:
         chosen = [dice.choice([1, 2, 3, 7, 126, 127]), dice.choice([300, 301, 600, 2999, 8191, 8192])]

@@ -1,9 +1,9 @@
-"""Holds `mtp2_play check` against tools/oracles/plain_check.py and plain_point.py on random process texts: half of them
+"""Compares `mtp2_play check` with tools/oracles/plain_check.py and plain_point.py on random process texts: half of them
 made by the grammar, mostly such as are accepted, and half texts of examples/ that were damaged: tokens or octets left
 out, doubled, changed, put elsewhere.
 
 usage: tools/oracles/random_texts [COUNT [SEED]] [-j JOBS]
-           1,000 texts where nothing is said; ends with status 1 where one differs
+           1,000 texts if nothing is said; ends with status 1 if one differs
        tools/oracles/random_texts [COUNT [SEED]] --only N      prints the Nth text and what comes of it
 
 A text that differs is left in out/random_texts/, with both answers. MTP2_PLAY names another program than the built
@@ -240,7 +240,7 @@ class Text:
         return "STOP;" if kind > 0.93 else f"NEXTSTATE {self.one(process.states)};"
 
     def transition(self, process, at, depth, has_sender, is_whole):
-        """A transition, and whether it goes on behind its last statement. `at` is the first of the connections that it
+        """A transition, and whether it goes on after its last statement. `at` is the first of the connections that it
         may join."""
         dice, parts = self.dice, []
         for _ in range(dice.choice([0, 1, 1, 2, 3] if depth else [0, 1, 1, 2, 3, 4])):
@@ -331,7 +331,7 @@ class Text:
 
 
 def tokens(text):
-    """The tokens of a text, each as its kind and its octets with what stands behind it; its octets where it has
+    """The tokens of a text, each as its kind and its octets with the blanks after it; its octets where it has
     none."""
     try:
         found = [

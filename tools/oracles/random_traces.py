@@ -1,9 +1,9 @@
-"""Holds `mtp2_play play` with `--trace`, `--chart`, `--coverage` or `--thrown` against tools/oracles/plain_trace.py on
-random scripts: those of random_scripts, of random_terminals, some of which ask what was measured too, and of
-random_groups, of which there are traces alone; a trace with `--every` or without, a chart of all turns or of some.
+"""Compares `mtp2_play play` with `--trace`, `--chart`, `--coverage` or `--thrown` with tools/oracles/plain_trace.py on
+random scripts: those of random_scripts, of random_terminals, some of which ask for measurements too, and of
+random_groups, of which there are only traces; a trace with `--every` or without, a chart of all turns or of some.
 
 usage: tools/oracles/random_traces [COUNT [SEED]] [-j JOBS]
-           300 scripts where nothing is said; ends with status 1 where one differs
+           300 scripts if nothing is said; ends with status 1 if one differs
        tools/oracles/random_traces [COUNT [SEED]] --only N      prints the Nth script and what comes of it
 With one of the four options itself, as in `random_traces 300 --coverage`, each script is held with that one.
 

@@ -4,7 +4,7 @@ that test.
 
 usage: tools/steps/acceptance [SET ..]     of crates/mtp2_play/out/mtp2_play, or of the program that MTP2_PLAY names
 
-The last line is `N passed, M failed`, and the status 1 where one failed."""
+The last line is `N passed, M failed`, and the status 1 if one failed."""
 import sys
 
 from tools import q781 as asked
@@ -12,7 +12,7 @@ from tools.steps.built import PLAY, Count, missing
 
 
 def strange(word, name, known):
-    """Why what came of a test isn't what is known of it."""
+    """Why the result of a test isn't the known one."""
     why = asked.fault(False, word, name)
     if known:
         return None if why else "passed, which known.txt doesn't say"

@@ -1,5 +1,5 @@
-"""What the tools share that try a built program: how a run ends, cases side by side, a library of C to load before it,
-and the last line."""
+"""Code shared by the tools that try a built program: how a run ends, cases side by side, a library of C to load before
+it, and the last line."""
 import concurrent.futures
 import multiprocessing
 import os
@@ -12,7 +12,7 @@ ROOT = pathlib.Path(__file__).resolve().parents[2]
 # The programs that `rt ci` leaves, or others in their place.
 PLAY = pathlib.Path(os.environ.get("MTP2_PLAY", ROOT / "crates" / "mtp2_play" / "out" / "mtp2_play"))
 TRIALS = pathlib.Path(os.environ.get("TRIALS", ROOT / "crates" / "trials" / "out" / "trials"))
-# The tests that want a loaded text, each run by its name.
+# The tests that need a loaded text, each run by its name.
 TESTS = pathlib.Path(os.environ.get("TEXT_TESTS", ROOT / "crates" / "trials_texts" / "out" / "trials_texts_tests"))
 # Seconds that one run may take: few take more than one, and this is for a machine that has much else to do.
 LIMIT = 600
@@ -35,13 +35,13 @@ class Run:
 
 
 class Count:
-    """How many cases passed and failed. What failed is told as it is found."""
+    """How many cases passed and failed. Failures are printed as they are found."""
 
     def __init__(self, name):
         self.name, self.passed, self.failed, self.skipped = name, 0, 0, 0
 
     def case(self, name, fault):
-        """Counts a case, whose fault is none where it passed."""
+        """Counts a case; its fault is None if it passed."""
         if fault:
             self.failed += 1
             print(f"{self.name}: {name}: {fault}", flush=True)
@@ -53,12 +53,12 @@ class Count:
         print(f"{self.name}: skipped: {why}", flush=True)
 
     def all(self, cases, call):
-        """Counts cases; `call` gives the fault of one, if it has one. A case is a name and what it is made of."""
+        """Counts cases; `call` returns the fault of one, if it has one. A case is a name and its parts."""
         for (name, *_), fault in zip(cases, side_by_side(call, [it[1:] for it in cases])):
             self.case(name, fault)
 
     def end(self):
-        """Prints the last line. Gives the exit status."""
+        """Prints the last line. Returns the exit status."""
         print(
             f"{self.passed} passed, {self.failed} failed" + (f", {self.skipped} skipped" if self.skipped else ""),
             flush=True,
@@ -72,7 +72,7 @@ def called(given):
 
 
 def side_by_side(call, given, jobs=None):
-    """What `call` gives for each of these, in their order and as each is there, asked on all processors, or in so many
+    """The result of `call` for each of these, in their order and as each is ready, on all processors or in so many
     processes."""
     how = {"max_workers": jobs or len(os.sched_getaffinity(0)), "mp_context": multiprocessing.get_context("fork")}
     try:
@@ -86,7 +86,7 @@ def side_by_side(call, given, jobs=None):
 
 
 def missing(*programs):
-    """Whether a program isn't there, which is told."""
+    """Whether a program isn't there; then it says so."""
     lacking = [it for it in programs if not os.access(it, os.X_OK)]
     for it in lacking:
         print(f"{it} isn't there: `rt ci` or `rt run` builds it", file=sys.stderr)

@@ -1,11 +1,11 @@
-"""Runs the built program's `line --capture` and `play --capture` and holds what they capture against
+"""Runs the built program's `line --capture` and `play --capture` and compares their captures with
 tools/oracles/plain_capture.py, which is written apart from them.
 
 usage: tools/steps/captures [PART ..]
-           the parts whose names begin so, all where none is named; of crates/mtp2_play/out/mtp2_play, or of the program
+           the parts whose names begin so, all if none is named; of crates/mtp2_play/out/mtp2_play, or of the program
            that MTP2_PLAY names
 
-The last line is `N passed, M failed`, and the status 1 where one failed."""
+The last line is `N passed, M failed`, and the status 1 if one failed."""
 import os
 import pathlib
 import random
@@ -74,7 +74,7 @@ def differ(wanted, path):
 
 
 def lives(room):
-    """The short lives of two ends: what one heard of the other and what it sent."""
+    """The short lives of two ends: the octets that one heard of the other and those that it sent."""
     for one in plain_tied.entries():
         if one[2][1] > MOST:
             continue
@@ -126,7 +126,7 @@ def noise(room):
 
 
 def quits(room):
-    """An order that ends the run: what came in behind it isn't captured."""
+    """An order that ends the run: octets after it aren't captured."""
     (room / "orders").write_bytes(b"power\nemergency\nstart\nat 100\nquit\n")
     other = Filter("basic", b"power\nemergency\nstart\n")
     for _ in range(4000):
@@ -209,7 +209,7 @@ def script_fault(word, script, every):
             set_text(word), script, every, said.append, plain_term.USUAL.get(word, ())
         )
     except (plain_term.BadLine, ValueError, KeyError, UnicodeDecodeError):
-        # (a script that is refused has no capture)
+        # (a refused script has no capture)
         return None
     with tempfile.TemporaryDirectory() as room:
         path = pathlib.Path(room) / "capture"

@@ -1,13 +1,13 @@
-"""Runs the built program on command lines, and compares standard output, standard error and the status with what has to
-be there: the table examples/commands.txt, what examples/pointed.txt has of refused texts, and the examples of README.md
-and docs/: a line `    $ COMMAND`, with what it prints on the lines below it, of which a line `..` stands for any.
+"""Runs the built program on command lines, and compares standard output, standard error and the status with the
+expected ones: the table examples/commands.txt, the refused texts of examples/pointed.txt, and the examples of README.md
+and docs/: a line `    $ COMMAND`, with its output on the lines below it; a line `..` there stands for any lines.
 
 usage: tools/steps/commands            of crates/mtp2_play/out/mtp2_play, or of the program that MTP2_PLAY names
        tools/steps/commands --list     prints the command lines of the table
 
-The last line is `N passed, M failed`, and the status 1 where one failed. In the table `== NAME` begins an entry and `==
+The last line is `N passed, M failed`, and the status 1 if one failed. In the table `== NAME` begins an entry and `==
 file NAME` a file that lies in the folder where the command lines run, beside the folder examples. The first line of an
-entry has the words, as a shell parts them; then comes what stands in standard input, a line `--`, standard output, a
+entry has the words, as a shell parts them; then come standard input, a line `--`, standard output, a
 line `exit N`, and standard error. `%N{..}` stands for N copies of what is in the braces, `<XX>` for an octet in two
 hexadecimal digits, a line `<TEXT NAME>` for the lines of a text in expected.txt, and a line `<FILE NAME>` for those of
 a file of examples/."""
@@ -75,15 +75,15 @@ def entry(lines, printed):
 
 
 def reasons(out):
-    """What stands on standard error beside this output, as a pattern: a line for the line of a script that is refused
+    """Standard error for this output, as a pattern: a line for the line of a script that is refused
     by X1, and one for each B3."""
     lines = [it for it in out.split(b"\n") if it.startswith(b"refused X1 BadLine line ") or it == b"refused B3 NoRoute"]
     return b"".join(b"mtp2_play: line %s: .+\n" % (it.split()[-1] if b"X1" in it else b"[0-9]+") for it in lines)
 
 
 def fault(folder, words, given, out, status, said=None):
-    """What is wrong with the run of a command line, if something is. Where it isn't given what standard error holds,
-    reasons stand there alone."""
+    """What is wrong with the run of a command line, if something is. If standard error isn't given, it has only
+    reasons."""
     run = Run(words, given, folder=folder)
     if run.status != status:
         return f"status {run.status} and not {status}; it said {run.said[-300:].decode(errors='replace')!r}"
@@ -112,7 +112,7 @@ def table(folder, printed):
 
 
 def pointed():
-    """Each refused text with what stands on standard error, and the words, standard output and status of its check."""
+    """Each refused text with its standard error, and the words, standard output and status of its check."""
     for name, text, said in examples.parted("pointed.txt"):
         text, said = (it.replace("<TAB>", "\t") for it in (text, said))
         given = examples.copied(text).rstrip("\n").encode()
@@ -120,7 +120,7 @@ def pointed():
 
 
 def points(folder, given, said):
-    """What is wrong with what the check of a text says of where it is refused, if something is."""
+    """What is wrong with the place that the check of a text names, if something is."""
     run = Run(["check", "stdin"], given, folder=folder)
     if run.status != 2:
         return f"status {run.status}; it said {run.said[-300:].decode(errors='replace')!r}"

@@ -1,14 +1,14 @@
-"""Runs one end of a line where the streams of its orders and reports fail, come in pieces, are interrupted, come late
-or are drained late, and where a standard stream is closed.
+"""Runs one end of a line with streams of orders and reports that fail, come in pieces, are interrupted, come late or
+are drained late, and with a closed standard stream.
 
 usage: tools/steps/ends [--wait SECONDS] [PART ..]
-           the parts whose names begin so, all where none is named; of crates/mtp2_play/out/mtp2_play, or of the program
+           the parts whose names begin so, all if none is named; of crates/mtp2_play/out/mtp2_play, or of the program
            that MTP2_PLAY names
 
-A report that doesn't come is waited for so many seconds (120 where none are said), and a run ten times as long at most,
-ten minutes at most: a few are enough for a program that is known to be wrong, on a machine that does nothing else. The
-last line is `N passed, M failed`, and the status 1 where one failed. Where no C compiler is there, what
-tools/c/streams.c and tools/c/rests.c do is skipped."""
+It waits for a report that doesn't come for so many seconds (120 if none are said), and for a run ten times as long, at
+most ten minutes: a few are enough for a program that is known to be wrong, on a machine that does nothing else. The
+last line is `N passed, M failed`, and the status 1 if one failed. If no C compiler is there, the tests by
+tools/c/streams.c and tools/c/rests.c are skipped."""
 import argparse
 import contextlib
 import fcntl
@@ -27,10 +27,10 @@ from tools.steps.built import LIMIT, PLAY, ROOT, Count, differs, library, missin
 # Seconds for which a report is waited for, and that a run may take: a report that comes takes milliseconds.
 PATIENCE, LONGEST = 120, LIMIT
 ONES = b"\xff" * 8
-# Orders that are obeyed in milliseconds 1 to 6, and what is told for them.
+# Orders that are obeyed in milliseconds 1 to 6, and the reports for them.
 ORDERS = b"power\nstate LSC\nat 3\nmsu 850102\nat 5\nstate IAC\n"
 TOLD = b"1 ok power\n1 ok state LSC\n1 state LSC OutOfService\n3 ok msu 850102\n5 ok state IAC\n5 state IAC Idle\n"
-# Orders that are told by one line each.
+# Orders that are reported by one line each.
 ONE_BY_ONE = [b"power\n", b"calm\n", b"calm\nquit\n"]
 # Of a pipe that holds little.
 SMALL = 4096
@@ -47,7 +47,7 @@ class Drain:
             fcntl.fcntl(self.file, fcntl.F_SETPIPE_SZ, size)
 
     def takes(self, count=65536):
-        """Takes what is there, so many octets at most. Whether something was."""
+        """Takes the octets that are there, so many at most. Returns whether there were any."""
         with contextlib.suppress(BlockingIOError):
             part = os.read(self.file, count)
             self.got += part
@@ -61,7 +61,7 @@ class Drain:
 
 
 class Line:
-    """A run of `line` that is held from outside: it is given line octets, and what it tells is seen as it goes."""
+    """A run of `line` that is held from outside: it gets line octets, and its reports are read as it goes."""
 
     def __init__(self, room, orders, reports, *words, given=ORDERS, size=None, **variables):
         self.orders, self.reports, self.kind = room / "orders", room / "reports", reports
@@ -98,7 +98,7 @@ class Line:
         self.limit.start()
 
     def is_told(self, orders):
-        """Gives it orders behind those that it has."""
+        """Gives it orders after those that it has."""
         if self.writer is not None:
             os.write(self.writer, orders)
         else:
@@ -118,7 +118,7 @@ class Line:
         return len(self.run.stdout.read(len(octets))) == len(octets)
 
     def told(self):
-        """What was told so far."""
+        """The reports so far."""
         if self.kind == "errors":
             self.heard += self.run.stderr.read() or b""
             return self.heard
@@ -127,7 +127,7 @@ class Line:
         return self.reports.read_bytes() if self.reports.is_file() else b""
 
     def ends(self):
-        """Ends the line, and waits for the run's end. Gives the status."""
+        """Ends the line, and waits for the run's end. Returns the status."""
         with contextlib.suppress(BrokenPipeError):
             self.run.stdin.close()
         self.run.stdout.read()
@@ -168,9 +168,9 @@ def whole(room, orders, reports, **variables):
 
 
 def fails(room, orders, reports, number=1, **variables):
-    """What is wrong where the write or read of this number fails, if something is: the run ends with status 4, and what
-    it told is a beginning. Each report before is seen before the next order is given, so that none goes by another's
-    write, and the order `quit` stands behind the last one: no run goes on."""
+    """What is wrong where the write or read of this number fails, if something is: the run ends with status 4, and its
+    reports are a beginning of the usual ones. Each report before is seen before the next order is given, so that none
+    goes by another's write, and the order `quit` follows the last one: no run goes on."""
     first = ONE_BY_ONE[: number - 1]
     line = Line(room, orders, reports, given=b"", **variables)
     for place, order in enumerate(first):
@@ -241,14 +241,14 @@ def full(room, _):
 
 
 def remarked(room, _):
-    """Orders behind 20,000 octets of remarks, of a file and of a FIFO."""
+    """Orders after 20,000 octets of remarks, of a file and of a FIFO."""
     given = b"# a remark\n" * 1819 + ORDERS
     for orders in ("file", "FIFO"):
         yield f"20,000 octets of remarks in a {orders}", whole(room, orders, "file", given=given)
 
 
 def opened(room, _):
-    """How files are opened: a file of orders to read alone, and reports only once the orders are there."""
+    """How files are opened: a file of orders only to read, and reports only once the orders are there."""
     line = Line(room, "file", "file")
     line.gives()
     found = [
@@ -293,7 +293,7 @@ def as_another(room):
 
 
 def paused(room, _):
-    """Reports one at a time, each behind a pause in which the thread that has them go on falls asleep: each comes
+    """Reports one at a time, each after a pause in which the thread that has them go on falls asleep: each comes
     before the next order is given."""
     line = Line(room, "FIFO", "FIFO", given=b"")
     fault = None
@@ -316,7 +316,7 @@ def paused(room, _):
 
 
 def asleep(room, _):
-    """A report that comes once the thread sleeps, with no octet behind it: nothing else wakes it."""
+    """A report that comes once the thread sleeps, with no octet after it: nothing else wakes it."""
     given = b"".join(b"at %d\nstate LSC\n" % it for it in range(1, 201))
     line, fault = Line(room, "file", "FIFO", given=given), None
     for number in range(1, 201):
@@ -336,7 +336,7 @@ def asleep(room, _):
 
 def resting(room, loaded):
     """Each report comes while the thread that had the one before go on rests between two instructions of its way into
-    sleep, each time between others (tools/c/rests.c), and nothing comes behind it: so the thread has to find it there
+    sleep, each time between others (tools/c/rests.c), and nothing comes after it: so the thread has to find it there
     before it sleeps."""
     if loaded is None or platform.machine() != "x86_64":
         return
@@ -365,8 +365,8 @@ def resting(room, loaded):
 
 
 def drained(line, told, how):
-    """Ends a line whose reports wait, has them drained by `how` meanwhile, and gives the status with what is wrong with
-    what was told, if something is."""
+    """Ends a line whose reports wait, has them drained by `how` meanwhile, and returns the status with the fault of the
+    reports, if there is one."""
 
     def drain():
         how()
@@ -475,8 +475,8 @@ PARTS = [
 
 
 def tried(place, loaded):
-    """The cases of a part, each with what is wrong with it. Where a run ends, or doesn't, as the part doesn't expect at
-    all, that is the fault of a case too."""
+    """The cases of a part, each with what is wrong with it. If a run ends, or doesn't, against the part's expectation,
+    that is the fault of a case too."""
     cases = []
     with tempfile.TemporaryDirectory() as folder:
         try:

@@ -1,20 +1,20 @@
 """Runs the built program on the tables of texts and of scripts in examples/, and compares standard output and the
-status with what stands there; of a text that is refused also the line, the column and the carets on standard error with
-what the plain checker (tools/oracles/plain_point.py) points at.
+status with the tables; of a refused text also the line, the column and the carets on standard error with the place that
+the plain checker (tools/oracles/plain_point.py) points at.
 
 - `check`: each text of examples/ with its lines in expected.txt, also `standard` and `monitors` by their words; the
-  texts of refusals.txt; and two texts cut off behind each of their tokens.
+  texts of refusals.txt; and two texts cut off after each of their tokens.
 - `play`: the scripts of scripts/table.txt, and of links/table.txt, sets.txt and names.txt, those of terminals and of
-  link sets; and links/*.script, which hold themselves what they expect.
+  link sets; and links/*.script, which contain their own expectations.
 
 usage: tools/steps/examples [NAME ..]
-           the cases whose names begin so, all where none is named; of crates/mtp2_play/out/mtp2_play, or of the program
+           the cases whose names begin so, all if none is named; of crates/mtp2_play/out/mtp2_play, or of the program
            that MTP2_PLAY names
        tools/steps/examples --plain
            asks the plain checker and the plain players, written apart from the program, in its place
        tools/steps/examples --list        prints the names of all cases
 
-The last line is `N passed, M failed`, and the status 1 where one failed. In refusals.txt `== NAME` begins an entry, and
+The last line is `N passed, M failed`, and the status 1 if one failed. In refusals.txt `== NAME` begins an entry, and
 a line `--` parts its text from the lines that are printed for it. `%N{..}` in a text, or in its lines, stands for N
 copies of what is in the braces, in which `#` is the number of the copy, from 1. In a table of scripts `== TEXT: NAME`
 begins an entry, where TEXT is a file of examples/scripts or of examples; a line `--` parts the script from the lines;
@@ -35,7 +35,7 @@ from tools.oracles.plain_term import SETS, text_of
 from tools.steps.built import PLAY, ROOT, Count, Run, differs, missing
 
 EXAMPLES = ROOT / "examples"
-# The texts that are also read cut off behind each of their tokens.
+# The texts that are also read cut off after each of their tokens.
 CUT = ["counter.sdl", "lock.sdl"]
 # The tables of scripts of terminals and of link sets.
 LINKS = ["table.txt", "sets.txt"]
@@ -50,7 +50,7 @@ def copied(text):
 
 
 def parted(path):
-    """The name of each entry of a table, and what stands before and behind its line `--`."""
+    """The name of each entry of a table, and the lines before and after its line `--`."""
     for part in (EXAMPLES / path).read_text().split("\n== ")[1:]:
         name, rest = part.split("\n", 1)
         given, lines = ("\n" + rest).split("\n--\n")
@@ -58,7 +58,7 @@ def parted(path):
 
 
 def expected():
-    """What is to be printed for each text of examples/, by its file name."""
+    """The expected output for each text of examples/, by its file name."""
     parts = (it.split("\n") for it in (EXAMPLES / "expected.txt").read_text().strip("\n").split("\n\n"))
     return {name: lines for name, *lines in parts}
 
@@ -101,8 +101,8 @@ def book_scripts():
 
 
 def link_scripts():
-    """The same of each entry of the tables of scripts of terminals and of link sets, with the word or the file of the
-    set of processes; and of each text that may lack a name."""
+    """The name, the script, the lines and the status of each entry of the tables of scripts of terminals and of link
+    sets, with the word or the file of the set of processes; and of each text that may lack a name."""
     for table in LINKS:
         for name, *rest in link_entries((EXAMPLES / "links" / table).read_text()):
             yield f"{table}, {name}", *rest
@@ -116,7 +116,7 @@ def link_scripts():
 
 
 def held():
-    """The name and the script of each that holds itself what it expects."""
+    """The name and the script of each that contains its own expectations."""
     for path in sorted((EXAMPLES / "links").glob("*.script")):
         yield path.name, path.read_bytes()
 
@@ -165,7 +165,8 @@ def fault(words, given, wrote, status):
 
 
 def plain_cases():
-    """Each case by its name: who says what is printed, of what, the lines, if they are known, and the status."""
+    """Each case by its name: the plain program that prints it, its input, the lines, if they are known, and the
+    status."""
     for name, text, lines in texts():
         if text.count("(") >= MOST_NESTED:
             continue
@@ -184,7 +185,7 @@ def said_by(player, text, script):
 
 
 def plain_fault(says, given, lines, status):
-    """What is wrong with what the plain programs say, if something is."""
+    """What is wrong with the output of the plain programs, if something is."""
     said, ended = says(*given)
     if ended != status:
         return f"status {ended} and not {status}"

@@ -1,11 +1,11 @@
-"""Runs the built program's `line` on files, pipes and FIFOs, and holds what it writes and tells against
-tools/oracles/plain_tied.py, a filter written apart from it, and against the lives of examples/line/lives.txt.
+"""Runs the built program's `line` on files, pipes and FIFOs, and compares its output and its reports with
+tools/oracles/plain_tied.py, a filter written apart from it, and with the lives of examples/line/lives.txt.
 
 usage: tools/steps/lines [PART ..]
-           the parts whose names begin so, all where none is named; of crates/mtp2_play/out/mtp2_play, or of the program
+           the parts whose names begin so, all if none is named; of crates/mtp2_play/out/mtp2_play, or of the program
            that MTP2_PLAY names
 
-The last line is `N passed, M failed`, and the status 1 where one failed."""
+The last line is `N passed, M failed`, and the status 1 if one failed."""
 import contextlib
 import os
 import pathlib
@@ -38,7 +38,7 @@ def run(room, given, *words, orders=None, **how):
 
 
 def plain(given, mode="basic", orders=b"", ahead=0):
-    """What the plain filter writes and tells."""
+    """The output and the reports of the plain filter."""
     end = Filter(mode, orders, ahead)
     for octet in given:
         if not end.over:
@@ -118,7 +118,7 @@ def from_file(room, given, mode):
 
 
 def orders(room):
-    """Lines of orders that are none, or are cut."""
+    """Lines of orders that are wrong, or are cut."""
     come = b"\xff" * 160
     for name, given in {
         "600 octets": b"value LSC " + b"x" * 590 + b"\nstate LSC\n",
@@ -181,7 +181,7 @@ class End:
             [PLAY, "line", mode, *words], stdin=subprocess.PIPE, stdout=subprocess.PIPE, stderr=subprocess.DEVNULL
         )
         self.until = time.monotonic() + LIMIT
-        # (a run that goes nowhere ends so, and what is read from it with it)
+        # (a run that goes nowhere ends so, and reading from it too)
         self.limit = threading.Timer(LIMIT, self.run.kill)
         self.limit.daemon = True
         self.limit.start()
@@ -203,12 +203,12 @@ class End:
         return len(os.listdir(f"/proc/{self.run.pid}/task"))
 
     def closes(self):
-        """Ends the line. What was to go out has been read."""
+        """Ends the line. All output has been read."""
         with contextlib.suppress(BrokenPipeError):
             self.run.stdin.close()
 
     def ends(self):
-        """Ends the line, and waits for the run's end. Gives the status."""
+        """Ends the line, and waits for the run's end. Returns the status."""
         self.closes()
         self.run.stdout.read()
         status = self.run.wait()
@@ -217,7 +217,7 @@ class End:
 
 
 def told_by(path):
-    """What was told so far, without the milliseconds; a line that isn't whole yet is left out."""
+    """The reports so far, without the milliseconds; a line that isn't whole yet is left out."""
     return [it.partition(b" ")[2] for it in path.read_bytes().split(b"\n")[:-1]] if path.is_file() else []
 
 
@@ -248,15 +248,15 @@ def growing(room):
 
 
 def told_to(end, reports, wanted):
-    """Lets milliseconds pass until as many lines are told as are wanted, and gives those that are."""
+    """Lets milliseconds pass until so many lines are reported, and returns those that are."""
     while end.has_time() and len(told_by(reports)) < len(wanted):
         end.gives(b"\xff" * 8)
     return told_by(reports)
 
 
 def truncated(room):
-    """A file of orders that is truncated: it is read from its beginning again, what was read of it and not obeyed is
-    given up, and that is told. Twice."""
+    """A file of orders that is truncated: it is read from its beginning again, orders read and not obeyed are given up,
+    and a report says so. Twice."""
     path, reports = room / "truncated", room / "truncated.told"
     path.write_bytes(b"state LSC\nat 99999999\nstate IAC\nstate A")
     end, wanted = End("--orders", str(path), "--reports", str(reports)), [b"ok state LSC", b"state LSC PowerOff"]
@@ -427,8 +427,8 @@ AT_HAND = {
 
 
 def by_hand(room):
-    """Two ends with orders by hand, all of them there from the beginning, a thousand times as fast as a line: what each
-    tells, but for the millisecond."""
+    """Two ends with orders by hand, all of them there from the beginning, a thousand times as fast as a line: the
+    reports of each, except the millisecond."""
     (room / "typed").write_bytes(BY_HAND)
     for mode in ("basic", "cyclic"):
         with open(room / "typed", "rb") as typed:
@@ -455,7 +455,7 @@ class Drain:
         self.file, self.got = os.open(path, os.O_RDONLY | os.O_NONBLOCK), b""
 
     def drains(self):
-        """Takes what is there. Whether something was."""
+        """Takes the octets that are there. Returns whether there were any."""
         before = len(self.got)
         with contextlib.suppress(BlockingIOError):
             while part := os.read(self.file, 65536):
@@ -463,14 +463,15 @@ class Drain:
         return len(self.got) > before
 
     def comes_to(self, line):
-        """Takes what is there and what comes in a while. Whether this line is the last then."""
+        """Takes the octets that are there and those that come in a while. Returns whether this line is the last
+        then."""
         for _ in range(20):
             if not self.drains() and not self.got.endswith(line + b"\n"):
                 time.sleep(0.01)
         return self.got.endswith(line + b"\n")
 
     def ends(self):
-        """Takes what is left once nobody writes any more."""
+        """Takes the octets that are left after the last writer is gone."""
         self.drains()
         os.close(self.file)
         return self.got
@@ -494,8 +495,8 @@ def undrained(room):
 
 
 def filled(room, path):
-    """The other side of the FIFO, an end that tells into it, and how many milliseconds passed: it has no room for all
-    that they told."""
+    """The other side of the FIFO, an end that reports into it, and how many milliseconds passed: it has no room for all
+    their reports."""
     drain, end, passed = Drain(path), End("--reports", str(path), "--orders", str(room / "orders")), 0
     while end.has_time() and passed < 5500:
         passed += len(end.gives(b"\xff" * 8 * 100)) // 8
@@ -513,8 +514,8 @@ def late(room, path, told):
 
 
 def at_the_end(room, path, told):
-    """The same where it is drained as the line ends: what was lost behind the last line that found room is told behind
-    that."""
+    """What is wrong if the FIFO is drained as the line ends: the lines lost after the last line that found room are
+    reported after that."""
     drain, end, passed = filled(room, path)
     end.closes()
     while end.has_time():
@@ -575,7 +576,7 @@ def untold(room, more):
     """What is wrong where a report can't be written, if something is: the thread that writes ends, and the run does
     with a further report, or else with its line."""
     path = room / "full.orders"
-    # (an order that is told by a single report: no second one behind its write in the same millisecond)
+    # (an order that is told by a single report: no second one after its write in the same millisecond)
     path.write_bytes(b"power\n")
     end = End("--orders", str(path), "--reports", "/dev/full")
     went = end.gives(b"\xff" * 8)
@@ -590,7 +591,7 @@ def untold(room, more):
 
 
 def lived(room):
-    """The lives of examples/line/lives.txt: what comes in, the orders, and what has to be told, as they were worked
+    """The lives of examples/line/lives.txt: the input, the orders, and the expected reports, as they were worked
     out."""
     for name, mode, schedule, given, lines in plain_filter.lives():
         come, text = plain_filter.incoming(schedule), "\n".join(given).encode() + b"\n"
@@ -605,7 +606,7 @@ def lived(room):
 
 
 def measured(room):
-    """What is measured in each life, at its end; and files that can't be made or written."""
+    """The measurements of each life, at its end; and files that can't be made or written."""
     standard, file = (ROOT / "examples" / "standard.sdl").read_bytes(), room / "measures"
     for name, mode, schedule, given, _ in plain_filter.lives():
         come, text = bytes(plain_filter.incoming(schedule)), "\n".join(given).encode() + b"\n"
@@ -640,8 +641,8 @@ PARTS = [
 
 
 def played(place):
-    """The cases of a part, each with what is wrong with it. Where a run ends, or doesn't, as the part doesn't expect at
-    all, that is the fault of a case too."""
+    """The cases of a part, each with what is wrong with it. If a run ends, or doesn't, against the part's expectation,
+    that is the fault of a case too."""
     cases = []
     with tempfile.TemporaryDirectory() as folder:
         try:

@@ -1,10 +1,10 @@
-"""Runs `mtp2_play line` on the lives of examples/line/lives.txt, and compares what is told with what stands there, and
-the octets that go out with those of a plain terminal (plain_filter.py). Each life is also run with the first bit of an
-octet on top, and by its own reports in place of its orders: what goes out is the same.
+"""Runs `mtp2_play line` on the lives of examples/line/lives.txt, and compares its reports with those there, and the
+octets that go out with those of a plain terminal (plain_filter.py). Each life is also run with the first bit of an
+octet on top, and by its own reports in place of its orders: the octets that go out are unchanged.
 
 usage: tools/steps/lives        of crates/mtp2_play/out/mtp2_play, or of the program that MTP2_PLAY names
 
-The last line is `N passed, M failed`, and the status 1 where one failed."""
+The last line is `N passed, M failed`, and the status 1 if one failed."""
 import pathlib
 import sys
 import tempfile
@@ -17,7 +17,7 @@ MIRRORED = bytes(int(f"{octet:08b}"[::-1], 2) for octet in range(256))
 
 
 def made(folder, mode, octets, orders, *words):
-    """How a run ended: the octets that went out, and what was told."""
+    """How a run ended: the octets that went out, and the reports."""
     (folder / "orders").write_text(orders)
     (folder / "reports").write_bytes(b"")
     ended = Run(

@@ -1,22 +1,22 @@
-"""Runs the built programs with each of their requests for memory refused in turn. A run has to say that it wants
-memory, by status 4 (1 of the program trials) behind a part of what it prints with ample memory, or to do what it does
-with ample memory.
+"""Runs the built programs with each of their requests for memory refused in turn. A run has to say that it is out of
+memory, by status 4 (1 of the program trials) after a part of its output with ample memory, or to run as with ample
+memory.
 
 usage: tools/steps/refused_memory                 the cases below, of each a hundred of its requests
        tools/steps/refused_memory --all           all of their requests
        tools/steps/refused_memory --seed N        another hundred
        tools/steps/refused_memory --few
-           those of mtp2_play alone, a few requests of each: what tools/quick runs
+           only those of mtp2_play, a few requests of each: tools/quick runs these
        tools/steps/refused_memory WORDS ..
-           all requests of a command line of mtp2_play; what a word `stdin` is to read comes from standard input
+           all requests of a command line of mtp2_play; a word `stdin` reads from standard input
 
-The last line is `N passed, M failed`, and the status 1 where one failed. A case is a command line with all of its runs;
-what they came to is told. The first case is a run in which nothing is refused: it has to be found faulty. Behind these
-come scripts with 100 and with 900 events of a kind: a book's calls ask for no memory, so both ask as often. In the last
-two, two terminals make room in their journals while units come: `line_in`, where it takes fewer octets for want of
-memory, is given the rest once more, and the run has to come to the same end. MTP2_PLAY, TRIALS and TEXT_TESTS name
-other programs. Of the tests three are run, of which each holds whichever request is refused: a list of events and a
-rebase, rebases of a book with a turn out, and two books that come back where they can't be served."""
+The last line is `N passed, M failed`, and the status 1 if one failed. A case is a command line with all of its runs;
+their results are printed. The first case is a run in which nothing is refused: it has to be found faulty. After these
+come scripts with 100 and with 900 events of a kind: a book's calls request no memory, so both request it equally often.
+In the last two, two terminals make room in their journals while units come: `line_in`, if it takes fewer octets as
+memory runs out, is given the rest once more, and the run has to come to the same end. MTP2_PLAY, TRIALS and TEXT_TESTS
+name other programs. Of the tests three are run, of which each holds whichever request is refused: a list of events and
+a rebase, rebases of a book with a turn out, and two books that come back if they can't be served."""
 import collections
 import pathlib
 import random
@@ -101,8 +101,8 @@ FEWER, MORE = 100, 900
 
 
 class Case:
-    """What is run: a name, the program, its words, standard input, the status with ample memory, and the one that tells
-    want of memory."""
+    """What is run: a name, the program, its words, standard input, the status with ample memory, and the one that
+    reports that memory ran out."""
 
     def __init__(self, name, words, given="", program=PLAY, ordered=True, wants=("wanted memory",), status=0):
         self.name, self.words, self.given, self.program = (
@@ -183,8 +183,8 @@ def cases(folder):
 
 
 def of_set(loaded):
-    """Each request of a link set's own, call by call: those behind the ones by which its processes are loaded. What
-    wants memory is called once more, and the run has to come to the same end."""
+    """Each request of a link set's own, call by call: those after the ones by which its processes are loaded. A call
+    that runs out of memory is repeated, and the run has to come to the same end."""
     case = Case(
         "trials, each call of a link set",
         [],
@@ -198,7 +198,7 @@ def of_set(loaded):
 
 
 def came_to(case, loaded, ample, number):
-    """What the run came to in which this request is refused, and what is wrong with it, if something is."""
+    """The result of the run in which this request is refused, and what is wrong with it, if something is."""
     run = case.run(loaded, REFUSE=str(number))
     lines = run.said.split(b"\n")
     if b"refused" not in lines:
@@ -231,8 +231,8 @@ def chosen(number, seed):
 
 
 def judge(count, case, loaded, numbers, ample):
-    """Refuses these requests. No run may come to anything else than is said, and one at least to each thing that the
-    case wants."""
+    """Refuses these requests. No run may have another result than the ones named, and at least one must have each
+    result that the case requires."""
     if case.status not in (ample[0], None):
         return count.case(case.name, f"with ample memory it ends with status {ample[0]}, and not {case.status}")
     found = list(side_by_side(came_to, [(case, loaded, ample, it) for it in numbers]))
@@ -248,7 +248,7 @@ def judge(count, case, loaded, numbers, ample):
 
 
 def is_blind(count, loaded):
-    """A run in which nothing is refused has to be found faulty: else all below would say nothing."""
+    """A run in which nothing is refused has to be found faulty: else the other cases would prove nothing."""
     case = Case("a run in which nothing is refused", ["check", "examples/counter.sdl"])
     _, ample = asked(case, loaded)
     kind, _ = came_to(case, loaded, ample, 0)
@@ -267,7 +267,7 @@ def steady(count, loaded, name, words, script):
 
 
 def copying(every):
-    """The numbers of the requests by which a state is copied, of all by their sizes: behind the openings, which have
+    """The numbers of the requests by which a state is copied, of all by their sizes: after the openings, which have
     the greatest, units go out, whose octets make most requests; where four and more others come in a row, room is made
     in a journal."""
     opened = len(every) - every[::-1].index(max(every)) if every else 0

@@ -1,15 +1,15 @@
-"""Gives `set` the orders of examples/set/orders.txt on lines on which nothing comes, and compares what it tells,
-without its milliseconds; and has it run on a line that can't be opened, and on one that ends and is taken away: ten
+"""Gives `set` the orders of examples/set/orders.txt on lines without input, and compares its reports, without their
+milliseconds; and has it run on a line that can't be opened, and on one that ends and is taken away: ten
 seconds later both runs are over. And on one whose FIFO kept 65,536 octets: few of them are answered. And by orders and
 reports in one file, which are refused; by a file of orders that is truncated; and by a `quit` that comes late. And has
-two ends speak to each other whose lines are crossed, or whose networks are two: no link passes its test, and what is of
-the other network is told as a message.
+two ends speak to each other whose lines are crossed, or whose networks are two: no link passes its test, and units of
+the other network are reported as messages.
 
 usage: tools/steps/sets [NAME ..]
-           the entries whose names begin so, all where none is named; of crates/mtp2_play/out/mtp2_play, or of the
+           the entries whose names begin so, all if none is named; of crates/mtp2_play/out/mtp2_play, or of the
            program that MTP2_PLAY names
 
-The last line is `N passed, M failed`, and the status 1 where one failed."""
+The last line is `N passed, M failed`, and the status 1 if one failed."""
 import os
 import pathlib
 import subprocess
@@ -22,7 +22,7 @@ from tools.steps.built import LIMIT, PLAY, Count, Run, differs, missing
 
 
 def told(words, orders):
-    """What a run tells, a line each without its millisecond, and its exit status."""
+    """The reports of a run, a line each without its millisecond, and its exit status."""
     with tempfile.TemporaryDirectory() as name:
         room = pathlib.Path(name)
         for fifo in ("a0", "b0", "a1", "b1"):
@@ -126,7 +126,7 @@ def shared(orders, reports, files):
 
 
 def orders_anew():
-    """The fault of a run whose file of orders is truncated while it runs, or in which a `quit` comes late behind an
+    """The fault of a run whose file of orders is truncated while it runs, or in which a `quit` comes late after an
     order that waits."""
     with tempfile.TemporaryDirectory() as name:
         room = pathlib.Path(name)
@@ -138,7 +138,7 @@ def orders_anew():
             ["mtp2_play", *on_line(room, f"{room}/a0,{room}/b0"), "--orders", str(orders)], executable=str(PLAY)
         )
         try:
-            # (so much later each is given that it is no part of what was given before)
+            # (each is given so much later that it is no part of the orders given before)
             for text in ("unsure\nat 99999999\nheld\n", None):
                 time.sleep(2)
                 if text is not None:
@@ -177,17 +177,17 @@ class Tied:
             self.ends.append(subprocess.Popen(["mtp2_play", *given, *files], executable=str(PLAY)))
 
     def told(self, at):
-        """What an end told so far, without milliseconds, and without answers and what is told of lines."""
+        """The reports of an end so far, without milliseconds, and without answers and reports of lines."""
         path = self.room / f"reports{at}"
         lines = [it.split(" ", 1)[-1] for it in path.read_text().splitlines()] if path.exists() else []
         return [it for it in lines if " line " not in it and not it.startswith(("ok ", "refused "))]
 
     def count(self, at, wanted):
-        """How many lines an end told that begin so."""
+        """How many reports of an end begin so."""
         return sum(it.startswith(wanted) for it in self.told(at))
 
     def until(self, *wanted):
-        """Waits until each end has told lines that begin so."""
+        """Waits until each end has reports that begin so."""
         for _wait in range(10 * LIMIT):
             if all(self.count(at, it) for at, lines in enumerate(wanted) for it in lines):
                 return
@@ -211,7 +211,7 @@ class Tied:
 
 
 def tested(pair):
-    """How many links the two ends told as tested, and how they end."""
+    """How many links the two ends reported as tested, and how they end."""
     number = sum(pair.count(at, f"{link} tested") for at in (0, 1) for link in (0, 1))
     return f"links tested {number}, {pair.end()}".encode()
 
@@ -225,14 +225,14 @@ def crossed():
         return differs(b"links tested 0, [0, 0]", tested(pair))
 
 
-# How an end tells a test of the other network, and an order of changeover about link 1: as messages of point 2 in
+# How an end reports a test of the other network, and an order of changeover about link 1: as messages of point 2 in
 # network 3, and of point 1 in network 1.
 TESTS = "0 message C10180000011400200", "0 message 410240000011400100"
 COOS = "0 message C00180001011", "0 message 400240001011"
 
 
 def of_two_networks():
-    """The fault of two ends of which each takes the other's network for another: tests are told as messages and not
+    """The fault of two ends of which each takes the other's network for another: tests are reported as messages and not
     answered, so each link is stopped."""
     with tempfile.TemporaryDirectory() as name:
         pair = Tied(pathlib.Path(name), [["--network", "1"], ["--network", "3"]])
@@ -241,8 +241,8 @@ def of_two_networks():
 
 
 def orders_of_two_networks():
-    """The fault of the same ends without tests, one of which stops a link: the other's order is told as a message, and
-    neither obeyed nor answered."""
+    """The fault of the same ends without tests, one of which stops a link: the other's order is reported as a message,
+    and neither obeyed nor answered."""
     with tempfile.TemporaryDirectory() as name:
         pair = Tied(pathlib.Path(name), [["--no-test", "--network", "1"], ["--no-test", "--network", "3"]])
         pair.until(["0 in service", "1 in service"], ["0 in service", "1 in service"])

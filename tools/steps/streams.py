@@ -1,14 +1,14 @@
-"""Runs the built program where its streams fail, come in pieces or are interrupted, and on what is cut or changed: each
-prefix of scripts, texts and units, and each with one octet changed. A run has to say what the plain programs of this
-folder say (tools/oracles/plain_commands.py), and else to end with a status that the documents have.
+"""Runs the built program with streams that fail, come in pieces or are interrupted, and on input that is cut or
+changed: each prefix of scripts, texts and units, and each with one octet changed. A run has to print the lines of the
+plain programs (tools/oracles/plain_commands.py), or else to end with a status that the documents have.
 
 usage: tools/steps/streams
            of what is longer than 200 octets a part of the prefixes and of the changes, chosen by a seed
        tools/steps/streams --all        all prefixes, and a change at each place
        tools/steps/streams --seed N     another part
        tools/steps/streams --few
-           of each input a few prefixes and changes, and no test of trials_texts: what tools/quick runs
-MTP2_PLAY names another program. The last line is `N passed, M failed`, and the status 1 where one failed. Where no C
+           of each input a few prefixes and changes, and no test of trials_texts: tools/quick runs these
+MTP2_PLAY names another program. The last line is `N passed, M failed`, and the status 1 if one failed. Where no C
 compiler is there, what
 tools/c/streams.c does is skipped."""
 import os
@@ -34,7 +34,7 @@ LINE = 9000
 # Stands for the path of a file that grows.
 GROWS = "GROWS"
 FAILED = b"mtp2_play: failed\n"
-# What stands on standard error in place of that, where a read fails of what has a name.
+# Standard error in place of that, if a read of a named file fails.
 NAMED = rb"mtp2_play: [^\n]+: [^\n]+ \(os error \d+\)\n"
 COUNTER = (ROOT / "examples" / "counter.sdl").read_bytes()
 LAMP = (ROOT / "examples" / "lamp.sdl").read_bytes()
@@ -341,7 +341,7 @@ def long_runs():
 
 
 def growing_ones():
-    """Command lines of which one file grows while it is read, what that has in the end, and what is said then."""
+    """Command lines of which one file grows while it is read, its contents in the end, and the message then."""
     return [
         ("the text of check", ["check", GROWS], COUNTER, check_says(COUNTER)),
         ("the set of play", ["play", GROWS, "press.script"], LAMP, play_says(LAMP, PRESS)),
@@ -393,7 +393,7 @@ def fault(folder, kind, given, variables=()):
 
 
 def of_length(kind, text, size):
-    """A text, or a script behind whose last line a remark stands, of so many octets."""
+    """A text, or a script with a remark after its last line, of so many octets."""
     return text + b" " * (size - len(text)) if kind in ("check", "play on a set") else text + b"#" * (size - len(text))
 
 

@@ -1,20 +1,19 @@
 """Two link sets that tend themselves, tied in memory, for an hour of line time and more: the runs of
-examples/links/hour.txt, each by the program `trials`, on all processors. What is printed of each run is compared word
-for word with the table. And by what both ends tell on the way:
+examples/links/hour.txt, each by the program `trials`, on all processors. The lines printed of each run are compared
+word for word with the table. And the reports of both ends on the way show:
 
 - all selections are shared out among all links at the end;
-- each end took as much of what it was offered as the table says, and told no more as unsure;
+- each end took as many of the offered messages as the table says, and reported no more as unsure;
 - all kinds of faults befell lines, orders came, and links failed while the changeover of another one went on.
 
 Prints the sums of all runs, by how many links they have.
 
-usage: tools/steps/tended [NAME ..]                  the entries whose names begin so, all where none is named
+usage: tools/steps/tended [NAME ..]                  the entries whose names begin so, all if none is named
        tools/steps/tended --by-chance FIRST COUNT
-           so many runs that are made by chance, with seeds from this one up; of what is taken and unsure nothing is
-           asked
+           so many runs that are made at random, with seeds from this one up; no bound on messages taken and unsure
 of crates/trials/out/trials, or of the program that TRIALS names
 
-The last line is `N passed, M failed`, and the status 1 where one failed."""
+The last line is `N passed, M failed`, and the status 1 if one failed."""
 import collections
 import random
 import re
@@ -23,7 +22,7 @@ import sys
 from tools.steps import examples
 from tools.steps.built import TRIALS, Count, Run, differs, missing, side_by_side
 
-# The seconds without faults behind those with faults, and for how many of them messages are still offered.
+# The seconds without faults after those with faults, and for how many of them messages are still offered.
 CALM, OFFERED = 40, 20
 RIGHT = "  near to far: each once or unsure, in order; whole\n  far to near: each once or unsure, in order; whole"
 BOUNDS = re.compile(r"taken (\d+) %, unsure (\d+)")
@@ -39,7 +38,7 @@ def numbers(line):
 
 
 class Course:
-    """What came of a run: what is said of it, its sums, and what its ends told."""
+    """The result of a run: the lines printed of it, its sums, and the reports of its ends."""
 
     def __init__(self, row):
         words = row.split()
@@ -53,7 +52,7 @@ class Course:
             self.told[end].append(what)
 
     def is_shared(self):
-        """Whether both ends shared all selections out among all links, as they told it last."""
+        """Whether both ends shared all selections out among all links, by their last reports."""
         wanted = " ".join(["shared", *(str(it % self.links) for it in range(16))])
         return [[it for it in told if it.startswith("shared")][-1:] for told in self.told.values()] == [[wanted]] * 2
 
@@ -71,7 +70,7 @@ class Course:
         return begun, beside
 
     def sums(self):
-        """What there was of all, both ways together."""
+        """The sums of all, both ways together."""
         sums = collections.Counter(self.faults)
         for way in self.ways:
             sums.update(way)
@@ -109,7 +108,7 @@ def ran(row, *wanted):
 
 
 def rows(names):
-    """The runs of entries, each with its bounds and with what is to be said of it."""
+    """The runs of entries, each with its bounds and its expected lines."""
     for name, trial, lines in examples.parted("links/hour.txt"):
         bounds, *runs = trial.split("\n")
         taken, unsure = map(int, BOUNDS.fullmatch(bounds).groups())

@@ -1,16 +1,16 @@
 """Runs the built program's `play --trace` on the scripts of the repository, each with `--every` and without, with
-`--chart`, with `--coverage` and with `--thrown`, and holds what it traces or tells, what it prints and the status
-against tools/oracles/plain_trace.py, which is written apart from it; and `line --trace` likewise.
+`--chart`, with `--coverage` and with `--thrown`, and compares its trace or report, its output and the status with
+tools/oracles/plain_trace.py, which is written apart from it; and `line --trace` likewise.
 
 usage: tools/steps/traces [NAME ..]
-           the scripts whose names begin so (and FIFOs, `FIFO`, a long run, `long`, and ends on lines, `line`), all
-           where none is named; of crates/mtp2_play/out/mtp2_play, or of the program that MTP2_PLAY names
+           the scripts whose names begin so (and FIFOs, `FIFO`, a long run, `long`, and ends on lines, `line`), all if
+           none is named; of crates/mtp2_play/out/mtp2_play, or of the program that MTP2_PLAY names
 
-These are the scripts of the `play` cases of tools/steps/examples (those of link sets with `--trace` alone: nothing else
-is told of them), and those of examples/q781 on `standard` and on `q703`; FIFOs whose reader reads, comes late or
+These are the scripts of the `play` cases of tools/steps/examples (those of link sets only with `--trace`: the other
+options refuse them), and those of examples/q781 on `standard` and on `q703`; FIFOs whose reader reads, comes late or
 closes; and a run so long that the terminal's journal begins anew within a command. Of lines these are the short lives
 of examples/line/lives.txt, lines with errors, and files and FIFOs that take no trace. The last line is `N passed, M
-failed`, and the status 1 where one failed."""
+failed`, and the status 1 if one failed."""
 import os
 import pathlib
 import random
@@ -65,7 +65,7 @@ def is_of_links(script):
 
 
 def pages_by(word, path, room):
-    """What genhtml says of coverage, where it is installed."""
+    """The messages of genhtml about coverage, if it is installed."""
     if not shutil.which("genhtml") or word not in plain_term.SETS:
         return None
     pathlib.Path(room, word).write_text(plain_term.text_of(word))
@@ -80,7 +80,7 @@ def sorted_lines(octets):
 
 
 def read_by(drawn, path, room):
-    """What mscgen says of a chart, where it is installed."""
+    """The messages of mscgen about a chart, if it is installed."""
     if drawn is None or not shutil.which("mscgen"):
         return None
     done = subprocess.run(["mscgen", "-T", "svg", "-o", f"{room}/chart.svg", "-i", path], capture_output=True)
@@ -140,7 +140,7 @@ def into_pipe(path, late):
 
 
 def closed(path):
-    """The status where a FIFO's reader is gone before the script comes, which is read behind the FIFO's opening."""
+    """The status where a FIFO's reader is gone before the script comes, which is read after the FIFO's opening."""
     os.mkfifo(path)
     how = {"stdin": subprocess.PIPE, "stdout": subprocess.DEVNULL, "stderr": subprocess.DEVNULL}
     program = subprocess.Popen([PLAY, "play", "standard", "stdin", "--trace", path], **how)
@@ -164,7 +164,7 @@ def pipe_fault(kind):
 
 def long_fault(kind):
     """What is wrong with the trace of a terminal whose journal begins anew within a command, if something is: it ends
-    there, and has all in front of that command."""
+    there, and has all events before that command."""
     script = b"terminal basic\ncommand power\n" + b"unit FFFF00\n" * 7_000
     seen, _ = plain_trace.seen_of(plain_term.text_of("standard").encode(), script)
     whole = "".join(f"{it}\n" for it in seen.lines).encode()
@@ -212,7 +212,7 @@ def short_lives():
             yield name, mode, plain_filter.incoming(schedule), orders
 
 
-# (behind 32,768 events its journal begins anew)
+# (after 32,768 events its journal begins anew)
 LONG = 120_000
 # (its trace has less than a FIFO waits with)
 SHORT = 4_000
@@ -277,7 +277,7 @@ def drained(room, octets):
 
 
 def taken_up(room):
-    """Where a trace is taken by nobody, or not for long: a name, and what is wrong."""
+    """Traces that are read by no process, or not for long: a name, and what is wrong."""
     come, words = b"\xff" * LONG, ("basic", "--every", "--trace")
     full = on_line(room, come, WAY, *words, "/dev/full")
     yield "a full device", None if full.status == 4 and b"/dev/full" in full.said else (
