@@ -33,14 +33,14 @@ ENGLISH = {
 # In how many lines of the pages and of the comments each stands today: `tools/ready` refuses more. Whoever takes some
 # away writes the new number.
 TODAY = {
-    "behind": (18, 996),
-    "want of memory": (7, 54),
-    "no clause says": (3, 1),
+    "behind": (1, 0),
+    "want of memory": (0, 0),
+    "no clause says": (0, 0),
     "who of them": (0, 0),
-    "its own affair": (1, 0),
-    "alone": (119, 211),
-    "The same": (0, 119),
-    "that may": (1, 4),
+    "its own affair": (0, 0),
+    "alone": (0, 0),
+    "The same": (0, 1),
+    "that may": (0, 0),
 }
 
 
