@@ -2,10 +2,10 @@
 use Rattle.std.proofs.Common.{◌≡◌, ℕ, ◌+◌, ◌-◌, ◌<◌, ◌≤◌, zero, suc, Option, Some, None, refl, sym, ap, ◌∙◌, subst, ◌⊎◌, inl, inr, add-zero, arith}
 use Rattle.std.proofs.Math.Nat.{eq-or-lt_of_le}
 use Rattle.std.specs.Prelude.{◌≢◌}
-use Rattle.actor_book.specs.Ledger.{Ledger, ask}
-use Rattle.actor_book.specs.actor_machine_types.event.Event.TheVariants.{Begin, Skip}
-use Rattle.actor_book.specs.actor_machine_types.reply.Refusal.{Refusal}
-use Rattle.actor_book.specs.actor_machine_types.reply.Refusal.TheVariants.{SkipFirst}
+use Rattle.actor_machine.specs.Ledger.{Ledger, ask}
+use Rattle.actor_machine.specs.declared.event.Event.TheVariants.{Begin, Skip}
+use Rattle.actor_machine.specs.declared.reply.Refusal.{Refusal}
+use Rattle.actor_machine.specs.declared.reply.Refusal.TheVariants.{SkipFirst}
 use Rattle.actor_book.specs.declared.turn.Turn.{Turn}
 use Rattle.actor_book.specs.declared.turn.Turn.TheVariants.{Made, Blocked, Idle}
 use Rattle.actor_book.specs.Turns.{Tried, stays, turn_refused, refusal_in, skips_by, by_refusal, begins_by, tried, actors_in, first_that, first_from, least_turn, Rested, goes_on, rests}

@@ -1,7 +1,7 @@
 -- A turn that is out is its actor's own.
 use Rattle.std.proofs.Common.{◌≡◌, ℕ, Some, refl}
-use Rattle.actor_book.specs.Turn.{Turn}
-use Rattle.actor_book.specs.Ledger.{Ledger, turn_out}
+use Rattle.turn_machine.specs.Turn.{Turn}
+use Rattle.actor_machine.specs.Ledger.{Ledger, turn_out}
 use Rattle.actor_book.proofs.Ending.{own_actor as own}
 pub use Rattle.actor_book.proofs.Ending.{no_turn, still_own}
 pub use Rattle.actor_book.proofs.Taking.{says, stays}

@@ -1,8 +1,8 @@
 -- Whole turns.
 use Rattle.std.proofs.Common.{◌≡◌, ℕ, sym, ap, ◌∙◌}
-use Rattle.actor_book.specs.Ledger.{Ledger, ask}
-use Rattle.actor_book.specs.Step.{Answer}
-use Rattle.actor_book.specs.actor_machine_types.event.Event.TheVariants.{Begin}
+use Rattle.actor_machine.specs.Ledger.{Ledger, ask}
+use Rattle.actor_machine.specs.Step.{Answer}
+use Rattle.actor_machine.specs.declared.event.Event.TheVariants.{Begin}
 use Rattle.actor_book.specs.Whole.{HasTurned, turned}
 use Rattle.actor_book.specs.declared.turn.Turn.TheVariants.{Made}
 use Rattle.actor_book.specs.Turns.{refusal_in, begins_by, tried}

@@ -1,6 +1,6 @@
 -- Turns and rests, without the order in which actors are tried.
 use Rattle.std.specs.Prelude.{◌≡◌, ◌≢◌, ℕ, zero, suc, ◌+◌, ◌<◌}
-use Rattle.actor_book.specs.Ledger.{Ledger}
+use Rattle.actor_machine.specs.Ledger.{Ledger}
 use Rattle.actor_book.specs.declared.turn.Turn.TheVariants.{Made, Blocked, Idle}
 use Rattle.actor_book.specs.Turns.{Tried, stays, tried, actors_in, least_turn, rests}
 

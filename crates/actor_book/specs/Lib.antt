@@ -9,7 +9,4 @@ pub mod Running
 pub mod Shown
 pub mod Turns
 pub mod Whole
-pub use Rattle.actor_machine.specs.Ledger
-pub use Rattle.actor_machine.specs.Step
-pub use Rattle.actor_machine.specs.declared as actor_machine_types
 pub use Rattle.turn_machine.specs.Turn

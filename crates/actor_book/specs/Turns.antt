@@ -2,13 +2,13 @@
 -- also if the book refuses that because an item has to be thrown away first (B11), and accepts its
 -- Skip. If only the journal lacks room (B8), the actor is blocked. Otherwise it can do nothing.
 use Rattle.std.specs.Prelude.{ℕ, zero, suc, ◌+◌, Option, Some, None, length}
-use Rattle.actor_book.specs.Ledger.{Ledger, state_of, ask}
-use Rattle.actor_book.specs.Step.{Answer, Stuck, Says}
-use Rattle.actor_book.specs.actor_machine_types.event.Event.TheVariants.{Begin, Skip, Finish}
-use Rattle.actor_book.specs.actor_machine_types.reply.Refusal.{Refusal}
-use Rattle.actor_book.specs.actor_machine_types.reply.Refusal.TheVariants.{JournalFull, SkipFirst}
-use Rattle.actor_book.specs.actor_machine_types.reply.Reply.{Reply}
-use Rattle.actor_book.specs.actor_machine_types.reply.Reply.TheVariants.{Refused}
+use Rattle.actor_machine.specs.Ledger.{Ledger, state_of, ask}
+use Rattle.actor_machine.specs.Step.{Answer, Stuck, Says}
+use Rattle.actor_machine.specs.declared.event.Event.TheVariants.{Begin, Skip, Finish}
+use Rattle.actor_machine.specs.declared.reply.Refusal.{Refusal}
+use Rattle.actor_machine.specs.declared.reply.Refusal.TheVariants.{JournalFull, SkipFirst}
+use Rattle.actor_machine.specs.declared.reply.Reply.{Reply}
+use Rattle.actor_machine.specs.declared.reply.Reply.TheVariants.{Refused}
 use Rattle.actor_book.specs.declared.turn.Turn.{Turn}
 use Rattle.actor_book.specs.declared.turn.Turn.TheVariants.{Made, Blocked, Idle}
 

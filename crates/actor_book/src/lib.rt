@@ -19,10 +19,8 @@ mod turns;
 mod whole;
 
 pub use actor_machine::{
-    Actor, ActorName, Begun, Cause, Emitted, Event, Lost, Offer, Refusal, Reply, Report, Standing,
-    number_of,
+    ActorName, Begun, Cause, Emitted, Event, Lost, Offer, Refusal, Report, Standing, number_of,
 };
-pub use actor_state::LinkActors;
 pub use book::Book;
 pub use calls::{Passed, Taken};
 pub use event_runs::run_events;

@@ -16,8 +16,8 @@ use Rattle.turn_code.specs.declared.draft.DraftState.{DraftState}
 use Rattle.turn_code.specs.declared.draft.DraftInput.{DraftInput}
 use Rattle.turn_code.specs.declared.draft.Trigger.{Trigger}
 use Rattle.turn_code.specs.declared.draft.Trigger.TheVariants as trigger
-use Rattle.turn_machine.specs.Answered.{same_trigger}
-use Rattle.turn_machine.specs.Named.{states_of, inputs_of, inputs_at}
+use Rattle.turn_check.specs.Answered.{same_trigger}
+use Rattle.turn_check.specs.Named.{states_of, inputs_of, inputs_at}
 use Rattle.input_port.specs.Queue.{first_unsaved, without_first}
 use Rattle.input_port.specs.declared.queue.Item.{Item}
 use Rattle.input_port.specs.declared.queue.Item.TheVariants.{Signal, Timer}

@@ -6,8 +6,8 @@ use Rattle.turn_code.specs.declared.input.Place.TheVariants.{Start, State}
 use Rattle.turn_code.specs.declared.draft.Draft.{Draft}
 use Rattle.turn_code.specs.declared.draft.Trigger.{Trigger}
 use Rattle.turn_code.specs.declared.draft.Trigger.TheVariants.{Signal, Timer}
-use Rattle.turn_machine.specs.Named.{saves_at}
-use Rattle.turn_machine.specs.Answered.{same_trigger, input_for as input_waiting}
+use Rattle.turn_check.specs.Named.{saves_at}
+use Rattle.turn_check.specs.Answered.{same_trigger, input_for as input_waiting}
 use Rattle.input_port.specs.Queue.{first_unsaved, without_first}
 use Rattle.input_port.specs.declared.queue.Item.{Item}
 use Rattle.input_port.specs.declared.queue.Item.TheVariants as item

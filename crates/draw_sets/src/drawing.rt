@@ -3,14 +3,15 @@ ghost use Rattle.std.specs.Prelude.{◌≡◌, ◌⊎◌};
 
 use crate::pictures::{Picture, draw_resolved};
 use draw_text::Block;
-use plain_text::{MOST_BYTES, TextRead, line_at_limit, read_text};
-use script_check::{FAILED, LexFault, LoadFault, SetFault, SetWord, load, write_refusal};
-use sdl_lex::tokens;
+use plain_text::{FAILED, MOST_BYTES, TextRead, line_at_limit, read_text};
+use script_check::{SetFault, SetWord, write_refusal};
+use sdl_lex::{LexFault, tokens};
 use sdl_rules::resolve;
 use sdl_tree::parse;
 use std::alloc::Global;
 use std::io::{Read, Write};
 use std::str;
+use turn_verify::{LoadFault, load};
 
 /// Draws a picture of a sound block. Returns the exit status.
 fn draw_tree<W: Write>(alloc: Global, block: &Block, picture: &Picture<'_>, writer: &mut W) -> u8

@@ -1,6 +1,7 @@
 //! The nodes of a state diagram, each with the ways that begin there.
 use crate::state_pieces::{Owner, Piece};
-use draw_text::{Identifier, Kind, Name, NameTable, Names, Part, Way, push_bytes};
+use draw_text::{Identifier, Kind, NameTable, Names, Part, Way, push_bytes};
+use sdl_lex::Name;
 use std::alloc::{AllocError, Global};
 
 /// The start of ways.

@@ -6,8 +6,9 @@ ghost use Rattle.draw_text.specs.BlockDiagram.{block_text};
 
 use crate::state_diagram::draw_states;
 use crate::svg::draw_flow;
-use draw_text::{Name, Names, ProcessTable, draw_block};
-use script_check::{FAILED, HELD, refuse};
+use draw_text::{Names, ProcessTable, draw_block};
+use plain_text::{DONE, FAILED, refuse};
+use sdl_lex::Name;
 use sdl_rules::Resolved;
 use std::alloc::Global;
 use std::io::Write;
@@ -29,7 +30,7 @@ fn write_picture<W: Write>(writer: &mut W, picture: &[u8]) -> u8
     ensures status { (result ≡ 0) ⊎ (result ≡ 4) }
 {
     match writer.write_all(picture) {
-        Ok(()) => HELD,
+        Ok(()) => DONE,
         Err(_) => FAILED,
     }
 }

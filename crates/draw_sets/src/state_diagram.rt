@@ -2,7 +2,8 @@
 use crate::nodes::{NodeWays, nodes_of};
 use crate::state_edges::{push_edges, push_node};
 use crate::state_pieces::pieces_of;
-use draw_text::{Name, Names, push_bytes};
+use draw_text::{Names, push_bytes};
+use sdl_lex::Name;
 use std::alloc::{AllocError, Global};
 
 /// Appends the text that a diagram begins with to `text`.

@@ -1,7 +1,8 @@
 //! The nodes and the edges of a state diagram as they are written.
 use crate::labels::{Label, Look, push_way};
 use crate::nodes::{Gone, Node, NodeWays, joining, push_node_id};
-use draw_text::{Kind, Name, Part, push_bytes};
+use draw_text::{Kind, Part, push_bytes};
+use sdl_lex::Name;
 use std::alloc::{AllocError, Global};
 
 /// The largest number of nodes with ways to the circle of a connection; with more, a circle is drawn beside each node.

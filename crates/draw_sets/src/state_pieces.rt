@@ -1,8 +1,9 @@
 //! The parts of a process, tree by tree, each with the ways through it.
 use draw_text::{
-    Connection, Name, Names, Part, StatePart, Way, next_branch, push_connection, push_start,
-    push_state, ways_from,
+    Connection, Names, Part, StatePart, Way, next_branch, push_connection, push_start, push_state,
+    ways_from,
 };
+use sdl_lex::Name;
 use std::alloc::{AllocError, Global};
 
 /// The owner of ways.

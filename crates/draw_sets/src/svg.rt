@@ -7,7 +7,8 @@ ghost use Rattle.draw_sets.specs.Drawing.{drawn_of, drawn_text, svg_text, view_t
 use crate::apart::all_apart;
 use crate::layout::{Drawn, Layout, lay_out};
 use crate::outlines::{push_drawn, push_lines, push_numbered};
-use draw_text::{Name, Names, is_symbol, process_parts, push_bytes};
+use draw_text::{Names, is_symbol, process_parts, push_bytes};
+use sdl_lex::Name;
 use std::alloc::{AllocError, Global};
 
 /// The style of symbols.

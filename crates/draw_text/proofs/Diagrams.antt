@@ -2,8 +2,8 @@
 use Rattle.std.proofs.Common.{◌≡◌, ◌∙◌, ℕ, List, [], ◌++◌, ap, codes}
 use Rattle.std.specs.List.{flat_map}
 use Rattle.sdl_tables.specs.Names.{processes_of}
-use Rattle.sdl_tables.specs.Plain.{PlainBlock, PlainProcess}
-use Rattle.sdl_tables.specs.sdl_ast_types.tree.Party.{Party}
+use Rattle.sdl_ast.specs.Plain.{PlainBlock, PlainProcess}
+use Rattle.sdl_ast.specs.declared.tree.Party.{Party}
 use Rattle.draw_text.specs.BlockEdges.{parties_of, edge_text, node_text}
 use Rattle.draw_text.specs.BlockDiagram.{head_text, block_text}
 

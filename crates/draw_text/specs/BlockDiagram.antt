@@ -2,7 +2,7 @@
 use Rattle.std.specs.Prelude.{ℕ, List, ◌++◌, codes}
 use Rattle.std.specs.List.{flat_map}
 use Rattle.sdl_tables.specs.Names.{processes_of}
-use Rattle.sdl_tables.specs.Plain.{PlainBlock}
+use Rattle.sdl_ast.specs.Plain.{PlainBlock}
 use Rattle.draw_text.specs.BlockEdges.{parties_of, edge_text, node_text}
 
 unfoldable pub graph_style : List ℕ

@@ -1,14 +1,14 @@
 -- The signals that routes carry from one party to another, and the diagram lines that show them.
-use Rattle.std.specs.Prelude.{ℕ, Bool, true, false, ◌&&◌, List, [], ◌∷◌, ◌++◌, map, codes}
-use Rattle.std.specs.Prelude.{Option, None, Some, if◌then◌else◌}
+use Rattle.std.specs.Prelude.{ℕ, Bool, true, false, ◌&&◌, List, [], ◌∷◌, ◌++◌, map, codes, Option}
+use Rattle.std.specs.Prelude.{None, Some, if◌then◌else◌}
 use Rattle.std.specs.List.{flat_map}
 use Rattle.sdl_tables.specs.Names.{names_once, signal_names, signal_named, process_names}
 use Rattle.sdl_tables.specs.Names.{processes_of, routes_of}
 use Rattle.sdl_tables.specs.Routes.{same_party}
-use Rattle.sdl_tables.specs.Plain.{PlainPath, PlainRoute, PlainBlock, PlainSignal}
-use Rattle.sdl_tables.specs.sdl_ast_types.expression.Identifier.{Identifier}
-use Rattle.sdl_tables.specs.sdl_ast_types.tree.Party.{Party}
-use Rattle.sdl_tables.specs.sdl_ast_types.tree.Party.TheVariants.{Environment, Process}
+use Rattle.sdl_ast.specs.Plain.{PlainPath, PlainRoute, PlainBlock, PlainSignal}
+use Rattle.sdl_ast.specs.declared.expression.Identifier.{Identifier}
+use Rattle.sdl_ast.specs.declared.tree.Party.{Party}
+use Rattle.sdl_ast.specs.declared.tree.Party.TheVariants.{Environment, Process}
 use Rattle.draw_text.specs.Written.{spelled}
 use Rattle.draw_text.specs.Statements.{sort_text, arguments_text, party_text}
 

@@ -5,8 +5,5 @@ pub mod Parts
 pub mod Pieces
 pub mod Statements
 pub mod Written
-pub use Rattle.sdl_tables.specs.Names
-pub use Rattle.sdl_tables.specs.Plain
-pub use Rattle.sdl_tables.specs.Routes
-pub use Rattle.sdl_tables.specs.Views
-pub use Rattle.sdl_tables.specs.sdl_ast_types
+pub use Rattle.sdl_ast.specs.Plain
+pub use Rattle.sdl_ast.specs.Views

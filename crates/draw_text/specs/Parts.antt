@@ -1,19 +1,17 @@
 -- The parts of a drawing, in the order of the text: its symbols, and where branches begin and meet.
-use Rattle.std.specs.Prelude.{ℕ, Bool, true, false, List, [], ◌∷◌, ◌++◌, map, codes}
+use Rattle.std.specs.Prelude.{ℕ, Bool, true, false, List, [], ◌∷◌, ◌++◌, map, codes, Option}
 use Rattle.sdl_tables.specs.Names.{connector_names, states_of}
-use Rattle.sdl_tables.specs.Plain.{Text, falls, ends, does, decides, Choice, nothing_else}
-use Rattle.sdl_tables.specs.Plain.{otherwise}
-use Rattle.sdl_tables.specs.Plain.{answer, PlainAction, task, output, set_timer, reset_timer}
-use Rattle.sdl_tables.specs.Plain.{PlainBlock, PlainProcess, PlainSending, PlainAssignment, Tree}
-use Rattle.sdl_tables.specs.sdl_ast_types.expression.Identifier.{Identifier}
-use Rattle.sdl_tables.specs.sdl_ast_types.tree.End.{End}
-use Rattle.sdl_tables.specs.sdl_ast_types.tree.End.TheVariants as the_ends
-use Rattle.sdl_tables.specs.sdl_ast_types.tree.Destination.{Destination}
-use Rattle.sdl_tables.specs.sdl_ast_types.tree.Range.{Range}
+use Rattle.sdl_ast.specs.Plain.{Text, falls, ends, does, decides, Choice, nothing_else, otherwise}
+use Rattle.sdl_ast.specs.Plain.{answer, PlainAction, task, output, set_timer, reset_timer}
+use Rattle.sdl_ast.specs.Plain.{PlainBlock, PlainProcess, PlainSending, PlainAssignment, Tree}
+use Rattle.sdl_ast.specs.declared.expression.Identifier.{Identifier}
+use Rattle.sdl_ast.specs.declared.tree.End.{End}
+use Rattle.sdl_ast.specs.declared.tree.End.TheVariants as the_ends
+use Rattle.sdl_ast.specs.declared.tree.Destination.{Destination}
+use Rattle.sdl_ast.specs.declared.tree.Range.{Range}
 use Rattle.draw_text.specs.Written.{spelled, row_text}
 use Rattle.draw_text.specs.Statements.{assignment_text, value_text, timer_text, sending_text}
 use Rattle.draw_text.specs.Statements.{receiver_text, ranges_text}
-use Rattle.std.specs.Prelude.{Option}
 use Rattle.draw_text.specs.declared.parts.Kind.{Kind}
 use Rattle.draw_text.specs.declared.parts.Kind.TheVariants as kinds
 use Rattle.draw_text.specs.declared.parts.Part.{Part}

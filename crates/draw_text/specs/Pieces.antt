@@ -2,9 +2,9 @@
 use Rattle.std.specs.Prelude.{ℕ, List, [], ◌∷◌, ◌++◌, codes}
 use Rattle.std.specs.List.{flat_map}
 use Rattle.sdl_tables.specs.Names.{states_of}
-use Rattle.sdl_tables.specs.Plain.{PlainBlock, PlainProcess, PlainInput, PlainClause, input, save}
-use Rattle.sdl_tables.specs.Plain.{PlainState, PlainStart, PlainConnection}
-use Rattle.sdl_tables.specs.sdl_ast_types.expression.Identifier.{Identifier}
+use Rattle.sdl_ast.specs.Plain.{PlainBlock, PlainProcess, PlainInput, PlainClause, input, save}
+use Rattle.sdl_ast.specs.Plain.{PlainState, PlainStart, PlainConnection}
+use Rattle.sdl_ast.specs.declared.expression.Identifier.{Identifier}
 use Rattle.draw_text.specs.Written.{names_text}
 use Rattle.draw_text.specs.Statements.{stimuli_text, triggers_text}
 use Rattle.draw_text.specs.Parts.{PlainPart, mark, symbol, text_parts}

@@ -4,22 +4,22 @@ use Rattle.std.specs.List.{flat_map}
 use Rattle.std.specs.Fmt.{signed_decimal}
 use Rattle.sdl_tables.specs.Names.{signal_names, process_names, variable_names, timers_of}
 use Rattle.sdl_tables.specs.Routes.{receivers}
-use Rattle.sdl_tables.specs.Plain.{Tree, PlainAssignment, PlainSending, PlainStimulus, PlainProcess}
-use Rattle.sdl_tables.specs.Plain.{PlainBlock}
-use Rattle.sdl_tables.specs.sdl_ast_types.expression.Identifier.{Identifier}
-use Rattle.sdl_tables.specs.sdl_ast_types.tree.Constant.{Constant}
-use Rattle.sdl_tables.specs.sdl_ast_types.tree.Literal.{Literal}
-use Rattle.sdl_tables.specs.sdl_ast_types.tree.Literal.TheVariants as literals
-use Rattle.sdl_tables.specs.sdl_ast_types.tree.Range.{Range}
-use Rattle.sdl_tables.specs.sdl_ast_types.tree.Range.TheVariants.{Value, Compared, Between}
-use Rattle.sdl_tables.specs.sdl_ast_types.tree.Relation.{Relation}
-use Rattle.sdl_tables.specs.sdl_ast_types.tree.Relation.TheVariants as relations
-use Rattle.sdl_tables.specs.sdl_ast_types.tree.Sort.{Sort}
-use Rattle.sdl_tables.specs.sdl_ast_types.tree.Sort.TheVariants as sorts
-use Rattle.sdl_tables.specs.sdl_ast_types.tree.Party.{Party}
-use Rattle.sdl_tables.specs.sdl_ast_types.tree.Party.TheVariants.{Environment, Process}
-use Rattle.sdl_tables.specs.sdl_ast_types.tree.Destination.{Destination}
-use Rattle.sdl_tables.specs.sdl_ast_types.tree.Destination.TheVariants as destinations
+use Rattle.sdl_ast.specs.Plain.{Tree, PlainAssignment, PlainSending, PlainStimulus, PlainProcess}
+use Rattle.sdl_ast.specs.Plain.{PlainBlock}
+use Rattle.sdl_ast.specs.declared.expression.Identifier.{Identifier}
+use Rattle.sdl_ast.specs.declared.tree.Constant.{Constant}
+use Rattle.sdl_ast.specs.declared.tree.Literal.{Literal}
+use Rattle.sdl_ast.specs.declared.tree.Literal.TheVariants as literals
+use Rattle.sdl_ast.specs.declared.tree.Range.{Range}
+use Rattle.sdl_ast.specs.declared.tree.Range.TheVariants.{Value, Compared, Between}
+use Rattle.sdl_ast.specs.declared.tree.Relation.{Relation}
+use Rattle.sdl_ast.specs.declared.tree.Relation.TheVariants as relations
+use Rattle.sdl_ast.specs.declared.tree.Sort.{Sort}
+use Rattle.sdl_ast.specs.declared.tree.Sort.TheVariants as sorts
+use Rattle.sdl_ast.specs.declared.tree.Party.{Party}
+use Rattle.sdl_ast.specs.declared.tree.Party.TheVariants.{Environment, Process}
+use Rattle.sdl_ast.specs.declared.tree.Destination.{Destination}
+use Rattle.sdl_ast.specs.declared.tree.Destination.TheVariants as destinations
 use Rattle.draw_text.specs.Written.{spelled, row_text, truth_text, tree_text}
 
 -- ---- constants

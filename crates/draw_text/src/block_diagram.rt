@@ -1,11 +1,12 @@
 //! The block diagram of a set.
 ghost use Rattle.std.specs.Prelude.{◌≡◌, ◌++◌, IfOk, OnOk};
-ghost use Rattle.sdl_tables.specs.Views.{block_of};
+ghost use Rattle.sdl_ast.specs.Views.{block_of};
 ghost use Rattle.draw_text.specs.BlockDiagram.{graph_style, title_text, node_style, edge_style, head_text, block_text};
 
 use crate::block_edges::{push_edges, push_nodes};
 use crate::parties::parties_of;
-use crate::{BlockTable, push_bytes};
+use crate::push_bytes;
+use sdl_tables::BlockTable;
 use std::alloc::{AllocError, Global};
 
 /// Appends the text that a diagram begins with, up to its title, to `text`.

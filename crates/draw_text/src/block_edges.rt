@@ -1,14 +1,14 @@
 //! The nodes of a block diagram, and the edges between them.
 ghost use Rattle.std.specs.Prelude.{◌≡◌, ◌++◌, map, OnOk, codes};
 ghost use Rattle.std.specs.List.{flat_map};
-ghost use Rattle.sdl_tables.specs.Views.{block_of, process_of};
+ghost use Rattle.sdl_ast.specs.Views.{block_of, process_of};
 ghost use Rattle.draw_text.specs.Statements.{party_text, sort_text, arguments_text};
 ghost use Rattle.draw_text.specs.BlockEdges.{signal_text, sorts_text, signal_lines, source_text, target_text, ends_text, label_text, outer_text, is_outer, joined_text, edge_text, node_text};
 
 use crate::parties::signals_between;
-use crate::{
-    BlockTable, Identifier, Name, Party, ProcessTable, Sort, push_bytes, push_name, sort_word,
-};
+use crate::{push_bytes, push_name, sort_word};
+use sdl_ast::{Identifier, Name, Party, Sort};
+use sdl_tables::{BlockTable, ProcessTable};
 use std::alloc::{AllocError, Global};
 
 /// Appends the name of a party to `text`.

@@ -1,6 +1,6 @@
 //! Expressions.
 ghost use Rattle.std.specs.Prelude.{◌≡◌, ◌++◌, ◌≤◌, ◌+◌, OnOk, nat_lt};
-ghost use Rattle.sdl_tables.specs.Views.{tree_of};
+ghost use Rattle.sdl_ast.specs.Views.{tree_of};
 ghost use Rattle.draw_text.specs.Written.{spelled, tree_text, truth_text, sign_text, level_of, left_level, operator_text, opening, closing};
 
 use crate::bytes::{push_bytes, push_number};

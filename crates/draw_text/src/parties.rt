@@ -3,11 +3,12 @@ ghost use Rattle.std.specs.Prelude.{◌≡◌, [], ◌++◌, ◌∷◌, map, fol
 ghost use Rattle.std.specs.List.{flat_map};
 ghost use Rattle.sdl_tables.specs.Names.{same_name, is_in, add_name, names_once, processes_of};
 ghost use Rattle.sdl_tables.specs.Routes.{same_party};
-ghost use Rattle.sdl_tables.specs.Views.{block_of, path_of, process_of, route_of};
-ghost use Rattle.sdl_tables.specs.sdl_ast_types.tree.Party.TheVariants.{Environment, Process};
+ghost use Rattle.sdl_ast.specs.Views.{block_of, path_of, process_of, route_of};
+ghost use Rattle.sdl_ast.specs.declared.tree.Party.TheVariants.{Environment, Process};
 ghost use Rattle.draw_text.specs.BlockEdges.{path_signals, route_signals, parties_of, signals_between};
 
-use crate::{BlockTable, Identifier, Name, Party, Path, ProcessTable, Route};
+use sdl_ast::{Identifier, Name, Party, Path, Route};
+use sdl_tables::{BlockTable, ProcessTable};
 use std::alloc::{AllocError, Global};
 
 /// Whether two spellings are the same name.

@@ -2,17 +2,14 @@
 ghost use Rattle.std.specs.Prelude.{◌≡◌, ◌++◌, ◌∷◌, [], map, OnOk, IfOk};
 ghost use Rattle.std.specs.List.{flat_map};
 ghost use Rattle.sdl_tables.specs.Names.{states_of};
-ghost use Rattle.sdl_tables.specs.Views.{block_of, clause_of, connection_of, input_of, process_of, start_of, state_of};
+ghost use Rattle.sdl_ast.specs.Views.{block_of, clause_of, connection_of, input_of, process_of, start_of, state_of};
 ghost use Rattle.draw_text.specs.Parts.{part_of};
 ghost use Rattle.draw_text.specs.Pieces.{first_place, input_parts, save_parts, clause_parts, state_head, state_parts, start_parts, connection_parts, process_parts};
 
 use crate::parts::{Kind, Part, push_mark, push_symbol};
 use crate::transitions::push_transition;
-use crate::{
-    Connection, Identifier, InputPart, Names, StateClause, StatePart, push_names, push_stimuli,
-    push_triggers,
-};
-use sdl_ast::Start;
+use crate::{Names, push_names, push_stimuli, push_triggers};
+use sdl_ast::{Connection, Identifier, InputPart, Start, StateClause, StatePart};
 use std::alloc::{AllocError, Global};
 
 /// The place of the first of these names; 0 if there are none.

@@ -2,7 +2,7 @@
 ghost use Rattle.std.specs.Prelude.{◌≡◌, ◌++◌, OnOk, map, codes};
 ghost use Rattle.std.specs.List.{flat_map};
 ghost use Rattle.sdl_tables.specs.Names.{variable_names};
-ghost use Rattle.sdl_tables.specs.Views.{tree_of, assignment_of, sending_of, stimulus_of, block_of, process_of};
+ghost use Rattle.sdl_ast.specs.Views.{tree_of, assignment_of, sending_of, stimulus_of, block_of, process_of};
 ghost use Rattle.draw_text.specs.Written.{spelled, row_text};
 ghost use Rattle.draw_text.specs.Statements.{assignment_text, delay_text, timer_text, value_text, arguments_text, sending_text, party_text, first_party_text, receiver_text, place_text, trigger_text, stimulus_text, stimuli_text, triggers_text};
 

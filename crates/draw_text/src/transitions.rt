@@ -1,18 +1,21 @@
 //! The parts of transitions.
 ghost use Rattle.std.specs.Prelude.{◌≡◌, ◌++◌, ◌∷◌, [], map, codes, OnOk, IfOk};
 ghost use Rattle.std.specs.List.{flat_map};
-ghost use Rattle.sdl_tables.specs.Plain.{Text};
-ghost use Rattle.sdl_tables.specs.Views.{action_of, assignment_of, block_of, choice_of, decision_of, plain_answer, process_of, sending_of, statement_of, text_of, tree_of};
+ghost use Rattle.sdl_ast.specs.Plain.{Text};
+ghost use Rattle.sdl_ast.specs.Views.{action_of, assignment_of, block_of, choice_of, decision_of, plain_answer, process_of, sending_of, statement_of, text_of, tree_of};
 ghost use Rattle.draw_text.specs.Statements.{assignment_text};
 ghost use Rattle.draw_text.specs.Parts.{part_of, mark, symbol, answer_text, task_text, set_text, reset_text, action_parts, sending_part, end_part, question_part, else_part, text_parts, choice_parts};
 
 use crate::parts::{Kind, Part, push_mark, push_symbol};
 use crate::{
-    Action, Decision, End, Expression, Identifier, Names, Output, ProcessTable, Sending, Statement,
-    Transition, push_assignment, push_bytes, push_delay, push_name, push_ranges, push_receiver,
+    Names, push_assignment, push_bytes, push_delay, push_name, push_ranges, push_receiver,
     push_sending, push_timer,
 };
-use sdl_ast::{Assignment, Destination, Range};
+use sdl_ast::{
+    Action, Assignment, Decision, Destination, End, Expression, Identifier, Output, Range, Sending,
+    Statement, Transition,
+};
+use sdl_tables::ProcessTable;
 use std::alloc::{AllocError, Global};
 
 /// Appends further assignments to `text`, each on its own line.

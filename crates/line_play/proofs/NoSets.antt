@@ -1,11 +1,11 @@
 -- Why `new_terminal` returns no terminal.
 use Rattle.std.proofs.Common.{ℕ, List, Option}
 use Rattle.turn_code.specs.declared.draft.Draft.{Draft}
-use Rattle.script_terminal.specs.Opening.{IsRefusedOver}
-use Rattle.script_terminal.specs.link_term_types.opening.OpenError.{OpenError}
-use Rattle.script_terminal.specs.link_term_types.opening.OpenError.TheVariants.{NoName, NoMemory}
+use Rattle.script_ends.specs.Opening.{IsRefusedOver}
+use Rattle.script_ends.specs.link_term_types.opening.OpenError.{OpenError}
+use Rattle.script_ends.specs.link_term_types.opening.OpenError.TheVariants.{NoName, NoMemory}
 use Rattle.script_check.specs.Checked.{IsGiven, IsSetOf, PrintsRefusal}
-use Rattle.script_terminal.specs.TermRuns.{PrintsLacking, LacksName}
+use Rattle.script_ends.specs.TermRuns.{PrintsLacking, LacksName}
 use Rattle.line_play.specs.Opening.{IsNoSet, by_fault, by_name}
 
 pub no_text : (known old new : Option (List ℕ)) → IsGiven known (PrintsRefusal old new) → IsGiven known (IsNoSet old new)

@@ -1,29 +1,29 @@
 -- A link set on lines when a run begins.
 use Rattle.std.proofs.Common.{◌≡◌, ◌∙◌, ℕ, ◌+◌, Bool, true, true≢false, List, [], ◌∷◌, ◌++◌, length, Option, Result, Ok, Err, OnOk, is_ok, refl, sym, subst, arith, length-append}
 use Rattle.std.proofs.lemmas.List.Elements.{All-nil, All-cons, All-append}
-use Rattle.set_tending.specs.Wires.{IsNewWire}
-use Rattle.set_tending.specs.declared.wire.Wire.{Wire}
+use Rattle.line_tending.specs.LinkLines.{IsNewWire}
+use Rattle.line_tending.specs.declared.link_line.LinkLine.{LinkLine}
 use Rattle.line_filter.proofs.Reporting.{tells_none, tells_trans}
 use Rattle.line_filter.specs.Orders.{Timed}
 use Rattle.line_filter.specs.Reporting.{Stand}
-use Rattle.set_tending.specs.Tended.{Tended}
+use Rattle.line_tending.specs.Tended.{Tended}
 use Rattle.line_play.proofs.SetRounds.{grows_none, grows_then, grows_last}
 use Rattle.line_play.specs.LineTraffic.{Traffic, Grows}
 use Rattle.line_play.specs.SetDesks.{IsNewCount, AreNewCounts, AreNewWires, place_of, IsNewSetDesk, Ran, RanFrom}
 use Rattle.line_play.specs.SetRounds.{Made, SetPlace, IsRound, Rounds, begins, round}
-use Rattle.line_play.specs.declared.set_desk.SetDesk.{SetDesk}
-use Rattle.line_play.specs.declared.set_measures.Since.{Since}
+use Rattle.line_play.specs.declared.set.desk.SetDesk.{SetDesk}
+use Rattle.line_play.specs.declared.set.measures.Since.{Since}
 
-pub no_wires : (ws : List Wire) → ws ≡ [] → AreNewWires 0 ws
-no_wires ws none_there = subst (λ (xs : List Wire). AreNewWires 0 xs) (sym none_there) (record { count = refl; new = All-nil IsNewWire })
+pub no_wires : (ws : List LinkLine) → ws ≡ [] → AreNewWires 0 ws
+no_wires ws none_there = subst (λ (xs : List LinkLine). AreNewWires 0 xs) (sym none_there) (record { count = refl; new = All-nil IsNewWire })
 
-pub one_wire : (n : ℕ) (old new : List Wire) (w : Wire) → IsNewWire w → new ≡ old ++ w ∷ [] → AreNewWires n old → AreNewWires (n + 1) new
+pub one_wire : (n : ℕ) (old new : List LinkLine) (w : LinkLine) → IsNewWire w → new ≡ old ++ w ∷ [] → AreNewWires n old → AreNewWires (n + 1) new
 one_wire n old new w is more so_far =
     let count : length (old ++ w ∷ []) ≡ n + 1 = omega (arith, length-append old (w ∷ []), so_far.count) in
-    subst (λ (xs : List Wire). AreNewWires (n + 1) xs) (sym more)
+    subst (λ (xs : List LinkLine). AreNewWires (n + 1) xs) (sym more)
     (record { count = count; new = All-append IsNewWire old (w ∷ []) so_far.new (All-cons IsNewWire w [] is (All-nil IsNewWire)) })
 
-pub all_wires : (n m : ℕ) (ws : List Wire) → n ≡ m → AreNewWires n ws → AreNewWires m ws
+pub all_wires : (n m : ℕ) (ws : List LinkLine) → n ≡ m → AreNewWires n ws → AreNewWires m ws
 all_wires n m ws all so_far = record { count = so_far.count ∙ all; new = so_far.new }
 
 pub no_counts : (ss : List Since) → ss ≡ [] → AreNewCounts 0 ss

@@ -5,26 +5,26 @@ use Rattle.std.proofs.lemmas.Option.{none-some, same_Some}
 use Rattle.actor_machine.specs.Ledger.{Ledger}
 use Rattle.link_group.specs.Printed.{rebalance_error_text}
 use Rattle.link_group.specs.declared.commanding.CommandError.{CommandError}
-use Rattle.script_terminal.specs.Answers.{actor_named, state_line, value_line}
-use Rattle.script_terminal.specs.Term.{Term}
-use Rattle.script_terminal.specs.link_processes_types.commands.Command.{Command}
-use Rattle.set_tending.specs.Commanding.{is_start, command_error_text}
-use Rattle.set_tending.specs.Lines.{ByCommand}
-use Rattle.set_tending.specs.Links.{read_at}
-use Rattle.set_tending.specs.Placing.{rebalance_fault, rebalanced}
-use Rattle.set_tending.specs.Reading.{book_of, terminal_of}
-use Rattle.set_tending.specs.Rounds.{Adds}
-use Rattle.set_tending.specs.Set.{LinkSet}
-use Rattle.set_tending.specs.Tended.{Tended}
-use Rattle.set_tending.proofs.Doing.{adds_nothing}
-use Rattle.set_tending.specs.group_changeover_types.errors.RebalanceError.{RebalanceError}
+use Rattle.script_ends.specs.Answers.{actor_named, state_line, value_line}
+use Rattle.script_ends.specs.Term.{Term}
+use Rattle.link_processes.specs.declared.commands.Command.{Command}
+use Rattle.link_group.specs.Commanding.{is_start, command_error_text}
+use Rattle.link_group.specs.Lines.{ByCommand}
+use Rattle.link_group.specs.Links.{read_at}
+use Rattle.link_group.specs.Placing.{rebalance_fault, rebalanced}
+use Rattle.link_group.specs.Reading.{book_of, terminal_of}
+use Rattle.line_tending.specs.Rounds.{Adds}
+use Rattle.link_group.specs.Set.{LinkSet}
+use Rattle.line_tending.specs.Tended.{Tended}
+use Rattle.line_tending.proofs.Doing.{adds_nothing}
+use Rattle.line_tending.specs.group_changeover_types.errors.RebalanceError.{RebalanceError}
 use Rattle.line_play.specs.SetDoing.{Stood, first_of, last_of, IsNoLink, ObeysAt, waits, gives, ObeyEach, Commands, terminal_at, reset_to, reset_at, ResetEach, none_reset, one_reset, Resets, Looks, Rebalances, NoFocus, NoRebalance, IsFault, NoCommand, NotShown, IsShowable, MayShow, state_at, value_at, Changes}
 use Rattle.line_play.specs.SetCounting.{begun_at}
 use Rattle.line_play.specs.SetOrders.{plain_set_order, is_send}
-use Rattle.line_play.specs.declared.set_measures.Since.{Since}
-use Rattle.line_play.specs.declared.set_orders.Focus.{Focus}
-use Rattle.line_play.specs.declared.set_orders.SetOrder.{SetOrder}
-use Rattle.line_play.specs.declared.set_orders.SetOrder.TheVariants as order
+use Rattle.line_play.specs.declared.set.measures.Since.{Since}
+use Rattle.line_play.specs.declared.set.orders.Focus.{Focus}
+use Rattle.line_play.specs.declared.set.orders.SetOrder.{SetOrder}
+use Rattle.line_play.specs.declared.set.orders.SetOrder.TheVariants as order
 
 -- the text reported as a refusal
 pub why_so : {A E : Type 0} (r : Result (Option A) E) (f : A → List ℕ) (text : List ℕ) (P : List ℕ → Type 0) → P text → IfOk r (λ (o : Option A). IfSome o (λ (a : A). f a ≡ text))

@@ -2,19 +2,19 @@
 use Rattle.std.proofs.Common.{◌≡◌, ℕ, Bool, true, List, [], ◌∷◌, ◌++◌, append-nil, append_assoc, length, Option, sym, ap, subst}
 use Rattle.script_links.specs.resend_store_types.messages.Msu.{Msu}
 use Rattle.line_filter.specs.Orders.{Timed}
-use Rattle.set_tending.specs.Lives.{Lived}
-use Rattle.set_tending.specs.Telling.{report_in}
-use Rattle.set_tending.specs.Tended.{Tended}
-use Rattle.set_tending.specs.declared.told.Told.{Told}
-use Rattle.set_tending.specs.Wires.{Passes, some, none}
-use Rattle.set_tending.specs.declared.wire.Wire.{Wire}
-use Rattle.set_tending.specs.declared.wire.Passed.{Passed}
-use Rattle.set_tending.proofs.Lives.{lived_none, lived_adds, lived_sends, lived_ticks, lived_tends, lived_hears, lived_speaks, lived_tells}
+use Rattle.line_tending.specs.Lives.{Lived}
+use Rattle.line_tending.specs.Telling.{report_in}
+use Rattle.line_tending.specs.Tended.{Tended}
+use Rattle.line_tending.specs.declared.told.Told.{Told}
+use Rattle.line_tending.specs.LinkLines.{Passes, some, none}
+use Rattle.line_tending.specs.declared.link_line.LinkLine.{LinkLine}
+use Rattle.line_tending.specs.declared.link_line.LineChange.{LineChange}
+use Rattle.line_tending.proofs.Lives.{lived_none, lived_adds, lived_sends, lived_ticks, lived_tends, lived_hears, lived_speaks, lived_tells}
 use Rattle.line_play.specs.LineTraffic.{Traffic}
 use Rattle.line_play.specs.SetDoing.{Stood}
 use Rattle.line_play.specs.SetObeying.{IsRefused, bad, unsent, untaken, other, Obeys, sends, does, refuses}
 use Rattle.line_play.specs.SetOrders.{PlainSetOrder, said_in}
-use Rattle.line_play.specs.declared.set_orders.Focus.{Focus}
+use Rattle.line_play.specs.declared.set.orders.Focus.{Focus}
 use Rattle.line_play.specs.SetRounds.{Waited, Carries, passes, misses, ends, fails, opens, CarriesAll, no_link, one_link, Tells, nothing, one, ObeysWaiting, rests, obeys, TakesOrder, at_once, behind, report, Attends, waited, comes, looks, AttendsAll, none_due, full, quits, SetPlace, IsRound, Rounds, begins, round}
 use Rattle.line_play.specs.SetLaws.{sent_in, sent_waiting, sent_taking, sent_attending, sent_by_all, sent_along, told_in, told_along}
 
@@ -87,13 +87,13 @@ lived_telling t s sent told _ _ l (one {bytes} {u} {w} x before takes) =
 
 -- ---- lines
 
-lived_passes : (t s v : Tended) (sent : List Msu) (told : List Told) (link ahead : ℕ) (octets out after : List ℕ) (passed : Passed) (w x : Wire) → Lived t sent told s
+lived_passes : (t s v : Tended) (sent : List Msu) (told : List Told) (link ahead : ℕ) (octets out after : List ℕ) (passed : LineChange) (w x : LinkLine) → Lived t sent told s
     → Passes link ahead octets s w out passed v x after → Lived t sent told v
 lived_passes t s v sent told link ahead octets out after passed w x l (some heard more hears speaks quiet is) =
     lived_speaks t sent told link (length octets) heard v w.voice x.voice out after (lived_hears t s sent told link octets heard l hears) speaks
 lived_passes t s v sent told link ahead octets out after passed w x l (none empty voice waits) = lived_hears t s sent told link _ v l waits.hears
 
-lived_carries : (t s : Tended) (sent : List Msu) (told : List Told) (link ahead : ℕ) (w : Wire) (bytes : List ℕ) (traffic : List Traffic) (v : Tended) (y : Wire) → Lived t sent told s
+lived_carries : (t s : Tended) (sent : List Msu) (told : List Told) (link ahead : ℕ) (w : LinkLine) (bytes : List ℕ) (traffic : List Traffic) (v : Tended) (y : LinkLine) → Lived t sent told s
     → Carries link ahead s w bytes traffic v y → Lived t sent told v
 lived_carries t s sent told link ahead w _ _ _ _ l (passes {bytes} {traffic} {u} {x} octets is) =
     lived_passes t s u sent told link ahead octets [] is.out is.passed w x l is.is_passed
@@ -102,7 +102,7 @@ lived_carries t s sent told link ahead w _ _ _ _ l ends = l
 lived_carries t s sent told link ahead w _ _ _ _ l fails = l
 lived_carries t s sent told link ahead w _ _ _ _ l opens = l
 
-lived_lines : (t s : Tended) (sent : List Msu) (told : List Told) (ahead : ℕ) (ws : List Wire) (count : ℕ) (bytes : List ℕ) (traffic : List Traffic) (v : Tended) (ys : List Wire)
+lived_lines : (t s : Tended) (sent : List Msu) (told : List Told) (ahead : ℕ) (ws : List LinkLine) (count : ℕ) (bytes : List ℕ) (traffic : List Traffic) (v : Tended) (ys : List LinkLine)
     → Lived t sent told s → CarriesAll ahead s ws count bytes traffic v ys → Lived t sent told v
 lived_lines t s sent told ahead ws _ _ _ _ _ l no_link = l
 lived_lines t s sent told ahead ws _ _ _ _ _ l (one_link {link} {bytes} {traffic} {u} {v} {xs} {ys} more others before last) =

@@ -4,19 +4,19 @@ use Rattle.std.proofs.lemmas.Result.{on_ok_weaker}
 use Rattle.std.proofs.lemmas.Option.{none-some}
 use Rattle.link_group.specs.Printed.{send_error_text}
 use Rattle.script_links.specs.resend_store_types.messages.Msu.{Msu}
-use Rattle.script_terminal.specs.TermAnswers.{IsMessageOf, AreNoMessage as AreUnread}
+use Rattle.script_ends.specs.TermAnswers.{IsMessageOf, AreNoMessage as AreUnread}
 use Rattle.line_filter.specs.Desks.{Told as TellsSuch}
 use Rattle.line_filter.specs.Orders.{told}
 use Rattle.line_filter.specs.Reporting.{Stand, TellsLines}
 use Rattle.line_filter.proofs.Reporting.{tells_trans}
-use Rattle.set_tending.specs.Labels.{label_in}
-use Rattle.set_tending.specs.group_changeover_types.errors.SendError.{SendError}
-use Rattle.set_tending.specs.Rounds.{Acts, Adds}
-use Rattle.set_tending.specs.Sending.{tended_send_fault}
-use Rattle.set_tending.specs.Tended.{Tended}
-use Rattle.line_play.specs.declared.set_orders.Focus.{Focus}
-use Rattle.line_play.specs.declared.set_orders.SetOrder.{SetOrder}
-use Rattle.line_play.specs.declared.set_orders.SetOrder.TheVariants as order
+use Rattle.line_tending.specs.Labels.{label_in}
+use Rattle.line_tending.specs.group_changeover_types.errors.SendError.{SendError}
+use Rattle.line_tending.specs.Rounds.{Acts, Adds}
+use Rattle.line_tending.specs.Sending.{tended_send_fault}
+use Rattle.line_tending.specs.Tended.{Tended}
+use Rattle.line_play.specs.declared.set.orders.Focus.{Focus}
+use Rattle.line_play.specs.declared.set.orders.SetOrder.{SetOrder}
+use Rattle.line_play.specs.declared.set.orders.SetOrder.TheVariants as order
 use Rattle.line_play.specs.SetDoing.{Stood, Changes, Refuses, MayShow}
 use Rattle.line_play.specs.SetShowing.{Shows, IsAnswer}
 use Rattle.line_play.proofs.SetDoing.{why_so}

@@ -6,17 +6,17 @@ use Rattle.std.proofs.lemmas.Result.{IfOk-weaker}
 use Rattle.turn_code.specs.declared.draft.Draft.{Draft}
 use Rattle.script_links.specs.resend_store_types.messages.Mode.{Mode}
 use Rattle.script_links.specs.resend_store_types.messages.RoundLimits.{RoundLimits}
-use Rattle.script_terminal.specs.Opening.{IsOverWithin}
-use Rattle.script_terminal.specs.Term.{Term}
-use Rattle.script_terminal.specs.TermRuns.{PrintsLacking, LacksName}
-use Rattle.script_terminal.specs.link_term_types.opening.OpenError.{OpenError}
-use Rattle.script_terminal.specs.link_term_types.opening.OpenError.TheVariants.{NoName, NoMemory}
+use Rattle.script_ends.specs.Opening.{IsOverWithin}
+use Rattle.script_ends.specs.Term.{Term}
+use Rattle.script_ends.specs.TermRuns.{PrintsLacking, LacksName}
+use Rattle.script_ends.specs.link_term_types.opening.OpenError.{OpenError}
+use Rattle.script_ends.specs.link_term_types.opening.OpenError.TheVariants.{NoName, NoMemory}
 use Rattle.script_check.specs.Checked.{IsGiven, IsSetOf}
-use Rattle.set_tending.specs.New.{new_set}
-use Rattle.set_tending.specs.Tended.{Tended, IsNewTended}
+use Rattle.link_group.specs.New.{new_set}
+use Rattle.line_tending.specs.Tended.{Tended, IsNewTended}
 use Rattle.line_play.specs.Opening.{IsNoSet, by_name}
 use Rattle.line_play.specs.SetOpening.{IsEmpty, LacksOne, AreNewTerminals, IsNewTenderOf, IsNewTenderOver}
-use Rattle.line_play.specs.declared.set_opening.SetPlan.{SetPlan}
+use Rattle.line_play.specs.declared.set.opening.SetPlan.{SetPlan}
 
 unused : (d : Draft) (limits : RoundLimits) (mode : Mode) (t : Term) → IsOverWithin d limits mode t → IsEmpty t
 unused d limits mode t new = ap (λ s. s.sender.kept) new.transceiver

@@ -7,7 +7,7 @@ use Rattle.script_lines.proofs.NumberLemmas.{bytes_ne}
 use Rattle.script_links.specs.Octets.{octets_of}
 use Rattle.script_links.specs.Orders.{order_of}
 use Rattle.line_play.specs.SetOrders.{plain_set_order, links, alone_of, asked_of, other_order_of, sent_word, send_of, by_sent_word, set_order_of}
-use Rattle.line_play.specs.declared.set_orders.SetOrder.{SetOrder}
+use Rattle.line_play.specs.declared.set.orders.SetOrder.{SetOrder}
 
 -- a word that is none of the order words
 pub other_word : (word : List ℕ) → word ≢ codes "measure" → word ≢ codes "table" → word ≢ codes "held" → word ≢ codes "unsure" → word ≢ codes "rebalance"

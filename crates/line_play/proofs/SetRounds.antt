@@ -8,15 +8,15 @@ use Rattle.line_filter.specs.Desks.{Told as TellsSuch}
 use Rattle.line_filter.specs.Orders.{Timed, NextIs, NoneIsDue, LooksAnew, QUIT, told}
 use Rattle.line_filter.specs.Reporting.{Stand, TellsLines}
 use Rattle.line_filter.proofs.Reporting.{tells_none, tells_trans}
-use Rattle.set_tending.specs.Rounds.{Tends, Ticks}
-use Rattle.set_tending.specs.Tended.{Tended}
-use Rattle.set_tending.specs.Wires.{Hears, Passes, SILENT}
-use Rattle.set_tending.specs.declared.wire.Passed.{Passed}
-use Rattle.set_tending.specs.declared.wire.Passed.TheVariants.{Same}
-use Rattle.set_tending.specs.declared.wire.Wire.{Wire}
+use Rattle.line_tending.specs.Rounds.{Tends, Ticks}
+use Rattle.line_tending.specs.Tended.{Tended}
+use Rattle.line_tending.specs.LinkLines.{Hears, Passes, SILENT}
+use Rattle.line_tending.specs.declared.link_line.LineChange.{LineChange}
+use Rattle.line_tending.specs.declared.link_line.LineChange.TheVariants.{Same}
+use Rattle.line_tending.specs.declared.link_line.LinkLine.{LinkLine}
 use Rattle.line_play.specs.LineTraffic.{Traffic, octets_go, line_says, Grows, coming, given, front_of, arrived, silence_for}
-use Rattle.line_play.specs.declared.set_lines.Came.{Came}
-use Rattle.line_play.specs.declared.set_lines.Came.TheVariants as line
+use Rattle.line_play.specs.declared.set.lines.LineNews.{LineNews}
+use Rattle.line_play.specs.declared.set.lines.LineNews.TheVariants as line
 use Rattle.line_play.specs.SetDoing.{Stood}
 use Rattle.line_play.specs.SetObeying.{Obeys}
 use Rattle.line_play.specs.SetOrders.{PlainSetOrder, said_in, says_so, is_send}
@@ -81,24 +81,24 @@ front_short count octets few =
 -- ---- a line
 
 -- the octets sent, appended to nothing
-pub from_none : (link ahead : ℕ) (came : List ℕ) (t : Tended) (w : Wire) (out : List ℕ) (passed : Passed) (u : Tended) (x : Wire) (after : List ℕ) → out ≡ []
+pub from_none : (link ahead : ℕ) (came : List ℕ) (t : Tended) (w : LinkLine) (out : List ℕ) (passed : LineChange) (u : Tended) (x : LinkLine) (after : List ℕ) → out ≡ []
     → Passes link ahead came t w out passed u x after → Passes link ahead came t w [] passed u x after
 from_none link ahead came t w out passed u x after none_there made = subst (λ (xs : List ℕ). Passes link ahead came t w xs passed u x after) none_there made
 
 -- the octets received passed, and nothing is reported
-pub passed_same : (link ahead : ℕ) (t u : Tended) (w x : Wire) (came out : List ℕ) (passed : Passed) (a : Stand) (f g : Option (List Traffic))
+pub passed_same : (link ahead : ℕ) (t u : Tended) (w x : LinkLine) (came out : List ℕ) (passed : LineChange) (a : Stand) (f g : Option (List Traffic))
     → passed ≡ Same → Passes link ahead came t w [] passed u x out → Grows f g (given link out)
     → Made (λ bytes traffic. PassesOn link ahead came t w bytes traffic u x) a a f g
 passed_same link ahead t u w x came out passed a f g is made gives = record {
   bytes = [];
   traffic = given link out;
-  are = record { out = out; passed = Same; is_passed = subst (λ (p : Passed). Passes link ahead came t w [] p u x out) is made; tells = refl; gives = refl };
+  are = record { out = out; passed = Same; is_passed = subst (λ (p : LineChange). Passes link ahead came t w [] p u x out) is made; tells = refl; gives = refl };
   tells = tells_none a;
   gives = gives;
 }
 
 -- the octets received passed, and a report is made
-pub passed_told_so : {A E : Type 0} (r : Result A E) (link ahead : ℕ) (t u : Tended) (w x : Wire) (came out : List ℕ) (passed as_told : Passed) (a b : Stand)
+pub passed_told_so : {A E : Type 0} (r : Result A E) (link ahead : ℕ) (t u : Tended) (w x : LinkLine) (came out : List ℕ) (passed as_told : LineChange) (a b : Stand)
     (f g : Option (List Traffic)) → passed ≡ as_told → Passes link ahead came t w [] passed u x out → Grows f g (given link out)
     → OnOk r (TellsLines a b (passed_told u.ticks link as_told)) → OnOk r (Made (λ bytes traffic. PassesOn link ahead came t w bytes traffic u x) a b f g)
 passed_told_so r link ahead t u w x came out passed as_told a b f g is made gives line =
@@ -106,19 +106,19 @@ passed_told_so r link ahead t u w x came out passed as_told a b f g is made give
     (λ (l : TellsLines a b (passed_told u.ticks link as_told)). record {
       bytes = passed_told u.ticks link as_told;
       traffic = given link out;
-      are = record { out = out; passed = as_told; is_passed = subst (λ (p : Passed). Passes link ahead came t w [] p u x out) is made; tells = refl; gives = refl };
+      are = record { out = out; passed = as_told; is_passed = subst (λ (p : LineChange). Passes link ahead came t w [] p u x out) is made; tells = refl; gives = refl };
       tells = l;
       gives = gives;
     })
     line
 
 -- the answer of a line, replaced by an equal one
-pub said_so : (link : ℕ) (part : List ℕ) (said as_said : Came) (f g : Option (List Traffic)) → said ≡ as_said → Grows f g (arrived link part said)
+pub said_so : (link : ℕ) (part : List ℕ) (said as_said : LineNews) (f g : Option (List Traffic)) → said ≡ as_said → Grows f g (arrived link part said)
     → Grows f g (arrived link part as_said)
-said_so link part said as_said f g is arrives = subst (λ (s : Came). Grows f g (arrived link part s)) is arrives
+said_so link part said as_said f g is arrives = subst (λ (s : LineNews). Grows f g (arrived link part s)) is arrives
 
 -- the octets received on the line passed; their report may follow
-pub passed_on : {A E : Type 0} (r : Result A E) (link ahead : ℕ) (t u : Tended) (w x : Wire) (part came : List ℕ) (count : ℕ) (said : Came) (a b : Stand)
+pub passed_on : {A E : Type 0} (r : Result A E) (link ahead : ℕ) (t u : Tended) (w x : LinkLine) (part came : List ℕ) (count : ℕ) (said : LineNews) (a b : Stand)
     (f g h : Option (List Traffic)) → Grows f g (arrived link part said) → said ≡ line.Octets count → came ≡ front_of count part
     → OnOk r (Made (λ bytes traffic. PassesOn link ahead came t w bytes traffic u x) a b g h)
     → OnOk r (Made (λ bytes traffic. Carries link ahead t w bytes traffic u x) a b f h)
@@ -136,14 +136,14 @@ passed_on r link ahead t u w x part came count said a b f g h arrives is came_is
     made
 
 -- the line isn't open
-pub missed : {A E : Type 0} (r : Result A E) (link ahead : ℕ) (t u : Tended) (w : Wire) (a : Stand) (f g : Option (List Traffic))
+pub missed : {A E : Type 0} (r : Result A E) (link ahead : ℕ) (t u : Tended) (w : LinkLine) (a : Stand) (f g : Option (List Traffic))
     → Grows f g (line_says link line.Closed ∷ []) → OnOk r (Hears link t SILENT u)
     → OnOk r (Made (λ bytes traffic. Carries link ahead t w bytes traffic u w) a a f g)
 missed r link ahead t u w a f g says hears =
     on_ok_weaker r
     (λ (h : Hears link t SILENT u). record { bytes = []; traffic = line_says link line.Closed ∷ []; are = misses h; tells = tells_none a; gives = says }) hears
 
-pub line_ended : {A E : Type 0} (r : Result A E) (link ahead : ℕ) (t : Tended) (w : Wire) (a b : Stand) (f g : Option (List Traffic))
+pub line_ended : {A E : Type 0} (r : Result A E) (link ahead : ℕ) (t : Tended) (w : LinkLine) (a b : Stand) (f g : Option (List Traffic))
     → Grows f g (line_says link line.Ended ∷ []) → OnOk r (TellsLines a b (line_told t.ticks link (codes "ended")))
     → OnOk r (Made (λ bytes traffic. Carries link ahead t w bytes traffic t w) a b f g)
 line_ended r link ahead t w a b f g says told_so =
@@ -157,7 +157,7 @@ line_ended r link ahead t w a b f g says told_so =
     })
     told_so
 
-pub line_failed : {A E : Type 0} (r : Result A E) (link ahead : ℕ) (t : Tended) (w : Wire) (a b : Stand) (f g : Option (List Traffic))
+pub line_failed : {A E : Type 0} (r : Result A E) (link ahead : ℕ) (t : Tended) (w : LinkLine) (a b : Stand) (f g : Option (List Traffic))
     → Grows f g (line_says link line.Failed ∷ []) → OnOk r (TellsLines a b (line_told t.ticks link (codes "failed")))
     → OnOk r (Made (λ bytes traffic. Carries link ahead t w bytes traffic t w) a b f g)
 line_failed r link ahead t w a b f g says told_so =
@@ -171,7 +171,7 @@ line_failed r link ahead t w a b f g says told_so =
     })
     told_so
 
-pub line_opened : {A E : Type 0} (r : Result A E) (link ahead : ℕ) (t : Tended) (w : Wire) (a b : Stand) (f g h : Option (List Traffic))
+pub line_opened : {A E : Type 0} (r : Result A E) (link ahead : ℕ) (t : Tended) (w : LinkLine) (a b : Stand) (f g h : Option (List Traffic))
     → Grows f g (line_says link line.Opened ∷ []) → Grows g h (replicate ahead (silence_for link))
     → OnOk r (TellsLines a b (line_told t.ticks link (codes "open"))) → OnOk r (Made (λ bytes traffic. Carries link ahead t w bytes traffic t w) a b f h)
 line_opened r link ahead t w a b f g h says gives told_so =
@@ -187,7 +187,7 @@ line_opened r link ahead t w a b f g h says gives told_so =
 
 -- ---- all lines
 
-pub carried_at : {A E : Type 0} (r : Result A E) (link ahead : ℕ) (t u : Tended) (ws : List Wire) (d x : Wire) (a b : Stand) (f g : Option (List Traffic))
+pub carried_at : {A E : Type 0} (r : Result A E) (link ahead : ℕ) (t u : Tended) (ws : List LinkLine) (d x : LinkLine) (a b : Stand) (f g : Option (List Traffic))
     → link < length ws → OnOk r (Made (λ bytes traffic. Carries link ahead t (get_or ws link d) bytes traffic u x) a b f g)
     → OnOk r (Made (λ bytes traffic. CarriesAt link ahead t ws bytes traffic u (slice_set ws link x)) a b f g)
 carried_at r link ahead t u ws d x a b f g within made =
@@ -201,15 +201,15 @@ carried_at r link ahead t u ws d x a b f g within made =
     })
     made
 
-pub carried_count : (ahead n m : ℕ) (t u : Tended) (ws xs : List Wire) (a b : Stand) (f g : Option (List Traffic)) → n ≡ m
+pub carried_count : (ahead n m : ℕ) (t u : Tended) (ws xs : List LinkLine) (a b : Stand) (f g : Option (List Traffic)) → n ≡ m
     → Made (λ bytes traffic. CarriesAll ahead t ws n bytes traffic u xs) a b f g → Made (λ bytes traffic. CarriesAll ahead t ws m bytes traffic u xs) a b f g
 carried_count ahead n m t u ws xs a b f g is made = subst (λ (k : ℕ). Made (λ bytes traffic. CarriesAll ahead t ws k bytes traffic u xs) a b f g) is made
 
-pub carried_none : (ahead : ℕ) (t : Tended) (ws : List Wire) (a : Stand) (f : Option (List Traffic))
+pub carried_none : (ahead : ℕ) (t : Tended) (ws : List LinkLine) (a : Stand) (f : Option (List Traffic))
     → Made (λ bytes traffic. CarriesAll ahead t ws 0 bytes traffic t ws) a a f f
 carried_none ahead t ws a f = record { bytes = []; traffic = []; are = no_link; tells = tells_none a; gives = grows_none f }
 
-pub carried_more : (ahead link : ℕ) (t u v : Tended) (ws xs ys : List Wire) (a b c : Stand) (f g h : Option (List Traffic))
+pub carried_more : (ahead link : ℕ) (t u v : Tended) (ws xs ys : List LinkLine) (a b c : Stand) (f g h : Option (List Traffic))
     → Made (λ bytes traffic. CarriesAll ahead t ws link bytes traffic u xs) a b f g → Made (λ bytes traffic. CarriesAt link ahead u xs bytes traffic v ys) b c g h
     → Made (λ bytes traffic. CarriesAll ahead t ws (link + 1) bytes traffic v ys) a c f h
 carried_more ahead link t u v ws xs ys a b c f g h before more = record {
@@ -221,18 +221,18 @@ carried_more ahead link t u v ws xs ys a b c f g h before more = record {
 }
 
 -- the content of a vector after a slice of its full length was overwritten
-front_whole : (xs ys : List Wire) → take (length xs) (xs ++ ys) ≡ xs
+front_whole : (xs ys : List LinkLine) → take (length xs) (xs ++ ys) ≡ xs
 front_whole xs ys = take-append-le (length xs) xs ys (omega arith) ∙ take_all (length xs) xs (omega arith)
 
-pub written : (n : ℕ) (xs items : List Wire) → length xs ≡ n → take n (xs ++ drop (length xs) items) ≡ xs
+pub written : (n : ℕ) (xs items : List LinkLine) → length xs ≡ n → take n (xs ++ drop (length xs) items) ≡ xs
 written n xs items e = subst (λ (k : ℕ). take k (xs ++ drop (length xs) items) ≡ xs) e (front_whole xs (drop (length xs) items))
 
-pub carried_lines : {A E : Type 0} (r : Result A E) (ahead : ℕ) (t u : Tended) (ws vs xs ys : List Wire) (a b : Stand) (f g : Option (List Traffic)) → vs ≡ ws → ys ≡ xs
+pub carried_lines : {A E : Type 0} (r : Result A E) (ahead : ℕ) (t u : Tended) (ws vs xs ys : List LinkLine) (a b : Stand) (f g : Option (List Traffic)) → vs ≡ ws → ys ≡ xs
     → OnOk r (Made (λ bytes traffic. CarriesAll ahead t vs (length vs) bytes traffic u xs) a b f g)
     → OnOk r (Made (λ bytes traffic. CarriesAll ahead t ws (length ws) bytes traffic u ys) a b f g)
 carried_lines r ahead t u ws vs xs ys a b f g before after made =
-    subst (λ (zs : List Wire). OnOk r (Made (λ bytes traffic. CarriesAll ahead t ws (length ws) bytes traffic u zs) a b f g)) (sym after)
-    (subst (λ (zs : List Wire). OnOk r (Made (λ bytes traffic. CarriesAll ahead t zs (length zs) bytes traffic u xs) a b f g)) before made)
+    subst (λ (zs : List LinkLine). OnOk r (Made (λ bytes traffic. CarriesAll ahead t ws (length ws) bytes traffic u zs) a b f g)) (sym after)
+    (subst (λ (zs : List LinkLine). OnOk r (Made (λ bytes traffic. CarriesAll ahead t zs (length zs) bytes traffic u xs) a b f g)) before made)
 
 -- ---- orders
 

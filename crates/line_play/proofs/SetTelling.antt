@@ -9,18 +9,18 @@ use Rattle.line_filter.specs.Desks.{Told as TellsSuch}
 use Rattle.line_filter.specs.Orders.{told}
 use Rattle.line_filter.specs.Reporting.{Stand, TellsLines}
 use Rattle.line_filter.proofs.Reporting.{tells_none, tells_trans}
-use Rattle.set_tending.specs.Links.{read_at}
-use Rattle.set_tending.specs.Reading.{held_count, sent_count}
-use Rattle.set_tending.specs.Set.{LinkSet}
-use Rattle.set_tending.specs.Tended.{Tended}
-use Rattle.set_tending.specs.Texts.{told_text}
-use Rattle.set_tending.specs.declared.told.Told.{Told}
+use Rattle.link_group.specs.Links.{read_at}
+use Rattle.link_group.specs.Reading.{held_count, sent_count}
+use Rattle.link_group.specs.Set.{LinkSet}
+use Rattle.line_tending.specs.Tended.{Tended}
+use Rattle.line_tending.specs.Texts.{told_text}
+use Rattle.line_tending.specs.declared.told.Told.{Told}
 use Rattle.line_play.specs.SetDoing.{Stood, first_of, last_of}
 use Rattle.line_play.specs.SetOrders.{PlainSetOrder, plain_set_order}
 use Rattle.line_play.specs.SetShowing.{count_text, told_if, shown_of, ShowsEach, none_yet, one_more, ShowsLinks, held_text, unsure_text, ShowsHeld, no_link, one_link, Shows}
-use Rattle.line_play.specs.declared.set_orders.Focus.{Focus}
-use Rattle.line_play.specs.declared.set_orders.SetOrder.{SetOrder}
-use Rattle.line_play.specs.declared.set_orders.SetOrder.TheVariants as order
+use Rattle.line_play.specs.declared.set.orders.Focus.{Focus}
+use Rattle.line_play.specs.declared.set.orders.SetOrder.{SetOrder}
+use Rattle.line_play.specs.declared.set.orders.SetOrder.TheVariants as order
 use Rattle.line_play.specs.SetRounds.{Takes, Tells, nothing, one, TellsAll}
 use lib.ListN.{get_or}
 

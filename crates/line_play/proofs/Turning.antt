@@ -6,7 +6,7 @@ use Rattle.link_transceiver.specs.declared.signals.Report.{Report}
 use Rattle.link_transceiver.specs.declared.signals.Report.TheVariants.{Message, Status}
 use Rattle.link_transceiver.specs.Reporting.{reported, message_reported, status_reported}
 use Rattle.link_transceiver.specs.TransceiverState.{TransceiverState}
-use Rattle.script_terminal.specs.Term.{Term, term_with_transceiver}
+use Rattle.script_ends.specs.Term.{Term, term_with_transceiver}
 use Rattle.line_play.specs.InTurn.{last_behind, ordered, in_turn, with_none_left, without_reports, turn_of, behind}
 
 -- ---- the first of a list

@@ -7,7 +7,7 @@ use Rattle.std.proofs.lemmas.List.{map-append, length-map, take_all}
 use Rattle.std.proofs.lemmas.Option.{slice_get-get_or, slice_get-map}
 use Rattle.line_play.specs.SetOrders.{says_so, starts_links}
 use Rattle.line_play.specs.SetRounds.{Waited, waited_of, starts_in, any_starts}
-use Rattle.line_play.specs.declared.set_queue.Waiting.{Waiting}
+use Rattle.line_play.specs.declared.set.queue.Waiting.{Waiting}
 
 abbrev texts : List Waiting → List Waited
 texts ws = map waited_of ws

@@ -5,10 +5,10 @@ use Rattle.std.specs.Prelude.{◌≡◌, ℕ, List, [], ◌∷◌, ◌++◌, map
 use Rattle.link_transceiver.specs.declared.signals.Report.{Report}
 use Rattle.link_transceiver.specs.declared.signals.Report.TheVariants.{Message, Status}
 use Rattle.link_transceiver.specs.TransceiverState.{TransceiverState}
-use Rattle.script_terminal.specs.Term.{Term, term_with_transceiver}
-use Rattle.script_terminal.specs.Told.{report_text}
-use Rattle.line_play.specs.declared.link_end.LinkEnd.{LinkEnd}
-use Rattle.line_play.specs.declared.turns.Turn.{Turn}
+use Rattle.script_ends.specs.Term.{Term, term_with_transceiver}
+use Rattle.script_ends.specs.Told.{report_text}
+use Rattle.line_play.specs.declared.link.end.LinkEnd.{LinkEnd}
+use Rattle.line_play.specs.declared.link.turns.Turn.{Turn}
 
 -- a message, the messages after it, and the link statuses: the last message comes last
 abbrev pub last_behind : Report → List Report → List Report → List Report

@@ -15,9 +15,4 @@ pub mod SetOrders
 pub mod SetRounds
 pub mod SetShowing
 pub mod Told
-pub use Rattle.line_filter.specs.Filters
-pub use Rattle.line_filter.specs.declared as line_filter_types
-pub use Rattle.script_terminal.specs.Term
-pub use Rattle.script_check.specs.Checked
-pub use Rattle.set_tending.specs.Tended
-pub use Rattle.script_links.specs.Orders
+pub use Rattle.line_tending.specs.Tended

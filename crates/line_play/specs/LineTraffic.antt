@@ -1,16 +1,16 @@
 -- The octets received from lines and given to them, and the states that lines report.
-use Rattle.std.specs.Prelude.{◌≡◌, ℕ, nat_le, if◌then◌else◌, List, [], ◌∷◌, ◌++◌}
-use Rattle.std.specs.Prelude.{length, take, Option, None, Some}
-use Rattle.set_tending.specs.Wires.{SILENCE}
-use Rattle.line_play.specs.declared.set_lines.Came.{Came}
-use Rattle.line_play.specs.declared.set_lines.Came.TheVariants as line
+use Rattle.std.specs.Prelude.{◌≡◌, ℕ, nat_le, if◌then◌else◌, List, [], ◌∷◌, ◌++◌, length, take}
+use Rattle.std.specs.Prelude.{Option, None, Some}
+use Rattle.line_tending.specs.LinkLines.{SILENCE}
+use Rattle.line_play.specs.declared.set.lines.LineNews.{LineNews}
+use Rattle.line_play.specs.declared.set.lines.LineNews.TheVariants as line
 
 -- An event of a line: octets came from it or were given to it, or it reported that it isn't open,
 -- has ended, has failed or was opened again.
 pub data Traffic : Type 0 where
   octets_come : (link : ℕ) (octets : List ℕ) → Traffic
   octets_go : (link : ℕ) (octets : List ℕ) → Traffic
-  line_says : (link : ℕ) (said : Came) → Traffic
+  line_says : (link : ℕ) (said : LineNews) → Traffic
 
 -- the traffic of lines, if it is known, grows by this
 abbrev pub Grows : Option (List Traffic) → Option (List Traffic) → List Traffic → Type 0
@@ -33,7 +33,7 @@ abbrev pub front_of : ℕ → List ℕ → List ℕ
 front_of count octets = if nat_le count (length octets) then take count octets else []
 
 -- the traffic for an answer of a line; `part` holds the octets it delivered
-abbrev pub arrived : ℕ → List ℕ → Came → List Traffic
+abbrev pub arrived : ℕ → List ℕ → LineNews → List Traffic
 arrived link part (line.Octets count) = coming link (front_of count part)
 arrived link part line.Ended = line_says link line.Ended ∷ []
 arrived link part line.Failed = line_says link line.Failed ∷ []

@@ -1,13 +1,13 @@
 -- A signalling link terminal on a line.
 use Rattle.std.specs.Prelude.{◌≡◌, None}
 use Rattle.script_lines.specs.Words.{words_of}
-use Rattle.script_terminal.specs.Term.{Term}
+use Rattle.script_ends.specs.Term.{Term}
 use Rattle.line_filter.specs.Acts.{Act, asked, heard, passed, reported as told, obeyed}
 use Rattle.line_filter.specs.Speaking.{IsSilent}
 use Rattle.line_filter.specs.declared.desk.Desk.{Desk}
 use Rattle.line_play.specs.InTurn.{Tells}
 use Rattle.line_play.specs.LinkActs.{Gives, Hears, Passes, asks_all, ObeysWords}
-use Rattle.line_play.specs.declared.link_end.LinkEnd.{LinkEnd}
+use Rattle.line_play.specs.declared.link.end.LinkEnd.{LinkEnd}
 
 -- an act of a terminal at the end of a line; only reporting changes the held message
 abbrev pub end_acts : LinkEnd → Act → LinkEnd → Type 0

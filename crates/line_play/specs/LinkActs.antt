@@ -4,11 +4,11 @@ use Rattle.std.specs.Prelude.{codes, string_bytes}
 use Rattle.std.specs.Str.{bytes_eq}
 use Rattle.su_octets.specs.declared.units.Unit as units
 use Rattle.actor_machine.specs.declared.event.Event.TheVariants.{Advance}
-use Rattle.script_terminal.specs.Machine.{offered, tidied, tick_refusal}
-use Rattle.script_terminal.specs.Term.{Term, with_processes}
-use Rattle.script_terminal.specs.Hearing.{Heard}
+use Rattle.link_processes.specs.Machine.{offered, tidied, tick_refusal}
+use Rattle.script_ends.specs.Term.{Term, with_processes}
+use Rattle.script_ends.specs.Hearing.{Heard}
 use Rattle.script_links.specs.TermCommands.{PlainTermCommand}
-use Rattle.script_terminal.specs.TermAnswers.{next_of, behind_next, behind_clear, Answers}
+use Rattle.script_ends.specs.TermAnswers.{next_of, behind_next, behind_clear, Answers}
 use Rattle.line_filter.specs.declared.terminal.Answer.{Answer}
 use Rattle.line_filter.specs.declared.terminal.Answer.TheVariants as answer
 use Rattle.line_play.specs.Commands.{is_question, line_command_of}

@@ -2,11 +2,11 @@
 use Rattle.std.specs.Prelude.{ℕ, List, ◌∷◌, [], ◌++◌, map}
 use Rattle.std.specs.Fmt.{decimal}
 use Rattle.script_links.specs.TermCommands.{ABORTED}
-use Rattle.script_terminal.specs.MeasureNames.{measure_word, all_measures}
-use Rattle.script_terminal.specs.Measuring.{count_of}
-use Rattle.script_terminal.specs.Term.{Term}
-use Rattle.script_terminal.specs.link_transceiver_types.measures.Measures.{Measures}
-use Rattle.script_terminal.specs.resend_store_types.measures.Measure.{Measure}
+use Rattle.script_ends.specs.MeasureNames.{measure_word, all_measures}
+use Rattle.link_transceiver.specs.Measuring.{count_of}
+use Rattle.script_ends.specs.Term.{Term}
+use Rattle.link_transceiver.specs.declared.measures.Measures.{Measures}
+use Rattle.script_ends.specs.resend_store_types.measures.Measure.{Measure}
 
 -- the name of a measurement and its count
 abbrev pub measured_line : Measures → Measure → List ℕ

@@ -3,10 +3,10 @@ use Rattle.std.specs.Prelude.{ℕ, List, Option}
 use Rattle.turn_code.specs.declared.draft.Draft.{Draft}
 use Rattle.script_links.specs.resend_store_types.messages.Mode.{Mode}
 use Rattle.script_links.specs.resend_store_types.messages.RoundLimits.{RoundLimits}
-use Rattle.script_terminal.specs.Opening.{IsOverWithin}
-use Rattle.script_terminal.specs.Term.{Term}
+use Rattle.script_ends.specs.Opening.{IsOverWithin}
+use Rattle.script_ends.specs.Term.{Term}
 use Rattle.script_check.specs.Checked.{IsSetOf, PrintsRefusal}
-use Rattle.script_terminal.specs.TermRuns.{LacksName}
+use Rattle.script_ends.specs.TermRuns.{LacksName}
 
 -- the bytes are a text whose processes have all names that a terminal needs, and the terminal is
 -- a new one that runs them, with these limits of forced retransmission

@@ -1,10 +1,10 @@
 -- The counts of a link since they were last reset (Q.752).
 use Rattle.std.specs.Prelude.{ℕ, ◌-◌, Option, None, Some}
-use Rattle.script_terminal.specs.Measuring.{count_of}
-use Rattle.script_terminal.specs.Term.{Term}
-use Rattle.script_terminal.specs.resend_store_types.measures.Measure.{Measure}
-use Rattle.line_play.specs.declared.set_measures.Begun.{Begun}
-use Rattle.line_play.specs.declared.set_measures.Since.{Since}
+use Rattle.link_transceiver.specs.Measuring.{count_of}
+use Rattle.script_ends.specs.Term.{Term}
+use Rattle.script_ends.specs.resend_store_types.measures.Measure.{Measure}
+use Rattle.line_play.specs.declared.set.measures.Begun.{Begun}
+use Rattle.line_play.specs.declared.set.measures.Since.{Since}
 
 -- a terminal's count, less its value at the last reset
 abbrev pub since_count : Measure → Option Begun → Term → ℕ

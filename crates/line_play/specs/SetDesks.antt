@@ -1,15 +1,15 @@
 -- A link set on lines, with its orders and reports.
 use Rattle.std.specs.Prelude.{◌≡◌, ℕ, Bool, true, false, List, [], length, All, Option, None}
 use Rattle.line_filter.specs.Orders.{Timed}
-use Rattle.set_tending.specs.Tended.{Tended}
-use Rattle.set_tending.specs.Wires.{IsNewWire}
-use Rattle.set_tending.specs.declared.wire.Wire.{Wire}
+use Rattle.line_tending.specs.Tended.{Tended}
+use Rattle.line_tending.specs.LinkLines.{IsNewWire}
+use Rattle.line_tending.specs.declared.link_line.LinkLine.{LinkLine}
 use Rattle.line_filter.specs.Reporting.{Stand}
 use Rattle.line_play.specs.LineTraffic.{Traffic}
 use Rattle.line_play.specs.SetRounds.{Made, SetPlace, Rounds, begins, round, waiting_in}
-use Rattle.line_play.specs.declared.set_desk.SetDesk.{SetDesk}
-use Rattle.line_play.specs.declared.set_measures.Since.{Since}
-use Rattle.line_play.specs.declared.set_orders.Focus.TheVariants.{Link as OneLink}
+use Rattle.line_play.specs.declared.set.desk.SetDesk.{SetDesk}
+use Rattle.line_play.specs.declared.set.measures.Since.{Since}
+use Rattle.line_play.specs.declared.set.orders.Focus.TheVariants.{Link as OneLink}
 
 -- the counts of a link since it was made
 abbrev pub IsNewCount : Since → Type 0
@@ -21,7 +21,7 @@ pub record AreNewCounts (links : ℕ) (ss : List Since) : Type 0 where
   pub new : All IsNewCount ss
 
 -- a wire for each line, on which nothing was received or sent
-pub record AreNewWires (links : ℕ) (ws : List Wire) : Type 0 where
+pub record AreNewWires (links : ℕ) (ws : List LinkLine) : Type 0 where
   pub count : length ws ≡ links
   pub new : All IsNewWire ws
 

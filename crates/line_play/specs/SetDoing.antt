@@ -2,22 +2,22 @@
 use Rattle.std.specs.Prelude.{◌≡◌, ℕ, ◌+◌, ◌-◌, ◌^◌, ◌≤◌, min, true, false, List, ◌++◌, codes}
 use Rattle.std.specs.Prelude.{slice_get, slice_set, Option, None, Some, option_map}
 use Rattle.link_group.specs.Printed.{rebalance_error_text}
-use Rattle.script_terminal.specs.Answers.{actor_named, state_line, value_line}
-use Rattle.script_terminal.specs.Term.{Term}
-use Rattle.script_terminal.specs.TermAnswers.{command_of}
-use Rattle.script_terminal.specs.link_processes_types.commands.Command.{Command}
-use Rattle.set_tending.specs.Commanding.{is_start, command_error_text}
-use Rattle.set_tending.specs.Lines.{ByCommand}
-use Rattle.set_tending.specs.Links.{read_at}
-use Rattle.set_tending.specs.Placing.{rebalance_fault, rebalanced}
-use Rattle.set_tending.specs.Reading.{book_of, terminal_of}
-use Rattle.set_tending.specs.Tended.{Tended}
-use Rattle.set_tending.specs.group_changeover_types.errors.RebalanceError.{RebalanceError}
+use Rattle.script_ends.specs.Answers.{actor_named, state_line, value_line}
+use Rattle.script_ends.specs.Term.{Term}
+use Rattle.script_ends.specs.TermAnswers.{command_of}
+use Rattle.link_processes.specs.declared.commands.Command.{Command}
+use Rattle.link_group.specs.Commanding.{is_start, command_error_text}
+use Rattle.link_group.specs.Lines.{ByCommand}
+use Rattle.link_group.specs.Links.{read_at}
+use Rattle.link_group.specs.Placing.{rebalance_fault, rebalanced}
+use Rattle.link_group.specs.Reading.{book_of, terminal_of}
+use Rattle.line_tending.specs.Tended.{Tended}
+use Rattle.line_tending.specs.group_changeover_types.errors.RebalanceError.{RebalanceError}
 use Rattle.link_group.specs.declared.commanding.CommandError.{CommandError}
-use Rattle.line_play.specs.declared.set_measures.Since.{Since}
-use Rattle.line_play.specs.declared.set_orders.Focus.{Focus}
-use Rattle.line_play.specs.declared.set_orders.Focus.TheVariants.{Link as OneLink, All}
-use Rattle.line_play.specs.declared.set_state.SetState.{SetState}
+use Rattle.line_play.specs.declared.set.measures.Since.{Since}
+use Rattle.line_play.specs.declared.set.orders.Focus.{Focus}
+use Rattle.line_play.specs.declared.set.orders.Focus.TheVariants.{Link as OneLink, All}
+use Rattle.line_play.specs.declared.set.state.SetState.{SetState}
 use Rattle.line_play.specs.SetCounting.{begun_at}
 use Rattle.line_play.specs.SetOrders.{PlainSetOrder, on, links, state, value, measuring, aborted}
 use Rattle.line_play.specs.SetOrders.{measures, resetting, send, table, held, unsure, rebalance}

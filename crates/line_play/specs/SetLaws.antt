@@ -3,19 +3,18 @@
 use Rattle.std.specs.Prelude.{ℕ, Bool, List, [], ◌∷◌, ◌++◌, Option}
 use Rattle.script_links.specs.resend_store_types.messages.Msu.{Msu}
 use Rattle.line_filter.specs.Orders.{Timed}
-use Rattle.set_tending.specs.Telling.{report_in}
-use Rattle.set_tending.specs.Tended.{Tended}
-use Rattle.set_tending.specs.declared.told.Told.{Told}
+use Rattle.line_tending.specs.Telling.{report_in}
+use Rattle.line_tending.specs.Tended.{Tended}
+use Rattle.line_tending.specs.declared.told.Told.{Told}
 use Rattle.line_play.specs.LineTraffic.{Traffic}
 use Rattle.line_play.specs.SetDoing.{Stood}
 use Rattle.line_play.specs.SetObeying.{Obeys, sends, does, refuses}
 use Rattle.line_play.specs.SetOrders.{PlainSetOrder}
-use Rattle.line_play.specs.declared.set_orders.Focus.{Focus}
+use Rattle.line_play.specs.declared.set.orders.Focus.{Focus}
 use Rattle.line_play.specs.SetRounds.{Waited, Tells, nothing, one, ObeysWaiting, rests, obeys}
 use Rattle.line_play.specs.SetRounds.{TakesOrder, at_once, behind, report, Attends, waited, comes}
-use Rattle.line_play.specs.SetRounds.{looks}
-use Rattle.line_play.specs.SetRounds.{AttendsAll, none_due, full, quits, SetPlace}
-use Rattle.line_play.specs.SetRounds.{Rounds, begins, round}
+use Rattle.line_play.specs.SetRounds.{looks, AttendsAll, none_due, full, quits, SetPlace, Rounds}
+use Rattle.line_play.specs.SetRounds.{begins, round}
 
 -- ---- the messages of orders that were reported as ok, in their order
 

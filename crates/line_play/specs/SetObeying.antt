@@ -1,16 +1,16 @@
 -- Orders to a link set on lines: their meaning and their outcome.
-use Rattle.std.specs.Prelude.{◌≡◌, ◌⊎◌, ℕ, ◌<◌, false, List, [], ◌∷◌, ◌++◌, length, codes}
-use Rattle.std.specs.Prelude.{Option, None, Some}
+use Rattle.std.specs.Prelude.{◌≡◌, ◌⊎◌, ℕ, ◌<◌, false, List, [], ◌∷◌, ◌++◌, length, codes, Option}
+use Rattle.std.specs.Prelude.{None, Some}
 use Rattle.link_group.specs.Printed.{send_error_text}
 use Rattle.script_links.specs.resend_store_types.messages.Msu.{Msu}
-use Rattle.script_terminal.specs.TermAnswers.{IsMessageOf}
+use Rattle.script_ends.specs.TermAnswers.{IsMessageOf}
 use Rattle.line_filter.specs.Orders.{told}
-use Rattle.set_tending.specs.Labels.{label_in}
-use Rattle.set_tending.specs.Rounds.{Acts, Adds}
-use Rattle.set_tending.specs.Sending.{tended_send_fault}
-use Rattle.set_tending.specs.Tended.{Tended}
-use Rattle.set_tending.specs.group_changeover_types.errors.SendError.{SendError}
-use Rattle.line_play.specs.declared.set_orders.Focus.{Focus}
+use Rattle.line_tending.specs.Labels.{label_in}
+use Rattle.line_tending.specs.Rounds.{Acts, Adds}
+use Rattle.line_tending.specs.Sending.{tended_send_fault}
+use Rattle.line_tending.specs.Tended.{Tended}
+use Rattle.line_tending.specs.group_changeover_types.errors.SendError.{SendError}
+use Rattle.line_play.specs.declared.set.orders.Focus.{Focus}
 use Rattle.line_play.specs.SetDoing.{Stood, Changes, Refuses, MayShow}
 use Rattle.line_play.specs.SetOrders.{PlainSetOrder, send, is_send}
 use Rattle.line_play.specs.SetShowing.{IsAnswer}

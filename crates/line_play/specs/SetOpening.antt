@@ -3,16 +3,16 @@ use Rattle.std.specs.Prelude.{◌≡◌, ℕ, List, [], All, length}
 use Rattle.turn_code.specs.declared.draft.Draft.{Draft}
 use Rattle.script_links.specs.resend_store_types.messages.Mode.{Mode}
 use Rattle.script_links.specs.resend_store_types.messages.RoundLimits.{RoundLimits}
-use Rattle.script_terminal.specs.Kept.{window_of}
-use Rattle.script_terminal.specs.Opening.{IsOverWithin}
-use Rattle.script_terminal.specs.Term.{Term}
-use Rattle.script_terminal.specs.Wanted.{wanted, IsFirstLacking}
-use Rattle.script_terminal.specs.link_term_types.opening.OpenError.{OpenError}
-use Rattle.script_terminal.specs.link_term_types.opening.OpenError.TheVariants.{NoName, NoMemory}
+use Rattle.script_ends.specs.Kept.{window_of}
+use Rattle.script_ends.specs.Opening.{IsOverWithin}
+use Rattle.script_ends.specs.Term.{Term}
+use Rattle.link_processes.specs.Wanted.{wanted, IsFirstLacking}
+use Rattle.script_ends.specs.link_term_types.opening.OpenError.{OpenError}
+use Rattle.script_ends.specs.link_term_types.opening.OpenError.TheVariants.{NoName, NoMemory}
 use Rattle.script_check.specs.Checked.{IsSetOf}
-use Rattle.set_tending.specs.New.{new_set}
-use Rattle.set_tending.specs.Tended.{Tended, IsNewTended}
-use Rattle.line_play.specs.declared.set_opening.SetPlan.{SetPlan}
+use Rattle.link_group.specs.New.{new_set}
+use Rattle.line_tending.specs.Tended.{Tended, IsNewTended}
+use Rattle.line_play.specs.declared.set.opening.SetPlan.{SetPlan}
 
 -- a terminal holds no message
 abbrev pub IsEmpty : Term → Type 0

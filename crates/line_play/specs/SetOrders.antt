@@ -13,10 +13,10 @@ use Rattle.script_links.specs.declared.orders.Order.TheVariants as orders
 use Rattle.script_links.specs.resend_store_types.measures.Measure.{Measure}
 use Rattle.script_links.specs.TermCommands as term
 use Rattle.script_links.specs.TermCommands.{PlainTermCommand, term_command_of}
-use Rattle.line_play.specs.declared.set_orders.Focus.{Focus}
-use Rattle.line_play.specs.declared.set_orders.Focus.TheVariants.{Link as OneLink, All}
-use Rattle.line_play.specs.declared.set_orders.SetOrder.{SetOrder}
-use Rattle.line_play.specs.declared.set_orders.SetOrder.TheVariants as code
+use Rattle.line_play.specs.declared.set.orders.Focus.{Focus}
+use Rattle.line_play.specs.declared.set.orders.Focus.TheVariants.{Link as OneLink, All}
+use Rattle.line_play.specs.declared.set.orders.SetOrder.{SetOrder}
+use Rattle.line_play.specs.declared.set.orders.SetOrder.TheVariants as code
 
 -- ---- orders, by the meaning of their words
 

@@ -1,30 +1,30 @@
 -- A round of a link set on lines: octets received and sent, orders obeyed, reports made.
 use Rattle.std.specs.Prelude.{◌≡◌, ◌⊎◌, ℕ, ◌+◌, ◌≤◌, Bool, true, false, List, [], ◌∷◌, ◌++◌, length}
-use Rattle.std.specs.Prelude.{replicate, slice_get, slice_set, map, codes, string_bytes}
-use Rattle.std.specs.Prelude.{Option, None, Some, option_map}
+use Rattle.std.specs.Prelude.{replicate, slice_get, slice_set, map, codes, string_bytes, Option}
+use Rattle.std.specs.Prelude.{None, Some, option_map}
 use Rattle.std.specs.Fmt.{decimal}
 use Rattle.std.specs.List.{list_any}
 use Rattle.line_filter.specs.Orders.{Timed, NextIs, NoneIsDue, LooksAnew, QUIT, told}
 use Rattle.line_filter.specs.Reporting.{Stand, TellsLines}
-use Rattle.set_tending.specs.Rounds.{Tends, Ticks}
-use Rattle.set_tending.specs.Telling.{report_in}
-use Rattle.set_tending.specs.Tended.{Tended}
-use Rattle.set_tending.specs.Texts.{told_text}
-use Rattle.set_tending.specs.Wires.{Hears, Passes, SILENT}
-use Rattle.set_tending.specs.declared.told.Told.{Told}
-use Rattle.set_tending.specs.declared.wire.Passed.{Passed}
-use Rattle.set_tending.specs.declared.wire.Passed.TheVariants.{Same, Silent, Back}
-use Rattle.set_tending.specs.declared.wire.Wire.{Wire}
-use Rattle.line_play.specs.declared.set_orders.Focus.{Focus}
-use Rattle.line_play.specs.declared.set_measures.Since.{Since}
-use Rattle.line_play.specs.declared.set_queue.Queue.{Queue}
-use Rattle.line_play.specs.declared.set_queue.Waiting.{Waiting}
+use Rattle.line_tending.specs.Rounds.{Tends, Ticks}
+use Rattle.line_tending.specs.Telling.{report_in}
+use Rattle.line_tending.specs.Tended.{Tended}
+use Rattle.line_tending.specs.Texts.{told_text}
+use Rattle.line_tending.specs.LinkLines.{Hears, Passes, SILENT}
+use Rattle.line_tending.specs.declared.told.Told.{Told}
+use Rattle.line_tending.specs.declared.link_line.LineChange.{LineChange}
+use Rattle.line_tending.specs.declared.link_line.LineChange.TheVariants.{Same, Silent, Back}
+use Rattle.line_tending.specs.declared.link_line.LinkLine.{LinkLine}
+use Rattle.line_play.specs.declared.set.orders.Focus.{Focus}
+use Rattle.line_play.specs.declared.set.measures.Since.{Since}
+use Rattle.line_play.specs.declared.set.queue.Queue.{Queue}
+use Rattle.line_play.specs.declared.set.queue.Waiting.{Waiting}
 use Rattle.line_play.specs.SetDoing.{Stood}
 use Rattle.line_play.specs.SetObeying.{Obeys}
 use Rattle.line_play.specs.SetOrders.{PlainSetOrder, plain_set_order, said_in, overtakes}
 use Rattle.line_play.specs.SetOrders.{starts_links, says_so, is_send}
 use Rattle.line_play.specs.LineTraffic.{Traffic, line_says, Grows, coming, given, silence_for}
-use Rattle.line_play.specs.declared.set_lines.Came.TheVariants as line
+use Rattle.line_play.specs.declared.set.lines.LineNews.TheVariants as line
 
 -- R holds for the bytes reported and for the traffic of the lines between two states.
 pub record Made (R : List ℕ → List Traffic → Type 0) (old new : Stand)
@@ -41,16 +41,16 @@ pub record Made (R : List ℕ → List Traffic → Type 0) (old new : Stand)
 abbrev pub line_told : ℕ → ℕ → List ℕ → List ℕ
 line_told now link what = told now (decimal link ++ (codes " line " ++ what))
 
-abbrev pub passed_told : ℕ → ℕ → Passed → List ℕ
+abbrev pub passed_told : ℕ → ℕ → LineChange → List ℕ
 passed_told now link Same = []
 passed_told now link Silent = line_told now link (codes "silent")
 passed_told now link Back = line_told now link (codes "back")
 
 -- the octets received on a line are passed to its link, and the octets to send are given to it
-pub record PassesOn (link ahead : ℕ) (came : List ℕ) (t : Tended) (w : Wire)
-    (bytes : List ℕ) (traffic : List Traffic) (u : Tended) (x : Wire) : Type 0 where
+pub record PassesOn (link ahead : ℕ) (came : List ℕ) (t : Tended) (w : LinkLine)
+    (bytes : List ℕ) (traffic : List Traffic) (u : Tended) (x : LinkLine) : Type 0 where
   pub out : List ℕ
-  pub passed : Passed
+  pub passed : LineChange
   pub is_passed : Passes link ahead came t w [] passed u x out
   pub tells : bytes ≡ passed_told u.ticks link passed
   pub gives : traffic ≡ given link out
@@ -58,9 +58,9 @@ pub record PassesOn (link ahead : ℕ) (came : List ℕ) (t : Tended) (w : Wire)
 -- A round of a line. If it is open, its link receives the octets that came, and its octets are
 -- sent. If it reports that it is closed, the link receives 1s. If it reports that it ended, failed
 -- or was opened, that is reported; on opening, `ahead` octets of 1s are sent first.
-pub data Carries (link ahead : ℕ) (t : Tended) (w : Wire) :
-    List ℕ → List Traffic → Tended → Wire → Type 0 where
-  passes : {bytes : List ℕ} {traffic : List Traffic} {u : Tended} {x : Wire} (came : List ℕ)
+pub data Carries (link ahead : ℕ) (t : Tended) (w : LinkLine) :
+    List ℕ → List Traffic → Tended → LinkLine → Type 0 where
+  passes : {bytes : List ℕ} {traffic : List Traffic} {u : Tended} {x : LinkLine} (came : List ℕ)
       → PassesOn link ahead came t w bytes traffic u x
       → Carries link ahead t w bytes (coming link came ++ traffic) u x
   misses : {u : Tended} → Hears link t SILENT u
@@ -73,20 +73,20 @@ pub data Carries (link ahead : ℕ) (t : Tended) (w : Wire) :
       (line_says link line.Opened ∷ replicate ahead (silence_for link)) t w
 
 -- the line with this number
-pub record CarriesAt (link ahead : ℕ) (t : Tended) (ws : List Wire)
-    (bytes : List ℕ) (traffic : List Traffic) (u : Tended) (xs : List Wire) : Type 0 where
-  pub before : Wire
-  pub after : Wire
+pub record CarriesAt (link ahead : ℕ) (t : Tended) (ws : List LinkLine)
+    (bytes : List ℕ) (traffic : List Traffic) (u : Tended) (xs : List LinkLine) : Type 0 where
+  pub before : LinkLine
+  pub after : LinkLine
   pub there : slice_get ws link ≡ Some before
   pub carries : Carries link ahead t before bytes traffic u after
   pub lines : xs ≡ slice_set ws link after
 
 -- the first `count` lines, one after another
-pub data CarriesAll (ahead : ℕ) (t : Tended) (ws : List Wire) :
-    ℕ → List ℕ → List Traffic → Tended → List Wire → Type 0 where
+pub data CarriesAll (ahead : ℕ) (t : Tended) (ws : List LinkLine) :
+    ℕ → List ℕ → List Traffic → Tended → List LinkLine → Type 0 where
   no_link : CarriesAll ahead t ws 0 [] [] t ws
-  one_link : {link : ℕ} {bytes : List ℕ} {traffic : List Traffic} {u v : Tended} {xs ys : List Wire}
-      (more : List ℕ) (others : List Traffic)
+  one_link : {link : ℕ} {bytes : List ℕ} {traffic : List Traffic} {u v : Tended}
+      {xs ys : List LinkLine} (more : List ℕ) (others : List Traffic)
       → CarriesAll ahead t ws link bytes traffic u xs
       → CarriesAt link ahead u xs more others v ys
       → CarriesAll ahead t ws (link + 1) (bytes ++ more) (traffic ++ others) v ys
@@ -211,7 +211,7 @@ pub data AttendsAll (p : Stood) (waiting : List Waited) (left : Option (List Tim
 pub record SetPlace : Type 0 where
   pub set : Tended
   -- the octets to send on each line, and how long it has been silent
-  pub wires : List Wire
+  pub wires : List LinkLine
   -- the links that the next order addresses
   pub focus : Focus
   -- the measurements of the links when their counts were last reset

@@ -1,18 +1,18 @@
 -- The answers to orders that ask a question.
-use Rattle.std.specs.Prelude.{◌≡◌, ℕ, ◌+◌, List, [], ◌++◌, codes, map, slice_get, unwrap_or}
-use Rattle.std.specs.Prelude.{Option, None, Some}
+use Rattle.std.specs.Prelude.{◌≡◌, ℕ, ◌+◌, List, [], ◌++◌, codes, map, slice_get, unwrap_or, Option}
+use Rattle.std.specs.Prelude.{None, Some}
 use Rattle.std.specs.Fmt.{decimal}
 use Rattle.std.specs.List.{flat_map}
-use Rattle.script_terminal.specs.MeasureNames.{measure_word, all_measures}
-use Rattle.script_terminal.specs.resend_store_types.measures.Measure.{Measure}
+use Rattle.script_ends.specs.MeasureNames.{measure_word, all_measures}
+use Rattle.script_ends.specs.resend_store_types.measures.Measure.{Measure}
 use Rattle.line_filter.specs.Orders.{told}
-use Rattle.set_tending.specs.Links.{read_at}
-use Rattle.set_tending.specs.Reading.{held_count, sent_count}
-use Rattle.set_tending.specs.Sharing.{link_of, selections}
-use Rattle.set_tending.specs.Tended.{Tended}
-use Rattle.set_tending.specs.Texts.{told_text}
-use Rattle.set_tending.specs.declared.told.Told.TheVariants.{Shared}
-use Rattle.line_play.specs.declared.set_orders.Focus.{Focus}
+use Rattle.link_group.specs.Links.{read_at}
+use Rattle.link_group.specs.Reading.{held_count, sent_count}
+use Rattle.line_tending.specs.Sharing.{link_of, selections}
+use Rattle.line_tending.specs.Tended.{Tended}
+use Rattle.line_tending.specs.Texts.{told_text}
+use Rattle.line_tending.specs.declared.told.Told.TheVariants.{Shared}
+use Rattle.line_play.specs.declared.set.orders.Focus.{Focus}
 use Rattle.line_play.specs.SetCounting.{since_count, since_aborted, counted_by}
 use Rattle.line_play.specs.SetDoing.{Stood, first_of, last_of, state_at, value_at, terminal_at}
 use Rattle.line_play.specs.SetOrders.{PlainSetOrder, on, links, state, value, measuring, aborted}

@@ -20,7 +20,6 @@ mod watch;
 
 pub use apart::keep_apart;
 pub use arrivals::Arrivals;
-pub use bit_line::Deframer;
 pub use capture::{Capture, Kept};
 pub use closing::ended;
 pub use departures::Departures;

@@ -20,7 +20,7 @@ use Rattle.group_changeover.specs.declared.bound.Points.{Points}
 use Rattle.group_changeover.proofs.Unbound.{IsUnbound}
 use Rattle.link_group.specs.OneLink.{shares}
 use Rattle.link_group.specs.Links.{change}
-use Rattle.link_group.specs.Moving.{retrieval_by, is_out_at, is_so_out, is_still, is_open, places_from, open_links, others, own_place, way, first_some, takers, is_own, holds_at, takes_on, Diversion, division, Diverted, moves, back_fault, back, gives_back, hands_over, ends_on, ends_at, keeps_at}
+use Rattle.link_group.specs.Moving.{retrieval_by, is_out_at, is_so_out, is_still, is_open, places_from, eligible_links, others, own_place, way, first_some, takers, is_own, holds_at, takes_on, Diversion, division, Diverted, moves, back_fault, back, gives_back, hands_over, ends_on, ends_at, keeps_at}
 use Rattle.link_group.specs.Set.{LinkSet, points_of}
 use Rattle.link_group.specs.Diverting.{diverted, settled_by, with_division, after_taken}
 use Rattle.link_group.specs.Laws.{held_by, held_at}
@@ -94,8 +94,8 @@ open_other p b outage ks retrievals l t own k fits there changing here able =
     one a b e = cc
 
 able_others : (p : Points) (b outage : Bool) (ks : List Link) (retrievals : ℕ → List Msu) (l : ℕ) (own : Link) → Fits p ks retrievals → slice_get ks l ≡ Some own → is_some own.availability.changing ≡ true
-    → Others l retrievals (open_links b outage ks)
-unfolding open_links
+    → Others l retrievals (eligible_links b outage ks)
+unfolding eligible_links
 able_others p b outage ks retrievals l own fits there changing = λ i t e.
     let r = places_open (is_open b outage) 0 ks i t e in
     let at : t ≡ r.0 = omega (arith, r.2) in
@@ -125,7 +125,7 @@ both_others : (p : Points) (ks : List Link) (retrievals : ℕ → List Msu) (l :
     → OthersOrOwn l retrievals (others outage ks)
 unfolding others
 both_others p ks retrievals l outage own fits there changing =
-    first_others l retrievals (open_links false outage ks) (open_links true outage ks) (λ e. able_others p false outage ks retrievals l own fits there changing)
+    first_others l retrievals (eligible_links false outage ks) (eligible_links true outage ks) (λ e. able_others p false outage ks retrievals l own fits there changing)
     (λ e. able_others p true outage ks retrievals l own fits there changing)
 
 way_others : (p : Points) (ks : List Link) (retrievals : ℕ → List Msu) (l : ℕ) (outage : Bool) (own : Link) → Fits p ks retrievals → slice_get ks l ≡ Some own → is_some own.availability.changing ≡ true

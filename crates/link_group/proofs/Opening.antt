@@ -7,7 +7,7 @@ use Rattle.group_changeover.specs.declared.bound.Points.{Points}
 use Rattle.link_group.specs.OneLink.{held}
 use Rattle.std.proofs.lemmas.List.{drop_more, append-nil}
 use Rattle.link_group.specs.declared.link.Link.{Link}
-use Rattle.link_group.specs.Moving.{is_open, places_from, open_links, is_unbound_on, on_by, holds}
+use Rattle.link_group.specs.Moving.{is_open, places_from, eligible_links, is_unbound_on, on_by, holds}
 
 one_by : (b : Bool) (n : ℕ) (ls rest : List ℕ) → (if b then n ∷ rest else rest) ≡ (if b then n ∷ [] else []) ++ rest
 one_by true n ls rest = refl
@@ -25,8 +25,8 @@ next_place may ks n k ls new whole b h e test grown is =
     ∙ sym (ap (λ (xs : List ℕ). ls ++ xs) (ap (places_from may n) (drop_more ks n k h ∙ ap (λ (x : Link). x ∷ drop (n + 1) ks) (sym e)) ∙ one_place may n k (drop (n + 1) ks))) ∙ is
 
 pub last_place : (failed outage : Bool) (ks : List Link) (n : ℕ) (ls : List ℕ) → n ≡ length ks → ls ++ places_from (is_open failed outage) n (drop n ks) ≡ places_from (is_open failed outage) 0 ks
-    → ls ≡ open_links failed outage ks
-unfolding open_links places_from
+    → ls ≡ eligible_links failed outage ks
+unfolding eligible_links places_from
 last_place failed outage ks n ls e is =
     sym (append-nil ls) ∙ sym (ap (λ (xs : List Link). ls ++ places_from (is_open failed outage) n xs) (ap (λ (i : ℕ). drop i ks) e ∙ none ks)) ∙ is
   where

@@ -7,8 +7,8 @@ use Rattle.std.proofs.lemmas.List.Elements.{All-map}
 use Rattle.std.proofs.lemmas.List.Folds.{list_any_more}
 use Rattle.std.proofs.lemmas.List.Sums.{sum_by-drop_more}
 use Rattle.actor_machine.specs.declared.reply.Refusal.{Refusal}
-use Rattle.link_term.specs.link_processes_types.processes.Processes.{Processes}
-use Rattle.link_term.specs.Machine.{with_book, tidied, is_low, offered, tick_refusal}
+use Rattle.link_processes.specs.declared.processes.Processes.{Processes}
+use Rattle.link_processes.specs.Machine.{with_book, tidied, is_low, offered, tick_refusal}
 use Rattle.actor_machine.specs.Ledger.{ask, rebased}
 use Rattle.actor_machine.specs.Step.{Says}
 use Rattle.actor_machine.specs.declared.event.Event.TheVariants.{Advance}

@@ -6,10 +6,10 @@ use Rattle.actor_machine.specs.Ledger.{ask}
 use Rattle.actor_machine.specs.Step.{Says}
 use Rattle.actor_machine.specs.declared.reply.Refusal.{Refusal}
 use Rattle.actor_machine.specs.declared.reply.Reply.TheVariants as reply
-use Rattle.link_term.specs.Machine.{is_low, tidied, offered, clear_obeyed, to_clear}
-use Rattle.link_term.specs.Offering.{command_event}
-use Rattle.link_term.specs.link_processes_types.commands.Command.{Command}
-use Rattle.link_term.specs.link_processes_types.commands.Command.TheVariants as order
+use Rattle.link_processes.specs.Machine.{is_low, tidied, offered, clear_obeyed, to_clear}
+use Rattle.link_processes.specs.Offering.{command_event}
+use Rattle.link_processes.specs.declared.commands.Command.{Command}
+use Rattle.link_processes.specs.declared.commands.Command.TheVariants as order
 use Rattle.link_term.specs.Term.{Term, with_processes}
 use Rattle.link_term.specs.Kept.{Keeps, window_of}
 use Rattle.resend_store.specs.declared.messages.Msu.{Msu}

@@ -1,10 +1,9 @@
 -- What a link does with its terminal, and how it comes into service.
 use Rattle.std.specs.Prelude.{◌≡◌, ℕ, ◌-◌, ◌<◌, ◌≤◌, ◌&&◌, ◌⊎◌, Bool, true, false, not}
-use Rattle.std.specs.Prelude.{if◌then◌else◌}
-use Rattle.std.specs.Prelude.{List, ◌++◌, length, take, drop, Option, Some, None}
+use Rattle.std.specs.Prelude.{if◌then◌else◌, List, ◌++◌, length, take, drop, Option, Some, None}
 use Rattle.std.specs.Prelude.{slice_get, slice_set}
 use Rattle.link_transceiver.specs.Limits.{KEPT_MESSAGES}
-use Rattle.link_term.specs.Machine.{is_low, sent, tidied}
+use Rattle.link_processes.specs.Machine.{is_low, sent, tidied}
 use Rattle.link_term.specs.Term.{Term, term_with_transceiver, with_processes}
 use Rattle.link_term.specs.Kept.{Took, Sends, window_of}
 use Rattle.link_term.specs.Hearing.{Heard}
@@ -18,8 +17,8 @@ use Rattle.resend_store.specs.declared.messages.Msu.{Msu}
 use Rattle.resend_store.specs.Window.{without_at}
 use Rattle.group_changeover.specs.Bound.{unbound}
 use Rattle.group_changeover.specs.declared.bound.Points.{Points}
-use Rattle.link_group.specs.OneLink.{held, window, shares, accepted_of, with_availability}
-use Rattle.link_group.specs.OneLink.{bound_by, bound_among}
+use Rattle.link_group.specs.OneLink.{held, window, shares, accepted_of, with_availability, bound_by}
+use Rattle.link_group.specs.OneLink.{bound_among}
 
 -- the link came into service since that was last read
 abbrev pub came : Link → Bool

@@ -23,4 +23,3 @@ pub mod Tables
 pub mod Ticking
 pub mod Ticks
 pub use Rattle.group_changeover.specs.Printed
-pub use Rattle.group_changeover.specs.declared as group_changeover_types

@@ -65,8 +65,8 @@ places_from may n [] = []
 places_from may n (k ∷ ks) =
     if may k then n ∷ places_from may (n + 1) ks else places_from may (n + 1) ks
 
-unfoldable pub open_links : Bool → Bool → List Link → List ℕ
-open_links failed outage ks = places_from (is_open failed outage) 0 ks
+unfoldable pub eligible_links : Bool → Bool → List Link → List ℕ
+eligible_links failed outage ks = places_from (is_open failed outage) 0 ks
 
 abbrev pub first_some : List ℕ → List ℕ → List ℕ
 first_some [] others = others
@@ -75,12 +75,12 @@ first_some (l ∷ ls) others = l ∷ ls
 -- The links that selections may have: those without an outage, or else those with one (Q.704,
 -- 3.2.4).
 unfoldable pub able_links : Bool → List Link → List ℕ
-able_links failed ks = first_some (open_links failed false ks) (open_links failed true ks)
+able_links failed ks = first_some (eligible_links failed false ks) (eligible_links failed true ks)
 
 -- Of the links with an outage, or of those without: the ones that never failed, or else failed ones
 -- whose changeover is over.
 unfoldable pub others : Bool → List Link → List ℕ
-others outage ks = first_some (open_links false outage ks) (open_links true outage ks)
+others outage ks = first_some (eligible_links false outage ks) (eligible_links true outage ks)
 
 -- The links for a table that is remade.
 unfoldable pub anew_links : List Link → List ℕ

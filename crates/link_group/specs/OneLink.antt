@@ -1,7 +1,7 @@
 -- One link of a set: its terminal, its marks and its hand.
 use Rattle.std.specs.Prelude.{ℕ, ◌+◌, ◌%◌, ◌==◌, ◌&&◌, ◌||◌, nat_le, min, Bool, true, false, not}
-use Rattle.std.specs.Prelude.{if◌then◌else◌, List, length, take}
-use Rattle.std.specs.Prelude.{drop, filter, Option, Some, None, is_some, Result, Ok, Err}
+use Rattle.std.specs.Prelude.{if◌then◌else◌, List, length, take, drop, filter, Option, Some, None}
+use Rattle.std.specs.Prelude.{is_some, Result, Ok, Err}
 use Rattle.resend_store.specs.declared.messages.Msu.{Msu}
 use Rattle.resend_store.specs.Limits.{MOST_WAITING, MOST_KEPT}
 use Rattle.resend_store.specs.Window.{Window, unacknowledged, waiting, with_put, count_by}
@@ -11,7 +11,7 @@ use Rattle.link_transceiver.specs.declared.signals.LineKind.{LineKind}
 use Rattle.link_transceiver.specs.declared.signals.LineKind.TheVariants as kind
 use Rattle.link_transceiver.specs.declared.signals.Hold.{Hold}
 use Rattle.link_transceiver.specs.declared.signals.Hold.TheVariants as hold
-use Rattle.link_term.specs.Machine.{handed_out}
+use Rattle.link_processes.specs.Machine.{handed_out}
 use Rattle.link_term.specs.Term.{Term, term_with_transceiver, with_processes}
 use Rattle.link_term.specs.Kept.{window_of}
 use Rattle.group_changeover.specs.declared.availability.Availability.{Availability}

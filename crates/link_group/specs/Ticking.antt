@@ -7,7 +7,7 @@ use Rattle.actor_machine.specs.declared.event.Event.TheVariants.{Advance}
 use Rattle.actor_machine.specs.declared.reply.Refusal.{Refusal}
 use Rattle.actor_machine.specs.declared.reply.Reply.{Reply}
 use Rattle.actor_machine.specs.declared.reply.Reply.TheVariants as reply
-use Rattle.link_term.specs.Machine.{is_low, tidied, offered, tick_refusal}
+use Rattle.link_processes.specs.Machine.{is_low, tidied, offered, tick_refusal}
 use Rattle.link_term.specs.Term.{with_processes}
 use Rattle.group_changeover.specs.Availability.{waits}
 use Rattle.link_group.specs.declared.link.Link.{Link}

@@ -6,7 +6,8 @@ ghost use Rattle.link_group.specs.OneLink.{fault_of, held, with_availability};
 
 use crate::link::Link;
 use actor_machine::Refusal;
-use link_term::{CallError, Command};
+use link_processes::Command;
+use link_term::CallError;
 use std::fmt;
 use thiserror::Error;
 

@@ -1,14 +1,15 @@
 //! What a link does with its terminal.
 ghost use Rattle.std.specs.List.{list_any};
 ghost use Rattle.std.specs.Prelude.{◌≡◌, ◌||◌, map, ◌<◌, ◌≤◌, length, true, IfOk, OnErr};
-ghost use Rattle.link_term.specs.Machine.{is_low};
+ghost use Rattle.link_processes.specs.Machine.{is_low};
 ghost use Rattle.link_term.specs.Kept.{window_of};
 ghost use Rattle.link_group.specs.OneLink.{accepted_of};
 ghost use Rattle.link_group.specs.Doing.{Listened, Spoken, Sent, Reported, how_many, leaves_out, anew, without_bound_at, without_bound, asked, came_first, marked_served, admits_first, admits_at};
 
 use crate::link::Link;
 use group_changeover::Points;
-use link_term::{Report, Terminal};
+use link_term::Terminal;
+use link_transceiver::Report;
 use std::alloc::AllocError;
 use su_octets::Unit;
 

@@ -14,7 +14,7 @@ use crate::link::Link;
 use crate::moving::divert_all;
 use crate::open::{holds_at, takers};
 use group_changeover::{DivertFault, Table, counts_of, pick};
-use link_term::Msu;
+use resend_store::Msu;
 use std::collections::VecDeque;
 
 /// Why a link's messages weren't diverted, or not all of them.

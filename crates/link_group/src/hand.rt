@@ -2,7 +2,7 @@
 ghost use Rattle.std.specs.Prelude.{◌≡◌, [], All, length};
 ghost use Rattle.resend_store.specs.Messages.{IsMessage};
 
-use link_term::Msu;
+use resend_store::Msu;
 use std::alloc::Global;
 use std::collections::VecDeque;
 use std::marker::Model;

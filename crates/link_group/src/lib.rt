@@ -25,14 +25,11 @@ mod ticks;
 pub use commanding::CommandError;
 pub use ending::DivertError;
 pub use group::{Group, Sif};
-pub use group_changeover::{
-    AbandonError, Answer, BindError, Changeover, Counts, DivertFault, FailError, Hearing, Kind,
-    Label, LineError, LinkError, RebalanceError, RetrieveError, SendError,
-};
 pub use laws::{
     each_message_stands_in_one_place, ends_heed_all_else, retrieval_completes_each_life,
     sets_complete_each_life, terminals_fare_so, unsure_messages_are_counted,
 };
-pub use link_term::{CallError, Command, LinkStatus, Mode, Msu, Report, Terminal};
+pub use link_processes::Command;
+pub use link_term::CallError;
 pub use sending::{Answered, Heard};
 pub use state::LinkState;

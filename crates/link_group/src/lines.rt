@@ -11,7 +11,8 @@ use crate::group::Group;
 use crate::link::Link;
 use crate::placing::place_anew;
 use group_changeover::{LineError, LinkError, Table};
-use link_term::{Command, Report};
+use link_processes::Command;
+use link_transceiver::Report;
 use su_octets::Unit;
 
 /// Checks whether a link came into service. The table is remade if it may have selections for the first time.

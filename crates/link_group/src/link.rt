@@ -12,7 +12,9 @@ use group_changeover::{
     AbandonError, Availability, BindError, Changing, FailError, Kind, Points, RetrieveError,
     SendError, counts_of, leave_out,
 };
-use link_term::{Hold, LineKind, Msu, Terminal};
+use link_term::Terminal;
+use link_transceiver::{Hold, LineKind};
+use resend_store::Msu;
 use std::alloc::AllocError;
 use std::collections::VecDeque;
 

@@ -9,7 +9,7 @@ use crate::link::Link;
 use group_changeover::{
     AbandonError, BindError, FailError, Hearing, Kind, RetrieveError, SendError,
 };
-use link_term::Msu;
+use resend_store::Msu;
 
 /// Takes a message to send.
 ///

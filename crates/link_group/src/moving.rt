@@ -10,8 +10,8 @@ ghost use Rattle.link_group.specs.Links.{change};
 
 use crate::link::Link;
 use group_changeover::{DivertFault, Table, count_on, pick, selection_of};
-use link_term::{Msu, Terminal};
-use resend_store::MAX_KEPT;
+use link_term::Terminal;
+use resend_store::{MAX_KEPT, Msu};
 use std::collections::VecDeque;
 
 /// Puts a message into a terminal that has room for it.

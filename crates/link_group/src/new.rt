@@ -9,7 +9,8 @@ use crate::link::Link;
 use crate::open::able_links;
 use crate::tables::table_of;
 use group_changeover::{Availability, Behind, Points};
-use link_term::{Hold, Terminal};
+use link_term::Terminal;
+use link_transceiver::Hold;
 use std::alloc::Global;
 
 impl Group {

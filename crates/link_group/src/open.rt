@@ -4,7 +4,7 @@ ghost use Rattle.arrayvec.specs.ArrayVec.{array_vec_len};
 ghost use Rattle.group_changeover.specs.Sharing.{selection_of};
 ghost use Rattle.link_group.specs.Limits.{MOST_LINKS};
 ghost use Rattle.link_group.specs.OneLink.{held};
-ghost use Rattle.link_group.specs.Moving.{is_so_out, is_still, is_open, open_links, able_links, others, anew_links, own_place, way, takers, on_by, holds, holds_at};
+ghost use Rattle.link_group.specs.Moving.{is_so_out, is_still, is_open, eligible_links, able_links, others, anew_links, own_place, way, takers, on_by, holds, holds_at};
 ghost use Rattle.link_group.specs.Tables.{changing_at, held_by_any};
 
 use crate::link::Link;
@@ -48,9 +48,9 @@ fn note(able: &mut ArrayVec<usize, 16>, at: usize, may: bool)
 }
 
 /// The numbers of the links of the requested kind.
-fn open_links(links: &[Link], failed: bool, outage: bool) -> ArrayVec<usize, 16>
+fn eligible_links(links: &[Link], failed: bool, outage: bool) -> ArrayVec<usize, 16>
     requires { length links.now ≤ MOST_LINKS }
-    ensures { result.items ≡ open_links failed outage links.now }
+    ensures { result.items ≡ eligible_links failed outage links.now }
 {
     let mut able = ArrayVec::new();
     for at in 0..links.len() {
@@ -66,9 +66,9 @@ pub(crate) fn able_links(links: &[Link], failed: bool) -> ArrayVec<usize, 16>
     requires { length links.now ≤ MOST_LINKS }
     ensures { result.items ≡ able_links failed links.now }
 {
-    let able = open_links(links, failed, false);
+    let able = eligible_links(links, failed, false);
     if able.is_empty() {
-        open_links(links, failed, true)
+        eligible_links(links, failed, true)
     } else {
         able
     }
@@ -80,9 +80,9 @@ fn others(links: &[Link], outage: bool) -> ArrayVec<usize, 16>
     requires { length links.now ≤ MOST_LINKS }
     ensures { result.items ≡ others outage links.now }
 {
-    let able = open_links(links, false, outage);
+    let able = eligible_links(links, false, outage);
     if able.is_empty() {
-        open_links(links, true, outage)
+        eligible_links(links, true, outage)
     } else {
         able
     }

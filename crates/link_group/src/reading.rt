@@ -10,7 +10,8 @@ ghost use Rattle.link_group.specs.Moving.{retrieval_of, hand_count};
 use crate::group::Group;
 use group_changeover::Counts;
 use link_processes::Book;
-use link_term::{Msu, Terminal};
+use link_term::Terminal;
+use resend_store::Msu;
 
 impl Group {
     /// How many messages a link holds, if it exists.

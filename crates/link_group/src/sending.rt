@@ -18,7 +18,7 @@ use group_changeover::{
     AbandonError, BindError, Changeover, FailError, Hearing, Kind, Label, Points, RetrieveError,
     SendError, read_changeover, selection_of,
 };
-use link_term::Msu;
+use resend_store::Msu;
 
 /// How a received changeover message counted, and the answer to send.
 #[derive(Clone, Copy, Debug, PartialEq, Eq)]

@@ -1,6 +1,6 @@
 //! Ticks at a set's links.
 ghost use Rattle.std.specs.Prelude.{◌≡◌, All, map, false, true, None, OnOk, OnErr};
-ghost use Rattle.link_term.specs.Machine.{is_low, tick_refusal};
+ghost use Rattle.link_processes.specs.Machine.{is_low, tick_refusal};
 ghost use Rattle.link_group.specs.Ticking.{roomy, HasRoom, LacksRoom, first_refusal, passed, due_at, all_due};
 
 use crate::link::Link;

@@ -1,8 +1,8 @@
 -- The steps of a terminal. Each call is one of them, on the history of its actors and its
 -- transceiver.
 use Rattle.std.specs.Prelude.{ℕ, zero, suc, ◌&&◌, not, Bool, true, false, nat_lt, cond}
-use Rattle.std.specs.Prelude.{if◌then◌else◌, ℤ, int_lt, slice_get}
-use Rattle.std.specs.Prelude.{Option, Some, None, List, [], ◌∷◌, length}
+use Rattle.std.specs.Prelude.{if◌then◌else◌, ℤ, int_lt, slice_get, Option, Some, None, List, []}
+use Rattle.std.specs.Prelude.{◌∷◌, length}
 use Rattle.turn_code.specs.declared.value.Value.{Value}
 use Rattle.turn_code.specs.declared.value.Value.TheVariants as value
 use Rattle.resend_store.specs.Window.{emptied as without_kept}
@@ -29,13 +29,8 @@ use Rattle.link_transceiver.specs.Effects.{effect, clears}
 use Rattle.link_transceiver.specs.Judging.{Judged, judged}
 use Rattle.link_transceiver.specs.Going.{gone}
 use Rattle.link_transceiver.specs.Measuring.{glance, seen_of, calmed, passed, signal_counted}
-use Rattle.link_transceiver.specs.Measuring.{
-  error_counted,
-  octets_counted,
-  came_counted,
-  went_counted,
-}
-use Rattle.link_transceiver.specs.Measuring.{more_if, reset}
+use Rattle.link_transceiver.specs.Measuring.{error_counted, octets_counted, came_counted}
+use Rattle.link_transceiver.specs.Measuring.{went_counted, more_if, reset}
 use Rattle.link_transceiver.specs.Offers.{error_offers, acknowledgement_seen, counting_offers}
 use Rattle.link_processes.specs.declared.names.Names.{Names}
 use Rattle.link_processes.specs.declared.processes.Processes.{Processes}

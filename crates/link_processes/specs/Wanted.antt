@@ -6,8 +6,8 @@ use Rattle.turn_code.specs.declared.numbers.SignalNumber.{SignalNumber}
 use Rattle.turn_code.specs.declared.draft.Draft.{Draft}
 use Rattle.turn_code.specs.declared.draft.DraftRoute.{DraftRoute}
 use Rattle.actor_machine.specs.Refusals.{is_environment, offers}
-use Rattle.link_processes.specs.Known.{signal_sorts, option_sorts, IsProcess, IsSignal}
-use Rattle.link_processes.specs.Known.{touches, IsTouched}
+use Rattle.link_processes.specs.Known.{signal_sorts, option_sorts, IsProcess, IsSignal, touches}
+use Rattle.link_processes.specs.Known.{IsTouched}
 use Rattle.link_processes.specs.declared.words.ProcessName.{ProcessName}
 use Rattle.link_processes.specs.declared.words.ProcessName.TheVariants as process
 use Rattle.link_processes.specs.declared.words.SignalName.{SignalName}
@@ -15,8 +15,8 @@ use Rattle.link_processes.specs.declared.words.SignalName.TheVariants as signal
 use Rattle.link_processes.specs.declared.words.OptionName.{OptionName}
 use Rattle.link_processes.specs.declared.words.OptionName.TheVariants as option
 use Rattle.link_processes.specs.declared.wanted.Wanted.{Wanted}
-use Rattle.link_processes.specs.declared.wanted.Wanted.TheVariants.{Process, Sent, Heard}
-use Rattle.link_processes.specs.declared.wanted.Wanted.TheVariants.{MaySend, MayHear, MayCount}
+use Rattle.link_processes.specs.declared.wanted.Wanted.TheVariants.{Process, Sent, Heard, MaySend}
+use Rattle.link_processes.specs.declared.wanted.Wanted.TheVariants.{MayHear, MayCount}
 
 -- ---- what a set has
 

@@ -8,7 +8,7 @@ ghost use Rattle.su_octets.specs.declared.units.Unit.{Unit};
 
 use crate::line_bits::line_bits;
 use hex::FromHexError;
-use plain_text::{FAILED, HELD, REFUSED, write_line};
+use plain_text::{DONE, FAILED, REFUSED, write_line};
 use std::alloc::{AllocError, Global};
 use std::fmt;
 use std::io::{self, Write};
@@ -58,7 +58,7 @@ pub fn frame<W: Write>(alloc: Global, word: &str, writer: &mut W) -> u8
 {
     match read(alloc, word) {
         Ok(Ok(reading)) => match write_reading(alloc, writer, &reading) {
-            Ok(()) => HELD,
+            Ok(()) => DONE,
             Err(_) => FAILED,
         },
         Ok(Err(fault)) => match write_fault(alloc, writer, fault) {

@@ -11,10 +11,10 @@ use Rattle.line_play.specs.Opening.{IsNoSet}
 use Rattle.line_play.specs.SetDesks.{RanFrom}
 use Rattle.line_play.specs.SetOpening.{IsNewTenderOver}
 use Rattle.line_play.specs.Tended.{Tended}
-use Rattle.line_play.specs.declared.set_opening.SetPlan.{SetPlan}
+use Rattle.line_play.specs.declared.set.opening.SetPlan.{SetPlan}
 use Rattle.mtp2_play.specs.SetRuns.{RanOver, plan_of}
 use Rattle.mtp2_play.specs.Spoken.{SpokeOver, BegunOver}
-use Rattle.mtp2_words.specs.resend_store_types.messages.RoundLimits.{RoundLimits}
+use Rattle.resend_store.specs.declared.messages.RoundLimits.{RoundLimits}
 use Rattle.mtp2_words.specs.declared.ends.LineEnd.{LineEnd}
 use Rattle.mtp2_words.specs.declared.set_ends.SetEnd.{SetEnd}
 use Rattle.mtp2_play.specs.Printed.{IsDone, IsSetRun, IsSpoken, IsPlayedOn, IsWatchedOn}

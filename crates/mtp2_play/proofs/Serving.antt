@@ -6,8 +6,8 @@ use Rattle.mtp2_words.specs.Commands.{all_commands}
 use Rattle.mtp2_words.specs.declared.requests.Request.{Request}
 use Rattle.mtp2_play.specs.Printed.{IsStatus}
 use Rattle.mtp2_play.specs.Served.{IsServedBy, WasServed, is_run}
-use Rattle.mtp2_play.specs.declared.asked.Came.{Came}
-use Rattle.mtp2_play.specs.declared.asked.Came.TheVariants.{Over, Soak as asks_soak}
+use Rattle.mtp2_play.specs.declared.asked.Handled.{Handled}
+use Rattle.mtp2_play.specs.declared.asked.Handled.TheVariants.{Over, Soak as asks_soak}
 
 run_status : (status : ℕ) → (status ≡ 0) ⊎ (status ≡ 1) ⊎ (status ≡ 2) ⊎ (status ≡ 4) → IsStatus status
 run_status status (inl h) = inl h
@@ -21,7 +21,7 @@ told_status status (inr (inl h)) = inr (inr (inr (inl h)))
 told_status status (inr (inr h)) = inr (inr (inr (inr h)))
 
 -- words without a fault make a request, and that was carried out
-pub served_by : (words : List Text) (request : Request) (it : Came) → fault_of all_commands words ≡ [] → IsAskedBy (subcommand_of all_commands words) request → WasServed request it
+pub served_by : (words : List Text) (request : Request) (it : Handled) → fault_of all_commands words ≡ [] → IsAskedBy (subcommand_of all_commands words) request → WasServed request it
     → IsServedBy words it
 served_by words request (Over status) taken asked was = (is_run request was.0.old was.0.new taken asked was.0.answered was.1, run_status status was.1)
 served_by words request (asks_soak script workers) taken asked is =

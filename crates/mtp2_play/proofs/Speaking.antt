@@ -1,22 +1,22 @@
 -- The run of a desk is the run of its terminal.
 use Rattle.std.proofs.Common.{◌≡◌, ◌⊎◌, inl, inr, refl, subst, ℕ, List, Option, None}
 use Rattle.std.specs.Prelude.{min}
-use Rattle.line_play.specs.Term.{Term}
+use Rattle.link_term.specs.Term.{Term}
 use Rattle.line_filter.specs.Desks.{state_of}
 use Rattle.line_filter.specs.Filters.{MOST_AHEAD, Line, IsOver, IsBegun, Streams}
 use Rattle.line_filter.specs.Orders.{Timed}
 use Rattle.line_filter.specs.Speaking.{IsSilent}
 use Rattle.line_filter.specs.declared.desk.Desk.{Desk}
 use Rattle.line_filter.specs.declared.filter.Bits.{Bits}
-use Rattle.line_play.specs.Checked.{IsGiven}
+use Rattle.script_check.specs.Checked.{IsGiven}
 use Rattle.line_play.specs.Lines.{end_acts}
 use Rattle.line_play.specs.Opening.{IsNewOver}
-use Rattle.line_play.specs.declared.link_end.LinkEnd.{LinkEnd}
+use Rattle.line_play.specs.declared.link.end.LinkEnd.{LinkEnd}
 use Rattle.line_filter.specs.Reporting.{Stand}
 use Rattle.mtp2_play.specs.Spoken.{AreGiven, ordered_by, SpokeBy, Spoke, SpokeOver, Begun, BegunOver, IsUntouched}
 use Rattle.mtp2_words.specs.Ends.{limits_over}
-use Rattle.mtp2_words.specs.resend_store_types.messages.Mode.{Mode}
-use Rattle.mtp2_words.specs.resend_store_types.messages.RoundLimits.{RoundLimits}
+use Rattle.resend_store.specs.declared.messages.Mode.{Mode}
+use Rattle.resend_store.specs.declared.messages.RoundLimits.{RoundLimits}
 use Rattle.mtp2_words.specs.declared.ends.LineEnd.{LineEnd}
 
 pub spoke : {O P : Type 0} (octets : Option (List ℕ)) (left : O → Option (List Timed)) (bits : Bits) (ahead count : ℕ) (old new : Desk LinkEnd O P) (before after : Streams)

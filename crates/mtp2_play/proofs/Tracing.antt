@@ -6,11 +6,11 @@ use Rattle.line_filter.specs.Runs.{State}
 use Rattle.line_filter.specs.declared.desk.Desk.{Desk}
 use Rattle.line_filter.specs.declared.filter.Bits.{Bits}
 use Rattle.line_play.specs.Lines.{end_acts}
-use Rattle.line_play.specs.Term.{Term}
-use Rattle.line_play.specs.declared.link_end.LinkEnd.{LinkEnd}
+use Rattle.link_term.specs.Term.{Term}
+use Rattle.line_play.specs.declared.link.end.LinkEnd.{LinkEnd}
 use Rattle.mtp2_play.specs.Spoken.{AreGiven, ordered_by}
 use Rattle.mtp2_play.specs.TracedEnds.{traced_acts}
-use Rattle.mtp2_play.specs.declared.traces.TracedEnd.{TracedEnd}
+use Rattle.mtp2_play.specs.declared.line.traces.TracedEnd.{TracedEnd}
 use Rattle.mtp2_play.proofs.Mapped.{Maps, at, over, begun}
 
 abbrev pub end_of : {W : Type 0} → TracedEnd W → LinkEnd

@@ -2,7 +2,7 @@
 use Rattle.std.specs.Prelude.{ℕ, List, ◌∷◌, [], ◌++◌, String, string_bytes}
 use Rattle.std.specs.List.{flat_map}
 use Rattle.line_play.specs.Measured.{measured_lines}
-use Rattle.line_play.specs.Term.{Term}
+use Rattle.link_term.specs.Term.{Term}
 
 -- a line, with its end
 abbrev pub line_text : {Z : Type 0} → String Z → List ℕ

@@ -1,7 +1,7 @@
 -- The output of each command, by its exit status. For a text that isn't built in, the statement is
 -- about some bytes, since no contract knows those of a file or of standard input.
-use Rattle.std.specs.Prelude.{◌≡◌, ◌≢◌, ◌⊎◌, ◌≤◌, ℕ, Bool, List, [], ◌∷◌}
-use Rattle.std.specs.Prelude.{length, Option, None, Some, IsSomeAnd}
+use Rattle.std.specs.Prelude.{◌≡◌, ◌≢◌, ◌⊎◌, ◌≤◌, ℕ, Bool, List, [], ◌∷◌, length, Option, None}
+use Rattle.std.specs.Prelude.{Some, IsSomeAnd}
 use Rattle.std.specs.Io.KnownBytes.{Appends}
 use Rattle.clap.specs.declared.error.kind.ErrorKind.{ErrorKind}
 use Rattle.clap.specs.declared.error.kind.ErrorKind.TheVariants.{DisplayHelp, DisplayVersion}
@@ -11,15 +11,15 @@ use Rattle.script_play.specs.Played.{IsOnSet, IsPlayed, IsPlayedInPart, IsRefuse
 use Rattle.script_play.specs.Seen.{IsWatched, IsWatchedInPart}
 use Rattle.script_play.specs.declared.seeing.Wanted.{Wanted}
 use Rattle.script_play.specs.declared.seeing.Wanted.TheVariants as wants
-use Rattle.script_play.specs.declared.watching.Told.TheVariants as told
+use Rattle.script_play.specs.declared.watching.RunSummary.TheVariants as told
 use Rattle.pool_soak.specs.Findings.{IsSoaked, IsSoakedInVain, IsTurnedDown}
 use Rattle.mtp2_frame.specs.Printed.{PrintsUnit, PrintsFault}
 use Rattle.line_filter.specs.Filters.{Line as Octets}
 use Rattle.line_play.specs.Opening.{IsNoSet}
-use Rattle.line_play.specs.declared.set_opening.SetPlan.{SetPlan}
+use Rattle.line_play.specs.declared.set.opening.SetPlan.{SetPlan}
 use Rattle.mtp2_play.specs.SetRuns.{RanOver, plan_of}
 use Rattle.mtp2_play.specs.Spoken.{SpokeOver, BegunOver, IsUntouched}
-use Rattle.mtp2_words.specs.resend_store_types.messages.RoundLimits.{RoundLimits}
+use Rattle.resend_store.specs.declared.messages.RoundLimits.{RoundLimits}
 use Rattle.mtp2_words.specs.declared.ends.LineEnd.{LineEnd}
 use Rattle.mtp2_play.specs.Compared.{IsCompared}
 use Rattle.mtp2_play.specs.Sets.{own_text_of}

@@ -11,8 +11,8 @@ use Rattle.mtp2_words.specs.declared.requests.Request.{Request}
 use Rattle.mtp2_words.specs.declared.requests.Request.TheVariants.{Soak}
 use Rattle.mtp2_words.specs.declared.requests.Source.{Source}
 use Rattle.mtp2_play.specs.Printed.{IsAnswered, IsFault, IsStatus}
-use Rattle.mtp2_play.specs.declared.asked.Came.{Came}
-use Rattle.mtp2_play.specs.declared.asked.Came.TheVariants as came
+use Rattle.mtp2_play.specs.declared.asked.Handled.{Handled}
+use Rattle.mtp2_play.specs.declared.asked.Handled.TheVariants as came
 
 -- the exit status of a refusal: 0 only for help and the version, 3 only for a fault of the words,
 -- else 4
@@ -42,12 +42,12 @@ pub record AsksSoak (words : List Text) (script : Source) (workers : ℕ) : Type
   pub asked : IsAskedBy (subcommand_of all_commands words) (Soak script workers)
 
 -- a request other than `soak` was run; a request of `soak` is only passed on
-abbrev pub WasServed : Request → Came → Type 0
+abbrev pub WasServed : Request → Handled → Type 0
 WasServed request (came.Over status) =
     WasAnswered request status × ((status ≡ 0) ⊎ (status ≡ 1) ⊎ (status ≡ 2) ⊎ (status ≡ 4))
 WasServed request (came.Soak script workers) = request ≡ Soak script workers
 
 -- the request of the words was run, unless it is `soak`, which is only passed on
-abbrev pub IsServedBy : List Text → Came → Type 0
+abbrev pub IsServedBy : List Text → Handled → Type 0
 IsServedBy words (came.Over status) = ComesTo words status × IsStatus status
 IsServedBy words (came.Soak script workers) = AsksSoak words script workers

@@ -2,7 +2,7 @@
 use Rattle.std.specs.Prelude.{ℕ, List}
 use Rattle.line_play.specs.SetDesks.{RanFrom}
 use Rattle.line_play.specs.SetOpening.{IsNewTenderOver}
-use Rattle.line_play.specs.declared.set_opening.SetPlan.{SetPlan}
+use Rattle.line_play.specs.declared.set.opening.SetPlan.{SetPlan}
 use Rattle.line_play.specs.Tended.{Tended}
 use Rattle.mtp2_words.specs.Limits.{usual_limits_of}
 use Rattle.mtp2_words.specs.declared.set_ends.SetEnd.{SetEnd}

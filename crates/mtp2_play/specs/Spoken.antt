@@ -1,6 +1,6 @@
 -- The output of one end of a link on its line, for the octets that it read there.
 use Rattle.std.specs.Prelude.{◌≡◌, ⊤, ℕ, min, List, [], Option, None, Some, option_map}
-use Rattle.line_play.specs.Term.{Term}
+use Rattle.link_term.specs.Term.{Term}
 use Rattle.line_filter.specs.Orders.{Timed}
 use Rattle.line_filter.specs.Runs.{State}
 use Rattle.line_filter.specs.Speaking.{IsSilent}
@@ -10,9 +10,9 @@ use Rattle.line_filter.specs.Streams.{orders_of}
 use Rattle.line_filter.specs.declared.filter.Bits.{Bits}
 use Rattle.line_play.specs.Lines.{end_acts}
 use Rattle.line_play.specs.Opening.{IsNewOver}
-use Rattle.line_play.specs.declared.link_end.LinkEnd.{LinkEnd}
+use Rattle.line_play.specs.declared.link.end.LinkEnd.{LinkEnd}
 use Rattle.mtp2_words.specs.Ends.{limits_over}
-use Rattle.mtp2_words.specs.resend_store_types.messages.RoundLimits.{RoundLimits}
+use Rattle.resend_store.specs.declared.messages.RoundLimits.{RoundLimits}
 use Rattle.mtp2_words.specs.declared.ends.LineEnd.{LineEnd}
 
 -- without a path of orders there are none; the orders of a path aren't known

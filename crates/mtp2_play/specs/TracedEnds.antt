@@ -5,11 +5,11 @@ use Rattle.std.specs.Str.{bytes_eq}
 use Rattle.std.specs.Io.KnownBytes.{Appends}
 use Rattle.line_filter.specs.Acts.{Act, asked, heard, passed, reported, obeyed}
 use Rattle.line_play.specs.Lines.{end_acts}
-use Rattle.line_play.specs.Term.{Term}
+use Rattle.link_term.specs.Term.{Term}
 use Rattle.script_play.specs.TracedActs.{Follows, front_line}
 use Rattle.script_play.specs.Words.{words_of}
 use Rattle.script_play.specs.script_seen_types.tracing.Tracer.{Tracer}
-use Rattle.mtp2_play.specs.declared.traces.TracedEnd.{TracedEnd}
+use Rattle.mtp2_play.specs.declared.line.traces.TracedEnd.{TracedEnd}
 
 -- ---- the line of an order
 

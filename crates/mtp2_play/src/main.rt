@@ -8,42 +8,26 @@ ghost use Rattle.clap.specs.declared.error.kind.ErrorKind.TheVariants.{OutOfMemo
 ghost use Rattle.mtp2_play.specs.Printed.{IsAnswered, IsFault};
 ghost use Rattle.mtp2_play.specs.Served.{IsServedBy, WasAnswered, WasServed};
 
-mod allowance;
 mod asked;
-mod captures;
-mod checks;
-mod differences;
-mod inlet;
-mod lines;
-mod measuring;
-mod order_fronts;
-mod pictures;
-mod plays;
-mod running;
-mod set_lines;
-mod set_tap;
-mod sets;
-mod soaks;
-mod tended;
-mod texts;
-mod traced;
-mod traces;
+mod line;
+mod scripts;
+mod set;
+mod text;
 
-use crate::asked::Came;
-use crate::captures::{capture_of, end_capture};
-use crate::checks::run_checks;
-use crate::differences::run_diff;
-use crate::lines::run_line;
-use crate::pictures::{picture_of, run_draw};
-use crate::plays::run_play;
-use crate::soaks::serve_links;
-use crate::tended::run_set;
-use crate::texts::print_own;
+use crate::asked::Handled;
+use crate::line::captures::{capture_of, end_capture};
+use crate::line::command::run_line;
+use crate::scripts::play::run_play;
+use crate::scripts::soak::serve_links;
+use crate::set::command::run_set;
+use crate::text::check::run_checks;
+use crate::text::diff::run_diff;
+use crate::text::draw::{picture_of, run_draw};
+use crate::text::print::print_own;
 use line_streams::{Plan, open_records, tap};
 use mtp2_frame::frame;
 use mtp2_words::{Error, ErrorKind, Request, read};
-use plain_text::Teller;
-use script_check::{FAILED, HELD, USAGE};
+use plain_text::{DONE, FAILED, Teller, USAGE};
 use std::fs::File;
 use std::io::{self, Read, Write};
 use std::process::ExitCode;
@@ -103,7 +87,7 @@ fn answer<R: Runtime + AllocGlobal>(rt: &R, error: &Error) -> u8
     if error.kind() == ErrorKind::OutOfMemory || error.print(rt).is_err() {
         return FAILED;
     }
-    if error.use_stderr() { USAGE } else { HELD }
+    if error.use_stderr() { USAGE } else { DONE }
 }
 
 /// Runs a command on a tapped line: standard input and output pass through unchanged, and a capture records them.
@@ -154,12 +138,12 @@ fn obey<
     'a,
     R: Runtime + AllocGlobal,
     H: Files<File = File> + Threads + Eprint + Clock + AllocGlobal,
->(rt: &R, host: &H, teller: &Teller<'_, H>, request: &Request<'a>) -> Came<'a>
+>(rt: &R, host: &H, teller: &Teller<'_, H>, request: &Request<'a>) -> Handled<'a>
     ensures { WasServed request.now result }
 {
     match request {
-        Request::Soak { script, workers } => Came::Soak(*script, *workers),
-        _ => Came::Over(run_here(rt, host, teller, request)),
+        Request::Soak { script, workers } => Handled::Soak(*script, *workers),
+        _ => Handled::Over(run_here(rt, host, teller, request)),
     }
 }
 
@@ -168,12 +152,12 @@ fn serve<
     'a,
     R: Runtime + AllocGlobal,
     H: Files<File = File> + Threads + Eprint + Clock + AllocGlobal,
->(rt: &R, host: &H, teller: &Teller<'_, H>, given: &'a [String]) -> Came<'a>
+>(rt: &R, host: &H, teller: &Teller<'_, H>, given: &'a [String]) -> Handled<'a>
     ensures { IsServedBy (map string_bytes given.now) result }
 {
     match read(rt.alloc(), given) {
         Ok(request) => obey(rt, host, teller, &request),
-        Err(error) => Came::Over(answer(rt, &error)),
+        Err(error) => Handled::Over(answer(rt, &error)),
     }
 }
 
@@ -210,8 +194,8 @@ fn main(rt: HostRuntime) -> ExitCode {
     let teller = Teller::new(&rt);
     let status = match start(&rt, &rt) {
         Ok(line) => match serve(&rt, &rt, &teller, line.given.as_slice()) {
-            Came::Over(status) => status,
-            Came::Soak(script, workers) => serve_links(&rt, &teller, script, workers),
+            Handled::Over(status) => status,
+            Handled::Soak(script, workers) => serve_links(&rt, &teller, script, workers),
         },
         Err(_) => FAILED,
     };

@@ -16,10 +16,10 @@ mod standard_text;
 pub use monitors_text::MONITORS;
 pub use own::OwnSet;
 pub use q703_text::Q703;
-pub use resend_store::RoundLimits;
 pub use standard_text::STANDARD;
 use std::alloc::Global;
-pub use turn_verify::{LexFault, LoadFault, Verified, load};
+use turn_verify::Verified;
+pub use turn_verify::{LoadFault, load};
 
 /// The set of the text [`STANDARD`].
 ///

@@ -8,4 +8,3 @@ pub mod TurnedDown
 pub mod Words
 pub use Rattle.mtp2_text.specs.Own
 pub use Rattle.mtp2_text.specs.declared as mtp2_text_types
-pub use Rattle.script_links.specs.resend_store_types

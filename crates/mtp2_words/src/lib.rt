@@ -20,7 +20,6 @@ pub use clap::error::ErrorKind;
 pub use ends::{LineEnd, LineWords, line_end};
 pub use mtp2_text::OwnSet;
 pub use requests::{Named, Request, Source};
-pub use script_links::RoundLimits;
 pub use seeing::{Seeing, SeeingWords, Sight, Turns, seen_by};
 pub use set_ends::SetEnd;
 pub use words::read;

@@ -6,6 +6,6 @@ mod lines;
 mod reading;
 mod told;
 
-pub use lines::{FAILED, HELD, REFUSED, USAGE, refuse, write_line};
+pub use lines::{DONE, FAILED, REFUSED, USAGE, refuse, write_line};
 pub use reading::{MOST_BYTES, MOST_READS, TextRead, line_at_limit, read_text};
 pub use told::{Errors, NamedReader, Teller};

@@ -8,7 +8,7 @@ use std::fmt::Display;
 use std::io::{self, Write};
 
 /// The exit status of a command that did what it was asked.
-pub const HELD: u8 = 0;
+pub const DONE: u8 = 0;
 
 /// The exit status if a text, a script or octets were refused.
 pub const REFUSED: u8 = 2;

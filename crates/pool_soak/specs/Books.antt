@@ -5,7 +5,7 @@ use Rattle.plain_laws.specs.Limits.{USUAL_ENVIRONMENT, USUAL_JOURNAL, USUAL_PORT
 use Rattle.turn_code.specs.declared.draft.Draft.{Draft}
 use Rattle.actor_machine.specs.Ledger.{Ledger}
 use Rattle.actor_machine.specs.Kept.{opened_book}
-use Rattle.script_check.specs.mtp2_text_types.standard_text.TheConstants.{STANDARD}
+use Rattle.mtp2_text.specs.declared.standard_text.TheConstants.{STANDARD}
 use Rattle.turn_pool.specs.Receipts.{AllStand}
 use Rattle.turn_pool.specs.declared.receipt.Receipt.{Receipt}
 use Rattle.script_check.specs.Loaded.{IsLoaded}

@@ -3,7 +3,7 @@
 ghost use Rattle.std.specs.Prelude.{◌≡◌, ◌⊎◌, ◌&&◌, true, false};
 ghost use Rattle.pool_soak.specs.FindingLines.{seats_finding, audit_finding};
 
-use plain_text::HELD;
+use plain_text::DONE;
 use std::fmt;
 
 /// The exit status if a receipt doesn't match the journals, or the seats don't.
@@ -66,5 +66,5 @@ pub fn status_of(agree: bool, stand: bool) -> u8
     ensures differs { result ≡ 1 → agree && stand ≡ false }
     ensures status { (result ≡ 0) ⊎ (result ≡ 1) }
 {
-    if agree && stand { HELD } else { DIFFERS }
+    if agree && stand { DONE } else { DIFFERS }
 }

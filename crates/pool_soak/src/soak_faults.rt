@@ -6,8 +6,7 @@ ghost use Rattle.script_lines.specs.LineFaults.{IsSo};
 ghost use Rattle.pool_soak.specs.Faults.{is_no_step};
 
 use crate::script::links_in;
-use plain_text::MOST_BYTES;
-use script_check::write_line;
+use plain_text::{MOST_BYTES, write_line};
 use script_lines::{
     LineFault, ScriptFault, Verb, lines_in, number_fault, verb_fault, verb_in, words_fault,
 };

@@ -7,7 +7,8 @@ ghost use Rattle.script_book.specs.Answers.{actor_named, by_event, variable_line
 use crate::calls::call;
 use crate::names::{actor_named, variable_named};
 use crate::offers::{flood, offer};
-use actor_book::{Book, Refusal, rest};
+use actor_book::{Book, rest};
+use actor_machine::Refusal;
 use script_lines::{Called, Command, refused_line, shown_line, taken_line};
 use std::alloc::{AllocError, Global};
 use std::fmt::Display;

@@ -4,7 +4,8 @@ ghost use Rattle.actor_machine.specs.declared.event.Event.TheVariants as event;
 ghost use Rattle.script_book.specs.Answers.{actor_named, by_event, standing_line, standing_at, state_line, called, calls};
 
 use crate::names::actor_named;
-use actor_book::{Book, Refusal};
+use actor_book::Book;
+use actor_machine::Refusal;
 use actor_machine::laws::out_law;
 use script_lines::{
     Call, Called, begun_line, finished_line, refused_line, skipped_line, standing_line,

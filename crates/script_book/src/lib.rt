@@ -14,7 +14,7 @@ mod route_faults;
 pub use answers::{text_line, value_line};
 pub use calls::state_line;
 pub use opened::open_player;
-pub use plain_text::{FAILED, HELD, refuse, write_line};
+pub use plain_text::{DONE, FAILED, refuse, write_line};
 pub use player::{MISSED, Player};
 pub use playing::play_book;
 pub use printer::Printer;

@@ -6,7 +6,8 @@ ghost use Rattle.actor_machine.specs.declared.event.Event.TheVariants.{Offer as 
 ghost use Rattle.script_book.specs.Answers.{actor_named, signal_named, took, offered, looked_up, floods, flooded, why};
 
 use crate::names::{actor_named, signal_named};
-use actor_book::{Book, Refusal, rest};
+use actor_book::{Book, rest};
+use actor_machine::Refusal;
 use script_lines::Offer;
 use turn_code::{SignalNumber, Value};
 

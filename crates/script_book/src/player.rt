@@ -8,7 +8,7 @@ use crate::answers::answer;
 use crate::printer::Printer;
 use crate::route_faults::route_fault;
 use actor_book::Book;
-use plain_text::{HELD, write_line};
+use plain_text::{DONE, write_line};
 use script_lines::{Command, Said};
 use std::alloc::Global;
 use std::io::{self, Write};
@@ -102,6 +102,6 @@ impl Player {
             }
             self.explain(alloc, said, errors);
         }
-        Ok(HELD)
+        Ok(DONE)
     }
 }

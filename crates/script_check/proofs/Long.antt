@@ -7,14 +7,14 @@ use Rattle.sdl_lex.specs.Lexed.{Answers, over_long, in_room}
 use Rattle.sdl_lex.specs.declared.lexemes.Token.{Token}
 use Rattle.sdl_lex.specs.declared.lexemes.LexFault.TheVariants.{TooLong}
 use Rattle.turn_code.specs.declared.draft.Draft.{Draft}
-use Rattle.script_point.specs.Loaded.{IsUnlexed}
+use Rattle.turn_verify.specs.Loaded.{IsUnlexed}
 use Rattle.plain_text.specs.Reading.{LONGEST, Keeps, IsReading}
 use Rattle.plain_text.specs.declared.reading.TextRead.{TextRead}
 use Rattle.script_check.specs.declared.sets.SetFault.{SetFault}
 use Rattle.script_check.specs.declared.sets.Refusal.{Refusal}
 use Rattle.script_check.specs.Checked.{AreFirst, IsGiven, IsNotAccepted, IsSetOf, IsRefusal, IsRefusalOf, IsRefusedAt, IsTooLong, PointsIn, PointsOut}
 use Rattle.script_point.specs.Pointed.{IsHead}
-use Rattle.script_point.specs.turn_verify_types.loading.LoadFault.{LoadFault}
+use Rattle.turn_verify.specs.declared.loading.LoadFault.{LoadFault}
 use Rattle.plain_laws.proofs.Lists.{take_twice}
 
 -- the fault of a text that is too long

@@ -1,6 +1,6 @@
 -- What the status of `check` implies about the text read and the output.
-use Rattle.std.specs.Prelude.{◌≡◌, ◌⊎◌, ℕ, ◌+◌, ◌<◌, ◌≤◌, List, [], ◌++◌, length, take}
-use Rattle.std.specs.Prelude.{Option, Some, Ok, IfSome, IsUtf8, codes}
+use Rattle.std.specs.Prelude.{◌≡◌, ◌⊎◌, ℕ, ◌+◌, ◌<◌, ◌≤◌, List, [], ◌++◌, length, take, Option}
+use Rattle.std.specs.Prelude.{Some, Ok, IfSome, IsUtf8, codes}
 use Rattle.sdl_lex.specs.Lexed.{Answers}
 use Rattle.sdl_lex.specs.declared.lexemes.Token.{Token}
 use Rattle.script_check.specs.Telling.{Fits}
@@ -10,10 +10,10 @@ use Rattle.script_point.specs.mtp2_text_types.own.OwnSet.{OwnSet}
 use Rattle.script_point.specs.mtp2_text_types.own.OwnSet.TheVariants as own
 use Rattle.plain_text.specs.Reading.{LONGEST}
 use Rattle.turn_code.specs.declared.draft.Draft.{Draft}
-use Rattle.script_point.specs.Loaded.{IsSound, IsLoaded, IsRefused}
-use Rattle.script_point.specs.turn_verify_types.loading.LoadFault.{LoadFault}
-use Rattle.script_point.specs.turn_verify_types.loading.LoadFault.TheVariants.{NoMemory}
-use Rattle.script_point.specs.declared.notes.Told.{Told}
+use Rattle.turn_verify.specs.Loaded.{IsSound, IsLoaded, IsRefused}
+use Rattle.turn_verify.specs.declared.loading.LoadFault.{LoadFault}
+use Rattle.turn_verify.specs.declared.loading.LoadFault.TheVariants.{NoMemory}
+use Rattle.script_point.specs.declared.notes.Explained.{Explained}
 use Rattle.script_point.specs.Pointing.{IsPointedOut}
 use Rattle.script_point.specs.Pointed.{bare_text, IsHead}
 use Rattle.script_check.specs.declared.sets.Refusal.{Refusal}
@@ -89,7 +89,7 @@ pub record IsTooLong (bytes kept : List ℕ) : Type 0 where
 -- The lines point at a fault of a text, with notes. If the fault names no place they point at a
 -- token that exceeds a limit, or at the name of the variable read unset.
 pub record IsTold (text : List ℕ) (fault : LoadFault) (lines : List ℕ) : Type 0 where
-  pub told : Told
+  pub told : Explained
   pub points : IsPointedOut text fault told lines
   pub found : (ts : List Token) → Answers text (Ok ts) → IfSome told.found (Fits ts fault)
 

@@ -10,7 +10,7 @@ use Rattle.turn_code.specs.declared.draft.DraftState.{DraftState}
 use Rattle.turn_code.specs.declared.draft.DraftInput.{DraftInput}
 use Rattle.turn_code.specs.declared.draft.Trigger.{Trigger}
 use Rattle.turn_code.specs.declared.draft.Trigger.TheVariants.{Signal, Timer}
-use Rattle.script_point.specs.Printed as loading
+use Rattle.turn_verify.specs.Printed as loading
 pub use Rattle.plain_text.specs.Lines.{line_of}
 use Rattle.script_check.specs.declared.sets.SetFault.{SetFault}
 use Rattle.script_check.specs.declared.sets.SetFault.TheVariants.{NotRead, NotText, Load}

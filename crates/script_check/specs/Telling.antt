@@ -6,8 +6,8 @@ use Rattle.sdl_lex.specs.declared.lexemes.Lexeme.TheVariants.{Name, Number, Word
 use Rattle.sdl_lex.specs.declared.lexemes.Token.{Token}
 use Rattle.sdl_sound.specs.declared.fault.RuleFault.{RuleFault}
 use Rattle.sdl_sound.specs.declared.fault.RuleFault.TheVariants as rules
-use Rattle.script_point.specs.turn_verify_types.loading.LoadFault.{LoadFault}
-use Rattle.script_point.specs.turn_verify_types.loading.LoadFault.TheVariants as loading
+use Rattle.turn_verify.specs.declared.loading.LoadFault.{LoadFault}
+use Rattle.turn_verify.specs.declared.loading.LoadFault.TheVariants as loading
 
 -- A lexeme is this name, without regard to case.
 abbrev pub IsNamed : List ℕ → Lexeme → Type 0

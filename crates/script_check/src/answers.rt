@@ -1,6 +1,6 @@
 //! Notes for values that no answer of a DECISION covers (S8).
-use script_point::{Notes, Standing, standing_at};
-use sdl_sorts::is_truth;
+use script_point::{Notes, PlacedPart, standing_at};
+use sdl_scopes::is_truth;
 use sdl_tables::ProcessTable;
 use sdl_tree::{Decision, Literal, Range};
 use std::alloc::AllocError;
@@ -75,7 +75,7 @@ pub(crate) fn no_answer(
     let Some(found) = standing_at(process.process(), at) else {
         return Ok(());
     };
-    let Standing::Question(decision) = found.standing else {
+    let PlacedPart::Question(decision) = found.standing else {
         return Ok(());
     };
     let (said, hint) = if is_truth(process, &decision.question) {

@@ -6,7 +6,7 @@ ghost use Rattle.script_check.specs.Printed.{refusal_line};
 
 use crate::costs::write_set;
 use crate::sets::{Refusal, SetFault, SetWord, find_set};
-use plain_text::{FAILED, HELD, REFUSED, refuse};
+use plain_text::{DONE, FAILED, REFUSED, refuse};
 use std::alloc::Global;
 use std::io::{self, Read, Write};
 
@@ -34,7 +34,7 @@ pub fn check<R: Read + Drop, W: Write, E: Write>(
 {
     match find_set(alloc, set) {
         Ok(set) => match write_set(alloc, writer, &set) {
-            Ok(()) => HELD,
+            Ok(()) => DONE,
             Err(_) => FAILED,
         },
         Err(refusal) => refuse_set(alloc, name, &refusal, writer, errors),

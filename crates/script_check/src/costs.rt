@@ -5,10 +5,10 @@ ghost use Rattle.std.specs.List.{flat_map};
 ghost use Rattle.script_check.specs.Printed.{trigger_text, start_line, input_line, state_lines, process_lines, set_lines};
 
 use plain_text::write_line;
-use script_point::Verified;
 use std::alloc::{AllocError, Global};
 use std::fmt;
 use std::io::{self, Write};
+use turn_check::Verified;
 use turn_code::{Cert, Draft, DraftInput, DraftProcess, DraftState, Trigger};
 
 /// The cost of a transition, as it is printed.

@@ -1,6 +1,6 @@
 //! The answers at which a transition runs off its end (S4).
 
-use script_point::{Reading, Told};
+use script_point::{Explained, Reading};
 use sdl_lex::Word;
 use sdl_tables::ProcessTable;
 use sdl_tree::{Decision, Process, StateClause, Statement, Transition};
@@ -130,7 +130,7 @@ fn transition_at<'a>(process: &'a Process, place: u32) -> Option<&'a Transition>
 
 /// Notes the answer at which the transition that begins at a place runs off, if it runs off at one.
 pub(crate) fn no_end(
-    told: &mut Told,
+    told: &mut Explained,
     process: &ProcessTable,
     read: &Reading<'_>,
     at: u32,

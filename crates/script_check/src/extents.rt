@@ -1,6 +1,5 @@
 //! The operands at once and the effects of a transition (S10), given those of the connections of its process.
-use sdl_joins::{find_links, reached_in};
-use sdl_measures::{Measure, code_size};
+use sdl_measures::{Measure, code_size, find_links, reached_in};
 use sdl_sound::is_division;
 use sdl_tables::ProcessTable;
 use sdl_tree::{

@@ -15,8 +15,5 @@ mod sorts;
 mod telling;
 
 pub use checking::{check, refuse_set, tell_refusal, write_refusal};
-pub use plain_text::{FAILED, HELD, REFUSED, USAGE, refuse, write_line};
-pub use script_point::{
-    LexFault, LoadFault, MONITORS, OwnSet, Q703, STANDARD, in_front, load, standard,
-};
+pub use script_point::in_front;
 pub use sets::{Refusal, SetFault, SetWord, find_set, load_set};

@@ -1,9 +1,8 @@
 //! Notes for an exceeded limit (S10): which item exceeds it, by how much, and where.
 use crate::extents::{count_places, extent_of, size_of};
-use script_point::{Notes, Told, push_all, push_number};
-use sdl_joins::find_orders;
+use script_point::{Explained, Notes, push_all, push_number};
 use sdl_lex::Name;
-use sdl_measures::{Measure, measure_all};
+use sdl_measures::{Measure, find_orders, measure_all};
 use sdl_sound::Limit;
 use sdl_tables::{BlockTable, InputPart, NameTable, ProcessTable, StateClause, StatePart};
 use sdl_tree::{Identifier, SignalDeclaration, Transition};
@@ -370,7 +369,7 @@ fn over_limit(
 /// checker doesn't know where `Owner` lives, and refuses the function.)
 pub(crate) fn tell_over(
     alloc: Global,
-    told: &mut Told,
+    told: &mut Explained,
     block: &BlockTable,
     limit: Limit,
 ) -> Result<(), AllocError> {

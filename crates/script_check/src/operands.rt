@@ -1,6 +1,6 @@
 //! Why an operand of an expression has the wrong sort (S3).
 use crate::sorts::Cause;
-use sdl_sorts::sort_in;
+use sdl_scopes::sort_in;
 use sdl_tables::ProcessTable;
 use sdl_tree::{BinaryOperator, Expression, Sort, UnaryOperator};
 

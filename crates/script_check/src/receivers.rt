@@ -1,7 +1,7 @@
 //! Notes for signals with no receiver or with several (S5, S6).
-use script_point::{Item, Notes, Standing, push_all, push_items, push_number, standing_at};
-use sdl_joins::{find_links, reached_in};
+use script_point::{ListedWord, Notes, PlacedPart, push_all, push_items, push_number, standing_at};
 use sdl_lex::{Name, line_of};
+use sdl_measures::{find_links, reached_in};
 use sdl_tables::{BlockTable, InputPart, ProcessTable};
 use sdl_tree::{Action, Destination, Identifier, Output, Party, Stimulus};
 use std::alloc::{AllocError, Global};
@@ -49,7 +49,7 @@ enum Beginning<'a> {
 fn output_at<'a>(process: &ProcessTable<'a>, at: u32) -> Option<(&'a Output, Identifier)> {
     let found = standing_at(process.process(), at)?;
     match found.standing {
-        Standing::Action(Action::Output(output)) => {
+        PlacedPart::Action(Action::Output(output)) => {
             let signal = signal_at(output, at)?;
             Some((output, signal))
         }
@@ -273,11 +273,11 @@ fn party_items<'a>(
     alloc: Global,
     parties: &'a [Party],
     processes: bool,
-) -> Result<Vec<Item<'a>>, AllocError> {
+) -> Result<Vec<ListedWord<'a>>, AllocError> {
     let mut items = Vec::new(alloc);
     for party in parties {
         if !processes || *party != Party::Environment {
-            items.push(Item {
+            items.push(ListedWord {
                 text: party_name(party),
                 is_sign: false,
             })?;

@@ -1,7 +1,7 @@
 //! Process sets, as commands name them.
 ghost use Rattle.std.specs.Prelude.{◌≡◌, ◌↔◌, List, ℕ, Ok, Err, IfOk, IfErr, IsFalse};
 ghost use Rattle.plain_text.specs.Reading.{Keeps};
-ghost use Rattle.script_point.specs.Loaded.{IsRefused};
+ghost use Rattle.turn_verify.specs.Loaded.{IsRefused};
 ghost use Rattle.script_check.specs.Checked.{given, own_word, IsGiven, IsRefusal, IsRefusalOf, IsRefusedAt, IsSetOf, IsText, IsTold, IsTooLong, PointsIn, PointsOut};
 ghost use Rattle.script_point.specs.Own.{text_of};
 ghost use Rattle.script_check.specs.declared.sets.SetFault.TheVariants.{NotRead};
@@ -9,13 +9,14 @@ ghost use Rattle.script_check.specs.declared.sets.SetWord.TheVariants.{Text};
 
 use crate::telling::told_of;
 use plain_text::{MOST_BYTES, TextRead, line_at_limit, read_text};
-use script_point::{
-    LexFault, LoadFault, OwnSet, Verified, load, point_head, point_nowhere, point_out,
-};
+use script_point::{OwnSet, point_head, point_nowhere, point_out};
+use sdl_lex::LexFault;
 use std::alloc::{AllocError, Global};
 use std::io::Read;
 use std::{fmt, str};
 use thiserror::Error;
+use turn_check::Verified;
+use turn_verify::{LoadFault, load};
 
 /// A process set, as a command names it.
 #[derive(Drop)]

@@ -1,8 +1,8 @@
 //! Why a value, an answer or a place of an INPUT has the wrong sort, or why their number is wrong (S3).
 use crate::operands::{Side, first_of, in_expression, place};
-use script_point::{Standing, standing_at};
+use script_point::{PlacedPart, standing_at};
 use sdl_lex::Name;
-use sdl_sorts::{is_truth, sort_in};
+use sdl_scopes::{is_truth, sort_in};
 use sdl_tables::{BlockTable, ProcessTable};
 use sdl_tree::{
     Action, Answer, Assignment, Expression, Identifier, Literal, Range, Sending, Sort, Stimulus,
@@ -308,9 +308,9 @@ pub(crate) fn wrong_sort(block: &BlockTable, process: &ProcessTable, at: u32) ->
     match standing_at(process.process(), at) {
         None => None,
         Some(found) => match found.standing {
-            Standing::Action(action) => in_action(block, process, action, at),
-            Standing::Question(decision) => in_expression(process, &decision.question, at),
-            Standing::Answer(decision, answer) => Some(Cause::Answer {
+            PlacedPart::Action(action) => in_action(block, process, action, at),
+            PlacedPart::Question(decision) => in_expression(process, &decision.question, at),
+            PlacedPart::Answer(decision, answer) => Some(Cause::Answer {
                 is_truth: is_truth(process, &decision.question),
                 here: standing_in(answer, at),
             }),

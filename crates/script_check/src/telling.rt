@@ -11,13 +11,14 @@ use crate::receivers::{no_receiver, two_receivers};
 use crate::sort_notes::explain;
 use crate::sorts::wrong_sort;
 use script_point::{
-    LoadFault, Notes, Reading, Told, add_notes, process_at, push_all, tokens_of, unset_read,
+    Explained, Notes, Reading, add_notes, process_at, push_all, tokens_of, unset_read,
 };
 use sdl_lex::{Lexeme, Name, Token};
 use sdl_sound::{RuleFault, Step};
 use sdl_tables::{BlockTable, ProcessTable, TableFault};
 use sdl_tree::{Block, ParseFault, parse};
 use std::alloc::{AllocError, Global};
+use turn_verify::LoadFault;
 
 /// The most tokens of a process that are parsed again with each token that might follow them.
 const MOST_TRIED: usize = 4096;
@@ -25,7 +26,7 @@ const MOST_TRIED: usize = 4096;
 /// Notes where a variable is read unset.
 fn of_unset(
     alloc: Global,
-    told: &mut Told,
+    told: &mut Explained,
     block: &BlockTable,
     path: &[Step],
     variable: Name,
@@ -46,7 +47,7 @@ fn of_unset(
 /// Adds the notes for a rule that is broken at a place of a process.
 fn of_place(
     alloc: Global,
-    told: &mut Told,
+    told: &mut Explained,
     block: &BlockTable<'_>,
     process: &ProcessTable<'_>,
     read: &Reading<'_>,
@@ -82,7 +83,7 @@ fn place_of(fault: &RuleFault) -> Option<u32> {
 /// Adds the notes for a rule that a block with these tables breaks.
 fn of_block(
     alloc: Global,
-    told: &mut Told,
+    told: &mut Explained,
     block: &BlockTable<'_>,
     read: &Reading<'_>,
     fault: &RuleFault,
@@ -105,7 +106,7 @@ fn of_block(
 /// Adds the notes for a rule that a block breaks.
 fn of_tree(
     alloc: Global,
-    told: &mut Told,
+    told: &mut Explained,
     block: &Block,
     read: &Reading<'_>,
     fault: &RuleFault,
@@ -120,7 +121,7 @@ fn of_tree(
 /// Adds the notes that the syntax tree of a text yields for a rule that it breaks.
 fn add_of_tree(
     alloc: Global,
-    told: &mut Told,
+    told: &mut Explained,
     read: &Reading<'_>,
     fault: &RuleFault,
 ) -> Result<(), AllocError> {
@@ -228,7 +229,7 @@ fn add_of_tokens(
 /// Adds the notes for a refusal of a text, and its place if it may name none.
 fn say(
     alloc: Global,
-    told: &mut Told,
+    told: &mut Explained,
     read: &Reading<'_>,
     fault: &LoadFault,
 ) -> Result<(), AllocError> {
@@ -240,7 +241,7 @@ fn say(
 }
 
 /// The notes for a refusal of a text, and the place where it was found if it names none.
-pub(crate) fn told_of(alloc: Global, text: &str, fault: &LoadFault) -> Result<Told, AllocError>
+pub(crate) fn told_of(alloc: Global, text: &str, fault: &LoadFault) -> Result<Explained, AllocError>
     ensures { IfOk result (λ told. (ts : List lexeme.Token) → Answers text.now (Ok ts) → IfSome told.found (Fits ts fault.now)) }
 {
     let tokens = tokens_of(alloc, text)?;
@@ -248,7 +249,7 @@ pub(crate) fn told_of(alloc: Global, text: &str, fault: &LoadFault) -> Result<To
         text,
         tokens: tokens.as_slice(),
     };
-    let mut told = Told {
+    let mut told = Explained {
         notes: Notes::new(alloc),
         found: None,
     };

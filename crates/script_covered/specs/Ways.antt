@@ -16,8 +16,8 @@ use Rattle.sdl_ast.specs.Plain.{ends, does, decides, Choice, nothing_else, other
 use Rattle.sdl_ast.specs.Plain.{PlainConnection, PlainProcess}
 use Rattle.sdl_tables.specs.Names.{number_of, variable_names, connector_names}
 use Rattle.sdl_sound.specs.Longest.{is_division}
-use Rattle.sdl_meaning.specs.Act.{apply_one, apply_two, working, divide, divisor_of}
-use Rattle.sdl_meaning.specs.Act.{covers_integer, covers_truth}
+use Rattle.sdl_meaning.specs.Act.{apply_one, apply_two, working, divide, divisor_of, covers_integer}
+use Rattle.sdl_meaning.specs.Act.{covers_truth}
 use Rattle.sdl_meaning.specs.Outcomes.{Outcome, goes_on, over}
 use Rattle.turn_code.specs.Run.{Progress}
 use Rattle.turn_code.specs.Values.{wrap}

@@ -7,7 +7,8 @@ ghost use Rattle.script_covered.specs.Covered.{known_turns};
 ghost use Rattle.script_covered.specs.Lcov.{row_of, named_as, declared_name, start_name, input_name, state_rows, states_rows, process_rows, all_rows};
 
 use crate::coverage::TurnCounts;
-use sdl_ast::{Identifier, Name};
+use sdl_ast::Identifier;
+use sdl_lex::Name;
 use sdl_tables::{BlockTable, InputRow, NameTable, ProcessTable};
 use std::alloc::{AllocError, Global};
 

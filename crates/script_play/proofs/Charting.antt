@@ -16,13 +16,13 @@ use Rattle.turn_code.specs.declared.input.Address.{Address}
 use Rattle.turn_code.specs.declared.input.Place.{Place}
 use Rattle.turn_check.specs.Named.{instances_at, instances_of}
 use Rattle.script_lines.specs.Replies.{sender_text}
-use Rattle.script_seen.specs.Names.{same_actor, named, instances_from, names_from, counts_of, actors_of}
+use Rattle.actor_machine.specs.Names.{same_actor, named, instances_from, names_from, counts_of, actors_of}
 use Rattle.script_seen.specs.Told.{lost_at}
 use Rattle.script_seen.specs.Turn.{Turn, outcome_of}
 use Rattle.script_seen.specs.Watched.{Notice, TurnEnd, IsEnd, Throw, ends, throws, turns_in}
-use Rattle.script_seen.specs.actor_machine_types.name.ActorName.{ActorName}
-use Rattle.script_seen.specs.actor_machine_types.reply.Lost.{Lost}
-use Rattle.script_seen.specs.actor_machine_types.reply.Report.{Report}
+use Rattle.actor_machine.specs.declared.name.ActorName.{ActorName}
+use Rattle.actor_machine.specs.declared.reply.Lost.{Lost}
+use Rattle.actor_machine.specs.declared.reply.Report.{Report}
 use Rattle.script_seen.specs.declared.turns.Ended.{Ended}
 use Rattle.script_play.specs.Charted.{time_text, row_text, rows_text, came_text, box_text, outs_text, timing_of, is_in, is_sender, gets, get_it, came_from_outside, goes_outside, has_outside, is_drawn, last_clock, end_of, takes_part, are_none, after_heads, drawn_columns, columns_of, chart_of, chart_text, COLUMN, head_of, heads, behind_each, stacked, below_each, note_of, beside, Charts, IsDrawn, TakesPart, HasMore, HasColumns}
 use Rattle.script_play.specs.declared.charts.Chart.{Chart}

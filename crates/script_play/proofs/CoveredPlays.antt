@@ -6,7 +6,7 @@ use Rattle.plain_text.specs.declared.reading.TextRead.{TextRead}
 use Rattle.turn_code.specs.declared.draft.Draft.{Draft}
 use Rattle.script_check.proofs.Long.{all_kept}
 use Rattle.script_check.specs.Checked.{IsSetOf, IsGiven, IsAccepted, PrintsRefusal}
-use Rattle.script_seen.specs.resend_store_types.messages.RoundLimits.{RoundLimits}
+use Rattle.resend_store.specs.declared.messages.RoundLimits.{RoundLimits}
 use Rattle.script_seen.specs.Turn.{Turn}
 use Rattle.script_seen.specs.Watched.{Notice, TurnEnd, Throw as OneThrow, ends, throws}
 use Rattle.script_covered.specs.Texts.{IsCovering, IsLcov}

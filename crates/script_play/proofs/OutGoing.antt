@@ -8,8 +8,8 @@ use Rattle.std.proofs.lemmas.Grind.{flat_map-append}
 use Rattle.su_octets.specs.Printed.{unit_text}
 use Rattle.su_octets.specs.declared.units.Unit as su
 use Rattle.line_streams.specs.declared.seen.Seen.{Seen}
-use Rattle.script_seen.specs.Lines.{line_of}
-use Rattle.script_seen.specs.Term.{Term}
+use Rattle.plain_text.specs.Lines.{line_of}
+use Rattle.link_term.specs.Term.{Term}
 use Rattle.script_seen.specs.TermAnswers.{next_of, behind_next, unit_line, GoOut, nothing, silent, one_goes}
 use Rattle.script_seen.specs.TermRuns.{latest, HasPrinted, HasGivenOut}
 use Rattle.script_play.specs.Captured.{Sends, no_more, silent as none_sent, one_goes as one_sent, IsGone, IsCapturing}

@@ -7,7 +7,7 @@ use Rattle.plain_text.specs.Reading.{LONGEST, Keeps}
 use Rattle.script_lines.specs.Lines.{line_at}
 use Rattle.script_lines.specs.declared.script.ScriptFault.{ScriptFault}
 use Rattle.script_lines.specs.declared.script.ScriptFault.TheVariants.{BadLine, NoMemory}
-use Rattle.script_seen.specs.GroupScripts.{play_script_of, Tells}
+use Rattle.script_links.specs.GroupScripts.{play_script_of, Tells}
 use Rattle.script_play.specs.Played.{IsNoScript, bad_line, PrintsFault}
 use Rattle.plain_laws.proofs.Lists.{take_twice}
 

@@ -3,10 +3,10 @@ use Rattle.std.proofs.Common.{◌≡◌, ◌∙◌, List, length}
 use Rattle.std.proofs.lemmas.List.{length-map}
 use Rattle.turn_code.specs.declared.draft.Draft.{Draft}
 use Rattle.script_links.specs.declared.heads.GroupHead.{GroupHead}
-use Rattle.script_links.specs.resend_store_types.messages.RoundLimits.{RoundLimits}
+use Rattle.resend_store.specs.declared.messages.RoundLimits.{RoundLimits}
 use Rattle.script_seen.specs.New.{new_set}
 use Rattle.script_seen.specs.Reading.{book_of}
-use Rattle.script_seen.specs.Term.{Term}
+use Rattle.link_term.specs.Term.{Term}
 use Rattle.script_seen.specs.GroupRuns.{OWN_POINT, OTHER_POINT, begun as begun_set, AreNew}
 use Rattle.script_seen.specs.TracedGroups.{books_of}
 

@@ -10,7 +10,7 @@ use Rattle.line_streams.specs.declared.seen.Seen.{Seen}
 use Rattle.script_links.specs.GroupCommands.{PlainGroupCommand}
 use Rattle.script_links.specs.GroupCommands as group
 use Rattle.script_links.specs.GroupScripts.{PlainGroupSaid}
-use Rattle.script_seen.specs.Lines.{line_of}
+use Rattle.plain_text.specs.Lines.{line_of}
 use Rattle.script_seen.specs.GroupAnswers.{Playing, Obeys, Outputs}
 use Rattle.script_seen.specs.GroupRuns.{prints, IsGroupRun, HasGivenOut, HasObeyed, was_met, was_done}
 use Rattle.script_play.specs.Captured.{Hears, IsCapturing}

@@ -4,10 +4,10 @@ use Rattle.std.specs.Prelude.{◌⊎◌}
 use Rattle.std.specs.Global.{Vec}
 use Rattle.std.specs.Io.KnownBytes.{Appends}
 use Rattle.turn_code.specs.declared.draft.Draft.{Draft}
-use Rattle.script_seen.specs.resend_store_types.messages.RoundLimits.{RoundLimits}
-use Rattle.script_seen.specs.TermScripts.{PlainAnyScript, book, terminal, asks_told}
-use Rattle.script_seen.specs.GroupScripts.{PlainPlayScript, other, group}
-use Rattle.script_seen.specs.Played.{first_book}
+use Rattle.resend_store.specs.declared.messages.RoundLimits.{RoundLimits}
+use Rattle.script_links.specs.TermScripts.{PlainAnyScript, book, terminal, asks_told}
+use Rattle.script_links.specs.GroupScripts.{PlainPlayScript, other, group}
+use Rattle.script_book.specs.Played.{first_book}
 use Rattle.script_seen.specs.Watched.{Notice}
 use Rattle.script_seen.proofs.WatchedRuns.{book_watched_as, book_part_as, term_watched_as, term_part_as}
 use Rattle.script_play.specs.Seen.{IsOtherTold, IsOtherToldInPart, AreTold, AreToldInPart, IsPlayTold, IsPlayToldInPart, IsToldTo}

@@ -10,8 +10,8 @@ use Rattle.line_streams.specs.declared.seen.Seen.{Seen}
 use Rattle.script_links.specs.TermCommands.{PlainTermCommand, out, expected}
 use Rattle.script_links.specs.TermScripts.{PlainTermSaid, plain_term_said}
 use Rattle.script_links.specs.declared.script.TermSaid.{TermSaid}
-use Rattle.script_seen.specs.Lines.{line_of}
-use Rattle.script_seen.specs.Term.{Term}
+use Rattle.plain_text.specs.Lines.{line_of}
+use Rattle.link_term.specs.Term.{Term}
 use Rattle.script_seen.specs.TermAnswers.{Obeys}
 use Rattle.script_seen.specs.TermRuns.{prints, begins as run_begins_by, IsTermRun, IsTermMissed, IsTermMissedBy, HasPrinted, HasObeyed, was_met, was_done, HasGivenOut}
 use Rattle.script_seen.proofs.Showings.{one_more, parts_at, all_taken}

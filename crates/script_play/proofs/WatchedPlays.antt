@@ -1,10 +1,9 @@
 -- A script that was played with its views.
 use Rattle.std.proofs.Common.{◌≡◌, ℕ, Bool, true, false, List, Option, Some, None, sym, subst}
 use Rattle.turn_code.specs.declared.draft.Draft.{Draft}
-use Rattle.script_seen.specs.resend_store_types.messages.RoundLimits.{RoundLimits}
+use Rattle.resend_store.specs.declared.messages.RoundLimits.{RoundLimits}
 use Rattle.script_play.specs.Played.{IsOnSet, IsPlayed, IsPlayedInPart}
-use Rattle.script_play.specs.Seen.{IsPlaySeen, IsPlaySeenInPart, IsWatched, has_lines, has_neither, has_file}
-use Rattle.script_play.specs.Seen.{IsWatchedInPart, has_lines_in_part, has_neither_in_part, has_file_in_part}
+use Rattle.script_play.specs.Seen.{IsPlaySeen, IsPlaySeenInPart, IsWatched, has_lines, has_neither, has_file, IsWatchedInPart, has_lines_in_part, has_neither_in_part, has_file_in_part}
 use Rattle.script_play.specs.declared.seeing.Wanted.{Wanted}
 use Rattle.script_play.specs.declared.seeing.Wanted.TheVariants.{Trace, Capture, AtEnd, Coverage}
 

@@ -15,7 +15,7 @@ use Rattle.script_links.specs.TermCommands.{PlainTermCommand, order, unit, units
 use Rattle.script_links.specs.TermCommands.{out, ticks, told, accepted, retrieving, measuring}
 use Rattle.script_links.specs.TermCommands.{counting_aborted, resetting, state, shown, expected}
 use Rattle.script_links.specs.TermScripts.{PlainTermSaid}
-use Rattle.script_seen.specs.Term.{Term}
+use Rattle.link_term.specs.Term.{Term}
 use Rattle.script_seen.specs.TermAnswers.{Obeys, next_of, behind_next, error_line}
 use Rattle.script_seen.specs.TermRuns.{latest}
 use Rattle.script_seen.specs.UnitLines.{IsLineOf}

@@ -1,8 +1,7 @@
 -- A chart of turns, in the language of mscgen.
 use Rattle.std.specs.Prelude.{ℕ, ◌+◌, ◌*◌, ◌==◌, nat_le, Bool, true, false, not, ◌&&◌, ◌||◌, List}
-use Rattle.std.specs.Prelude.{[], ◌∷◌}
-use Rattle.std.specs.Prelude.{◌++◌, length, Option, None, Some, is_some, codes, map, filter}
-use Rattle.std.specs.Prelude.{if◌then◌else◌, ◌≡◌}
+use Rattle.std.specs.Prelude.{[], ◌∷◌, ◌++◌, length, Option, None, Some, is_some, codes, map}
+use Rattle.std.specs.Prelude.{filter, if◌then◌else◌, ◌≡◌}
 use Rattle.std.specs.List.{flat_map, list_any}
 use Rattle.std.specs.Fmt.{decimal}
 use Rattle.turn_code.specs.Outcome.{Outcome}
@@ -22,10 +21,10 @@ use Rattle.turn_code.specs.declared.numbers.InstanceNumber.{InstanceNumber}
 use Rattle.turn_code.specs.declared.value.Value.{Value}
 use Rattle.turn_check.specs.Named.{trigger_at}
 use Rattle.script_seen.specs.Turn.{Turn}
-use Rattle.script_seen.specs.Effects.{delay}
-use Rattle.script_seen.specs.Names.{actors_of, same_actor, address_of}
-use Rattle.script_seen.specs.actor_machine_types.name.ActorName.{ActorName}
-use Rattle.script_seen.specs.actor_machine_types.reply.Lost.{Lost}
+use Rattle.actor_machine.specs.Effects.{delay}
+use Rattle.actor_machine.specs.Names.{actors_of, same_actor, address_of}
+use Rattle.actor_machine.specs.declared.name.ActorName.{ActorName}
+use Rattle.actor_machine.specs.declared.reply.Lost.{Lost}
 use Rattle.script_lines.specs.Replies.{sender_text, signal_text, end_text, value_text}
 use Rattle.script_seen.specs.Told.{party_text, timer_text, meant, lost_at, is_dull, stays_in}
 use Rattle.script_seen.specs.Watched.{Notice, TurnEnd, turns_in}

@@ -1,21 +1,20 @@
 -- The meaning of `play`'s status for the script and for the text written.
-use Rattle.std.specs.Prelude.{◌≡◌, ◌++◌, ℕ, Bool, true, false, List, Option, Ok, Err, IsUtf8}
-use Rattle.std.specs.Prelude.{codes}
+use Rattle.std.specs.Prelude.{◌≡◌, ◌++◌, ℕ, Bool, true, false, List, Option, Ok, Err, IsUtf8, codes}
 use Rattle.std.specs.Fmt.{decimal}
 use Rattle.std.specs.Io.KnownBytes.{Appends}
 use Rattle.turn_code.specs.declared.draft.Draft.{Draft}
 use Rattle.script_lines.specs.declared.script.ScriptFault.{ScriptFault}
 use Rattle.script_lines.specs.declared.script.ScriptFault.TheVariants.{BadLine, NoMemory}
-use Rattle.script_seen.specs.Played.{first_book, IsWritten, IsMissed}
-use Rattle.script_seen.specs.resend_store_types.messages.RoundLimits.{RoundLimits}
-use Rattle.script_seen.specs.TermScripts.{PlainAnyScript, book, terminal}
-use Rattle.script_seen.specs.GroupScripts.{PlainPlayScript, other, group, play_script_of}
+use Rattle.script_book.specs.Played.{first_book, IsWritten, IsMissed}
+use Rattle.resend_store.specs.declared.messages.RoundLimits.{RoundLimits}
+use Rattle.script_links.specs.TermScripts.{PlainAnyScript, book, terminal}
+use Rattle.script_links.specs.GroupScripts.{PlainPlayScript, other, group, play_script_of}
 use Rattle.script_check.specs.Checked.{IsGiven, IsSetOf, PrintsRefusal}
-use Rattle.script_seen.specs.Lines.{line_of}
+use Rattle.plain_text.specs.Lines.{line_of}
 use Rattle.script_seen.specs.TermRuns.{IsOfNew, IsTermWritten, IsTermFailed, LacksName}
 use Rattle.script_lines.specs.Lines.{PlainLine, lines_of}
-use Rattle.script_seen.specs.Kinds.{IsBookShown, IsBookShownMissed, IsTermShown}
-use Rattle.script_seen.specs.Kinds.{IsTermShownMissed, IsGroupShown, IsGroupShownMissed}
+use Rattle.script_seen.specs.Kinds.{IsBookShown, IsBookShownMissed, IsTermShown, IsTermShownMissed}
+use Rattle.script_seen.specs.Kinds.{IsGroupShown, IsGroupShownMissed}
 use Rattle.script_seen.specs.GroupRuns.{IsOfNewSet, IsGroupWritten, IsGroupMissed}
 
 -- all commands of a script were obeyed, and their lines written: on a book of the process set, or

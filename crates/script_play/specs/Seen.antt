@@ -1,14 +1,14 @@
 -- The meaning of `play`'s status for the report at the end of a run, and for a capture.
-use Rattle.std.specs.Prelude.{◌≡◌, ℕ, Bool, true, false, List, Option, Some, None, Result, Ok}
-use Rattle.std.specs.Prelude.{Err, IfSome, IsUtf8, map}
+use Rattle.std.specs.Prelude.{◌≡◌, ℕ, Bool, true, false, List, Option, Some, None, Result, Ok, Err}
+use Rattle.std.specs.Prelude.{IfSome, IsUtf8, map}
 use Rattle.std.specs.Global.{Vec}
 use Rattle.std.specs.Io.KnownBytes.{Appends}
 use Rattle.turn_code.specs.declared.draft.Draft.{Draft}
 use Rattle.script_check.specs.Checked.{IsSetOf}
-use Rattle.script_seen.specs.resend_store_types.messages.RoundLimits.{RoundLimits}
-use Rattle.script_seen.specs.TermScripts.{PlainAnyScript, book, terminal, asks_told}
-use Rattle.script_seen.specs.GroupScripts.{PlainPlayScript, other, group, play_script_of}
-use Rattle.script_seen.specs.Played.{first_book}
+use Rattle.resend_store.specs.declared.messages.RoundLimits.{RoundLimits}
+use Rattle.script_links.specs.TermScripts.{PlainAnyScript, book, terminal, asks_told}
+use Rattle.script_links.specs.GroupScripts.{PlainPlayScript, other, group, play_script_of}
+use Rattle.script_book.specs.Played.{first_book}
 use Rattle.script_seen.specs.GroupRuns.{IsOfNewSet}
 use Rattle.script_seen.specs.TermRuns.{IsOfNew}
 use Rattle.script_seen.specs.Turn.{Turn}
@@ -23,10 +23,9 @@ use Rattle.script_play.specs.Charted.{charted_of}
 use Rattle.script_play.specs.Thrown.{thrown_of}
 use Rattle.script_play.specs.Traced.{IsPlayTraced, IsPlayTracedInPart}
 use Rattle.script_play.specs.declared.seeing.Wanted.{Wanted}
-use Rattle.script_play.specs.declared.seeing.Wanted.TheVariants.{Trace, Capture, AtEnd}
-use Rattle.script_play.specs.declared.seeing.Wanted.TheVariants.{Coverage}
-use Rattle.script_play.specs.declared.watching.Told.{Told}
-use Rattle.script_play.specs.declared.watching.Told.TheVariants.{Chart, Thrown}
+use Rattle.script_play.specs.declared.seeing.Wanted.TheVariants.{Trace, Capture, AtEnd, Coverage}
+use Rattle.script_play.specs.declared.watching.RunSummary.{RunSummary}
+use Rattle.script_play.specs.declared.watching.RunSummary.TheVariants.{Chart, Thrown}
 
 -- P holds of the notices of all commands of a script: on a book of the process set, or on a new
 -- terminal that runs it, with the usual limits unless the script sets its own
@@ -179,7 +178,7 @@ pub record IsSomeCoveredInPart (usual : RoundLimits) (old new from to : Option (
 -- ---- the view of a run
 
 -- the report at the end of a run, from all notices
-abbrev pub told_of : Told → Draft → List Notice → List ℕ
+abbrev pub told_of : RunSummary → Draft → List Notice → List ℕ
 told_of (Chart cut) d ns = charted_of cut d ns
 told_of Thrown d ns = thrown_of d ns
 

@@ -6,7 +6,7 @@ use Rattle.std.specs.Fmt.{decimal}
 use Rattle.turn_code.specs.declared.draft.Draft.{Draft}
 use Rattle.turn_check.specs.Answered.{same_trigger}
 use Rattle.script_lines.specs.Replies.{process_text, state_text, trigger_text}
-use Rattle.script_seen.specs.Looking.{trigger_of}
+use Rattle.actor_machine.specs.Looking.{trigger_of}
 use Rattle.script_seen.specs.Watched.{Notice, Throw, throws_in}
 use Rattle.script_play.specs.declared.thrown.Throw.{Throw as Counted}
 use Rattle.script_play.specs.declared.thrown.Thrown.{Thrown}

@@ -1,11 +1,11 @@
 -- The meaning of `play`'s status for a trace.
 use Rattle.std.specs.Prelude.{◌≡◌, ℕ, Bool, List, Option, Ok, IsUtf8}
 use Rattle.turn_code.specs.declared.draft.Draft.{Draft}
-use Rattle.script_seen.specs.resend_store_types.messages.RoundLimits.{RoundLimits}
-use Rattle.script_seen.specs.TermScripts.{PlainAnyScript, book, terminal, asks_told}
-use Rattle.script_seen.specs.GroupScripts.{PlainPlayScript, other, group, play_script_of}
+use Rattle.resend_store.specs.declared.messages.RoundLimits.{RoundLimits}
+use Rattle.script_links.specs.TermScripts.{PlainAnyScript, book, terminal, asks_told}
+use Rattle.script_links.specs.GroupScripts.{PlainPlayScript, other, group, play_script_of}
 use Rattle.script_lines.specs.Lines.{PlainLine, lines_of}
-use Rattle.script_seen.specs.Played.{first_book}
+use Rattle.script_book.specs.Played.{first_book}
 use Rattle.script_seen.specs.TermRuns.{IsOfNew}
 use Rattle.script_seen.specs.GroupRuns.{IsOfNewSet}
 use Rattle.script_seen.specs.TracedGroups.{IsGroupTraced, IsGroupTracedInPart}

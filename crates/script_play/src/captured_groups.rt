@@ -18,12 +18,14 @@ ghost use Rattle.script_play.specs.CapturedSets.{IsComing, is_noted, SendsOn, Go
 
 use crate::captured_terminals::{Coming, line_of};
 use crate::capturing::{LinkSeen, begin, lost, time_of};
-use script_seen::{
-    FAILED, GroupCommand, GroupPlayer, GroupSaid, GroupScript, HELD, MISSED, RoundLimits, Unit,
-    clock_of, line_of_unit, open_group, refuse_set,
-};
+use plain_text::{DONE, FAILED};
+use resend_store::RoundLimits;
+use script_book::MISSED;
+use script_links::{GroupCommand, GroupSaid, GroupScript};
+use script_seen::{GroupPlayer, clock_of, line_of_unit, open_group, refuse_set};
 use std::alloc::{AllocError, Global};
 use std::io::{self, Write};
+use su_octets::Unit;
 use turn_check::Verified;
 
 /// Returns this many links of which no signal unit was seen. `every`: whether every unit is recorded.
@@ -230,7 +232,7 @@ fn capture_each<T: Write, W: Write>(
             return Ok(MISSED);
         }
     }
-    Ok(HELD)
+    Ok(DONE)
 }
 
 /// Obeys and captures a script on a new link set. Returns the exit status: 0, or 1 if an expectation failed.

@@ -3,18 +3,21 @@ ghost use Rattle.std.specs.Prelude.{◌≡◌, ◌⊎◌, ◌++◌, ◌∷◌, [
 ghost use Rattle.line_streams.specs.declared.seen.Seen.{Seen as OneSeen};
 ghost use Rattle.script_links.specs.TermCommands.{plain_term_command};
 ghost use Rattle.script_links.specs.TermScripts.{PlainTermSaid, plain_term_said, asks_told};
-ghost use Rattle.script_seen.specs.Term.{Term};
+ghost use Rattle.link_term.specs.Term.{Term};
 ghost use Rattle.script_seen.specs.TermAnswers.{next_of, behind_next, unit_line};
 ghost use Rattle.script_seen.specs.TermRuns.{last_of, HasPrinted, HasGivenOut, IsTermRun, IsTermWritten, IsTermMissed, IsTermFailed, IsTermMissedBy, IsOfNew, LacksName};
 ghost use Rattle.script_play.specs.Captured.{time_of, repeated, IsComing, is_noted, Hears, Sends, IsCapturing, IsTermCapturing, IsCaptured, IsCapturedInPart};
 
 use crate::capturing::{LinkSeen, begin, lost, time_of};
-use script_seen::{
-    FAILED, HELD, MISSED, RoundLimits, TermCommand, TermPlayer, TermSaid, TermScript, Terminal,
-    Unit, asks_told, line_of_unit, new_player, refuse_set, text_line,
-};
+use link_term::Terminal;
+use plain_text::{DONE, FAILED};
+use resend_store::RoundLimits;
+use script_book::{MISSED, text_line};
+use script_links::{TermCommand, TermSaid, TermScript};
+use script_seen::{TermPlayer, asks_told, line_of_unit, new_player, refuse_set};
 use std::alloc::{AllocError, Global};
 use std::io::{self, Write};
+use su_octets::Unit;
 use turn_check::Verified;
 
 /// The octets received for a signal unit in error: two flags with an octet of 0s between them.
@@ -207,7 +210,7 @@ fn capture_each<T: Write, W: Write>(
             return Ok(MISSED);
         }
     }
-    Ok(HELD)
+    Ok(DONE)
 }
 
 /// Obeys and captures a script on a new terminal. Returns the exit status: 0, or 1 if an expectation failed.

@@ -8,10 +8,11 @@ ghost use Rattle.line_streams.specs.declared.seen.Seen.{Seen as OneSeen};
 ghost use Rattle.script_play.specs.Captured.{TICK, repeated, Hears, IsGone, IsHeard, IsCapturing};
 
 use arrayvec::ArrayVec;
-use line_streams::{Deframer, Repeats, Seen, ended, header, record};
-use script_seen::{Unit, encode};
+use bit_line::Deframer;
+use line_streams::{Repeats, Seen, ended, header, record};
 use std::alloc::AllocError;
 use std::io::{self, ErrorKind, Write};
+use su_octets::{Unit, encode};
 
 /// The number of microseconds in a tick.
 const TICK: u64 = 1_000;

@@ -3,9 +3,10 @@ ghost use Rattle.std.specs.Prelude.{◌≡◌, ◌++◌, ℕ, List, drop, OnOk, 
 ghost use Rattle.std.specs.List.{flat_map};
 ghost use Rattle.script_play.specs.Charted.{labelled, actor_quoted, party_quoted, commaed, more_values, called_text, clock_text, time_text, beside, taken_text, run_out_text, came_text, box_text, receiver_of, sent_text, is_arc, arrow_of, out_text, outs_text, timing_of, below_each, note_of};
 
+use actor_machine::{ActorName, Lost};
 use script_seen::{
-    ActorName, Job, Lost, delay_of, loss_at, meant, push_actor, push_end, push_number, push_party,
-    push_signal, push_timer, shown, stays_in,
+    Job, delay_of, loss_at, meant, push_actor, push_end, push_number, push_party, push_signal,
+    push_timer, shown, stays_in,
 };
 use std::alloc::{AllocError, Global};
 use turn_check::Verified;

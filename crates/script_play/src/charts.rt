@@ -3,7 +3,7 @@ ghost use Rattle.std.specs.Prelude.{◌≡◌, ◌==◌, ◌&&◌, ◌++◌, ◌
 ghost use Rattle.std.specs.List.{list_any};
 ghost use Rattle.turn_code.specs.Outcome.{Outcome};
 ghost use Rattle.turn_code.specs.declared.draft.Draft.{Draft};
-ghost use Rattle.script_seen.specs.Names.{same_actor};
+ghost use Rattle.actor_machine.specs.Names.{same_actor};
 ghost use Rattle.script_seen.specs.Turn.{outcome_of};
 ghost use Rattle.script_seen.specs.Watched.{TurnEnd, IsEnd};
 ghost use Rattle.script_play.specs.Charted.{time_text, row_text, is_in, has_outside, is_outside, is_address, is_sender, came_from_outside, goes_outside, gets, get_it, is_drawn, end_of, after_heads, columns_of, chart_text, COLUMN, HasColumns, Charts, TakesPart};
@@ -12,7 +12,8 @@ use crate::chart_rows::{
     behind_two, is_arc, push_box, push_came, push_outputs, push_time, push_timers, receiver_of,
 };
 use crate::columns::{Columns, has, push_columns};
-use script_seen::{ActorName, Ended, Item, Lost, Watcher, is_dull, loss_at, push_number};
+use actor_machine::{ActorName, Lost};
+use script_seen::{Ended, Item, Watcher, is_dull, loss_at, push_number};
 use std::alloc::{AllocError, Global};
 use std::io;
 use turn_check::Verified;

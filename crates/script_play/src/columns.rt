@@ -3,11 +3,11 @@ ghost use Rattle.std.specs.Prelude.{◌≡◌, ◌+◌, ◌++◌, ◌∷◌, [],
 ghost use Rattle.std.specs.List.{list_any};
 ghost use Rattle.turn_check.specs.Named.{instances_at};
 ghost use Rattle.script_lines.specs.Replies.{sender_text};
-ghost use Rattle.script_seen.specs.Names.{same_actor, named, instances_from, actors_of};
+ghost use Rattle.actor_machine.specs.Names.{same_actor, named, instances_from, actors_of};
 ghost use Rattle.script_play.specs.Charted.{head_of, takes_part, HasMore, HasColumns};
 
 use crate::chart_rows::push_actor_quoted;
-use script_seen::ActorName;
+use actor_machine::ActorName;
 use std::alloc::{AllocError, Global};
 use turn_check::Verified;
 use turn_code::{InstanceNumber, ProcessNumber};

@@ -8,10 +8,12 @@ ghost use Rattle.script_play.specs.Played.{IsNotRun, IsOnSet, IsRefused};
 ghost use Rattle.script_play.specs.Seen.{IsPlayTold, IsPlayToldInPart, IsCoveredBy, IsTextCovered, IsTextCoveredInPart};
 
 use crate::watching::{tell, watch_text};
-use plain_text::{TextRead, read_text};
+use actor_machine::ActorName;
+use plain_text::{FAILED, TextRead, read_text, write_line};
+use resend_store::RoundLimits;
 use script_check::{SetWord, find_set, refuse_set};
 use script_covered::{BlockTable, TextCoverage, parse, tokens};
-use script_seen::{ActorName, Ended, FAILED, Item, RoundLimits, Watcher, write_line};
+use script_seen::{Ended, Item, Watcher};
 use std::alloc::Global;
 use std::io::{self, Read, Write};
 use std::str;

@@ -20,4 +20,4 @@ pub use playing::play;
 pub use script_lines::words_in;
 pub use script_seen::{Tracer, front_of, open_tracer};
 pub use seeing::{Wanted, play_seen};
-pub use watching::Told;
+pub use watching::RunSummary;

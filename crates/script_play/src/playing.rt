@@ -2,18 +2,18 @@
 ghost use Rattle.std.specs.Prelude.{◌≡◌, ◌⊎◌, List, ℕ, IfSome};
 ghost use Rattle.plain_text.specs.Reading.{Keeps};
 ghost use Rattle.script_check.specs.Checked.{given, IsAccepted};
-ghost use Rattle.script_seen.specs.TermScripts.{plain_any_script, IsInRange};
-ghost use Rattle.script_seen.specs.GroupScripts.{plain_play_script, IsFit};
+ghost use Rattle.script_links.specs.TermScripts.{plain_any_script, IsInRange};
+ghost use Rattle.script_links.specs.GroupScripts.{plain_play_script, IsFit};
 ghost use Rattle.script_lines.specs.Lines.{lines_of};
 ghost use Rattle.script_play.specs.Played.{IsOtherShown, IsOtherShownMissed, AreShown, AreShownMissed, IsObeyedAs, IsMissedAs, IsOtherObeyed, IsObeyed, IsPlayed, IsOtherMissed, IsMissedIn, IsPlayedInPart, HasNoOther, HasNoTerminal, IsNotRun, PrintsFault, IsOnSet, IsRefused};
 
-use plain_text::{MOST_BYTES, TextRead, line_at_limit, read_text};
+use plain_text::{FAILED, MOST_BYTES, TextRead, line_at_limit, read_text, refuse, write_line};
+use resend_store::RoundLimits;
+use script_book::play_book;
 use script_check::{SetWord, find_set, refuse_set};
 use script_lines::ScriptFault;
-use script_seen::{
-    AnyScript, FAILED, PlayScript, RoundLimits, play_book, play_fault, play_group, play_script_in,
-    play_terminal, refuse, show_book, show_group, show_terminal, write_line,
-};
+use script_links::{AnyScript, PlayScript, play_fault, play_script_in};
+use script_seen::{play_group, play_terminal, show_book, show_group, show_terminal};
 use std::alloc::Global;
 use std::io::{Read, Write};
 use std::str;

@@ -8,9 +8,9 @@ ghost use Rattle.script_play.specs.declared.seeing.Wanted.TheVariants.{Coverage 
 use crate::captured_plays::play_captured;
 use crate::covering::play_covered;
 use crate::tracing::play_traced;
-use crate::watching::{Told, play_told};
+use crate::watching::{RunSummary, play_told};
+use resend_store::RoundLimits;
 use script_check::SetWord;
-use script_seen::RoundLimits;
 use std::alloc::Global;
 use std::io::{Read, Write};
 
@@ -22,7 +22,7 @@ pub enum Wanted {
     /// A capture of the signal units sent and received; `true`: of every unit.
     Capture(bool),
     /// A report at the end.
-    AtEnd(Told),
+    AtEnd(RunSummary),
     /// The coverage of the set's text, in the format of lcov.
     Coverage,
 }

@@ -5,9 +5,10 @@ ghost use Rattle.script_seen.specs.Watched.{Throw as OneThrow};
 ghost use Rattle.script_play.specs.declared.thrown.Throw.{Throw as Counted};
 ghost use Rattle.script_play.specs.Thrown.{same_throw, throw_line, thrown_text, counted_throw, once, CountsThrown};
 
+use actor_machine::ActorName;
 use script_seen::{
-    ActorName, Ended, Item, Watcher, push_number, push_process, push_state, push_trigger,
-    same_trigger, trigger_of,
+    Ended, Item, Watcher, push_number, push_process, push_state, push_trigger, same_trigger,
+    trigger_of,
 };
 use std::alloc::{AllocError, Global};
 use std::io;

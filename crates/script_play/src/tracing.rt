@@ -2,20 +2,19 @@
 ghost use Rattle.std.specs.Prelude.{◌≡◌, ◌⊎◌, List, ℕ, IfSome};
 ghost use Rattle.plain_text.specs.Reading.{Keeps};
 ghost use Rattle.script_check.specs.Checked.{given, IsAccepted};
-ghost use Rattle.script_seen.specs.TermScripts.{plain_any_script, IsInRange};
-ghost use Rattle.script_seen.specs.GroupScripts.{plain_play_script, IsFit};
+ghost use Rattle.script_links.specs.TermScripts.{plain_any_script, IsInRange};
+ghost use Rattle.script_links.specs.GroupScripts.{plain_play_script, IsFit};
 ghost use Rattle.script_lines.specs.Lines.{lines_of};
 ghost use Rattle.script_play.specs.Played.{IsOtherObeyed, IsObeyed, IsOtherMissed, IsMissedIn, HasNoOther, HasNoTerminal, IsNotRun, IsOnSet, IsRefused};
 ghost use Rattle.script_play.specs.Traced.{IsOtherTraced, AreTraced, IsPlayTraced, IsOtherTracedInPart, AreTracedInPart, IsPlayTracedInPart};
 
 use crate::playing::{explain, explain_length, refuse_script};
-use plain_text::{TextRead, line_at_limit, read_text};
+use plain_text::{FAILED, TextRead, line_at_limit, read_text, refuse};
+use resend_store::RoundLimits;
 use script_check::{SetWord, find_set, refuse_set};
 use script_lines::ScriptFault;
-use script_seen::{
-    AnyScript, FAILED, PlayScript, RoundLimits, play_script_in, refuse, trace_book, trace_group,
-    trace_terminal,
-};
+use script_links::{AnyScript, PlayScript, play_script_in};
+use script_seen::{trace_book, trace_group, trace_terminal};
 use std::alloc::Global;
 use std::io::{Read, Write};
 use std::str;

@@ -2,8 +2,8 @@
 ghost use Rattle.std.specs.Prelude.{◌≡◌, ◌⊎◌, ℕ, [], List, IfSome};
 ghost use Rattle.plain_text.specs.Reading.{Keeps};
 ghost use Rattle.script_check.specs.Checked.{given, IsAccepted};
-ghost use Rattle.script_seen.specs.TermScripts.{plain_any_script, IsInRange};
-ghost use Rattle.script_seen.specs.GroupScripts.{plain_play_script, IsFit};
+ghost use Rattle.script_links.specs.TermScripts.{plain_any_script, IsInRange};
+ghost use Rattle.script_links.specs.GroupScripts.{plain_play_script, IsFit};
 ghost use Rattle.script_play.specs.Played.{IsOtherObeyed, IsObeyed, IsOtherMissed, IsMissedIn, HasNoOther, HasNoTerminal, IsNotRun, IsOnSet, IsRefused};
 ghost use Rattle.script_play.specs.Seen.{IsOtherTold, AreTold, IsOtherToldInPart, AreToldInPart, IsPlayTold, IsPlayToldInPart, IsToldTo, Grew, told_of};
 ghost use Rattle.script_play.specs.Charted.{charted_of};
@@ -12,13 +12,13 @@ ghost use Rattle.script_play.specs.Thrown.{thrown_of};
 use crate::charts::{Chart, Cut};
 use crate::playing::{explain, explain_length, refuse_script};
 use crate::thrown::Thrown;
-use plain_text::{TextRead, line_at_limit, read_text};
+use plain_text::{DONE, FAILED, TextRead, line_at_limit, read_text, refuse, write_line};
+use resend_store::RoundLimits;
+use script_book::MISSED;
 use script_check::{SetWord, find_set, refuse_set};
 use script_lines::ScriptFault;
-use script_seen::{
-    AnyScript, FAILED, HELD, MISSED, PlayScript, RoundLimits, Watcher, play_script_in, refuse,
-    watch_book, watch_terminal, write_line,
-};
+use script_links::{AnyScript, PlayScript, play_script_in};
+use script_seen::{Watcher, watch_book, watch_terminal};
 use std::alloc::{AllocError, Global};
 use std::io::{Read, Write};
 use std::str;
@@ -128,7 +128,7 @@ pub(crate) fn tell<T: Write>(status: u8, told: Result<Vec<u8>, AllocError>, out:
     ensures status { (result ≡ status) ⊎ (result ≡ 4) }
     ensures told { (result ≡ 0) ⊎ (result ≡ 1) → IsToldTo told (T.contents out.old) (T.contents out.new) }
 {
-    if status != HELD && status != MISSED {
+    if status != DONE && status != MISSED {
         return status;
     }
     match told {
@@ -187,7 +187,7 @@ fn tell_chart<T: Write, W: Write, E: Write>(
 
 /// The report at the end of a run.
 #[derive(Clone, Copy, PartialEq, Eq, Debug)]
-pub enum Told {
+pub enum RunSummary {
     /// A chart of these turns.
     Chart(Cut),
     /// The signals and timers discarded, by state, and how often.
@@ -200,7 +200,7 @@ fn tell_run<T: Write, W: Write, E: Write>(
     set: &Verified,
     usual: RoundLimits,
     read: &TextRead,
-    told: Told,
+    told: RunSummary,
     out: &mut T,
     writer: &mut W,
     errors: &mut E,
@@ -213,8 +213,8 @@ fn tell_run<T: Write, W: Write, E: Write>(
     ensures status { (result ≡ 0) ⊎ (result ≡ 1) ⊎ (result ≡ 2) ⊎ (result ≡ 4) }
 {
     match told {
-        Told::Chart(cut) => tell_chart(alloc, set, usual, read, cut, out, writer, errors),
-        Told::Thrown => tell_thrown(alloc, set, usual, read, out, writer, errors),
+        RunSummary::Chart(cut) => tell_chart(alloc, set, usual, read, cut, out, writer, errors),
+        RunSummary::Thrown => tell_thrown(alloc, set, usual, read, out, writer, errors),
     }
 }
 
@@ -230,7 +230,7 @@ pub(crate) fn play_told<S: Read + Drop, R: Read + Drop, T: Write, W: Write, E: W
     usual: RoundLimits,
     name: &str,
     mut script: R,
-    told: Told,
+    told: RunSummary,
     out: &mut T,
     writer: &mut W,
     errors: &mut E,

@@ -1,8 +1,5 @@
 pub mod Fronts
 pub mod Pointed
 pub mod Pointing
-pub use Rattle.mtp2_text.specs.Loaded
 pub use Rattle.mtp2_text.specs.Own
-pub use Rattle.mtp2_text.specs.Printed
 pub use Rattle.mtp2_text.specs.declared as mtp2_text_types
-pub use Rattle.mtp2_text.specs.turn_verify_types

@@ -1,7 +1,7 @@
 -- The word at which a refusal points.
 use Rattle.std.specs.Prelude.{◌≡◌, ℕ, ◌+◌, ◌==◌, Bool, true, false, ◌&&◌, if◌then◌else◌, List, []}
-use Rattle.std.specs.Prelude.{◌∷◌, Option, Some, None, is_some}
-use Rattle.std.specs.Prelude.{option_map, MatchOption, Ok, codes, string_bytes}
+use Rattle.std.specs.Prelude.{◌∷◌, Option, Some, None, is_some, option_map, MatchOption, Ok, codes}
+use Rattle.std.specs.Prelude.{string_bytes}
 use Rattle.std.specs.Option.{option_map_or}
 use Rattle.sdl_lex.specs.Lexed.{Answers}
 use Rattle.sdl_lex.specs.Printed as lexis
@@ -16,7 +16,7 @@ use Rattle.sdl_lex.specs.declared.lexemes.LexFault.{LexFault}
 use Rattle.sdl_lex.specs.declared.lexemes.LexFault.TheVariants.{BadCharacter, OpenComment, TooLong}
 use Rattle.sdl_lex.specs.declared.lexemes.LexFault.TheVariants.{NoMemory as no_tokens}
 use Rattle.script_point.specs.Pointed.{bare_text, IsPointed}
-use Rattle.script_point.specs.declared.notes.Told.{Told}
+use Rattle.script_point.specs.declared.notes.Explained.{Explained}
 use Rattle.script_point.specs.declared.shown.Word.{Word}
 use Rattle.mtp2_text.specs.Loaded.{token_place, rule_place}
 use Rattle.mtp2_text.specs.turn_verify_types.loading.LoadFault.{LoadFault}
@@ -93,14 +93,14 @@ word_in tokens fault found =
     (option_map (token_word tokens) found)
 
 -- The lines point at a refusal of a text with these tokens; without a place there is one line.
-abbrev pub IsShown : List ℕ → List Token → LoadFault → Told → List ℕ → Type 0
+abbrev pub IsShown : List ℕ → List Token → LoadFault → Explained → List ℕ → Type 0
 IsShown text tokens fault told lines =
     MatchOption (word_in tokens fault told.found)
     (lines ≡ bare_text (name_text fault) (string_bytes told.notes.said))
     (λ word. IsPointed text word (name_text fault) told.notes lines)
 
 -- The lines point at the word that the refusal names, or at the place found, and contain the notes.
-pub record IsPointedOut (text : List ℕ) (fault : LoadFault) (told : Told) (lines : List ℕ) :
+pub record IsPointedOut (text : List ℕ) (fault : LoadFault) (told : Explained) (lines : List ℕ) :
     Type 0 where
   pub tokens : List Token
   pub are_all : (ts : List Token) → Answers text (Ok ts) → ts ≡ tokens

@@ -1,7 +1,7 @@
 //! The tokens with which the text could go on at a syntax fault (P1).
 use crate::notes::Notes;
 use crate::reading::{Reading, text_of};
-use crate::saying::{Item, push_all, push_items};
+use crate::saying::{ListedWord, push_all, push_items};
 use sdl_lex::{LexFault, Lexeme, Symbol, Token, Word, tokens};
 use sdl_tree::{ParseFault, parse};
 use std::alloc::{AllocError, Global};
@@ -196,7 +196,7 @@ fn repeated_text<'a>(
 }
 
 /// An accepted token as the note names it.
-fn item_of<'a>(one: &'a str, is_number: bool) -> Item<'a> {
+fn item_of<'a>(one: &'a str, is_number: bool) -> ListedWord<'a> {
     let text = if one == NAME {
         "a name"
     } else if one == NUMBER && is_number {
@@ -206,12 +206,12 @@ fn item_of<'a>(one: &'a str, is_number: bool) -> Item<'a> {
     } else if one == "''" {
         "a quoted text"
     } else {
-        return Item {
+        return ListedWord {
             text: one,
             is_sign: true,
         };
     };
-    Item {
+    ListedWord {
         text,
         is_sign: false,
     }
@@ -219,12 +219,12 @@ fn item_of<'a>(one: &'a str, is_number: bool) -> Item<'a> {
 
 /// Adds a word to the items if it is wanted.
 fn push_group(
-    items: &mut Vec<Item<'_>>,
+    items: &mut Vec<ListedWord<'_>>,
     is_wanted: bool,
     text: &'static str,
 ) -> Result<(), AllocError> {
     if is_wanted {
-        items.push(Item {
+        items.push(ListedWord {
             text,
             is_sign: false,
         })?;
@@ -234,7 +234,7 @@ fn push_group(
 
 /// Adds the accepted tokens to the items: a whole group by one name, other tokens singly.
 fn push_wanted(
-    items: &mut Vec<Item<'_>>,
+    items: &mut Vec<ListedWord<'_>>,
     wanted: &[&'static str],
     is_number: bool,
 ) -> Result<(), AllocError> {
@@ -266,14 +266,14 @@ fn push_called(text: &mut String, read: &Reading<'_>, index: usize) -> Result<()
 /// Adds the token of the text itself that may stand there; the end of the text if there is no other item.
 fn push_repeated<'a>(
     alloc: Global,
-    items: &mut Vec<Item<'a>>,
+    items: &mut Vec<ListedWord<'a>>,
     read: &Reading<'a>,
     row: &mut Vec<Token>,
     index: usize,
 ) -> Result<(), AllocError> {
     match repeated_text(alloc, read, row, index)? {
         Some(text) => {
-            items.push(Item {
+            items.push(ListedWord {
                 text,
                 is_sign: true,
             })?;
@@ -292,7 +292,7 @@ fn items_behind<'a>(
     read: &Reading<'a>,
     row: &mut Vec<Token>,
     index: usize,
-) -> Result<Vec<Item<'a>>, AllocError> {
+) -> Result<Vec<ListedWord<'a>>, AllocError> {
     let wanted = accepted(alloc, row)?;
     let is_number = matches!(read.lexeme(index), Some(Lexeme::Number(_)));
     let mut items = Vec::new(alloc);

@@ -20,13 +20,11 @@ mod words;
 
 pub use causes::add_notes;
 pub use fronts::in_front;
-pub use mtp2_text::{
-    LexFault, LoadFault, MONITORS, OwnSet, Q703, STANDARD, Verified, load, standard,
-};
-pub use notes::{Notes, Told};
+pub use mtp2_text::OwnSet;
+pub use notes::{Explained, Notes};
 pub use pointing::{point_out, tokens_of};
 pub use reading::Reading;
-pub use saying::{Item, push_all, push_items, push_number};
+pub use saying::{ListedWord, push_all, push_items, push_number};
 pub use shown::{Word, point, point_head, point_nowhere};
-pub use statements::{Found, Standing, process_at, standing_at};
+pub use statements::{Found, PlacedPart, process_at, standing_at};
 pub use unset::unset_read;

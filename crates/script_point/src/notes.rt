@@ -26,7 +26,7 @@ impl Notes {
 
 /// The notes of a refusal, and the place where it was found if it names none.
 #[derive(Debug, Drop)]
-pub struct Told {
+pub struct Explained {
     /// The notes.
     pub notes: Notes,
     /// The place of the token that exceeds a limit (S10), reads a variable unset (S11) or runs off (S4).

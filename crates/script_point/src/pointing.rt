@@ -4,7 +4,7 @@ ghost use Rattle.sdl_lex.specs.Lexed.{Answers};
 ghost use Rattle.sdl_lex.specs.declared.lexemes.Token as lexeme;
 ghost use Rattle.script_point.specs.Pointing.{IsPointedOut, IsShown};
 
-use crate::notes::Told;
+use crate::notes::Explained;
 use crate::shown::{point, point_nowhere};
 use crate::words::{Bare, word_in};
 use mtp2_text::LoadFault;
@@ -32,7 +32,7 @@ fn show(
     text: &str,
     tokens: &[Token],
     fault: &LoadFault,
-    told: &Told,
+    told: &Explained,
 ) -> Result<Vec<u8>, AllocError>
     ensures { IfOk result (λ v. IsShown text.now tokens.now fault.now told.now v.items) }
 {
@@ -50,7 +50,7 @@ pub fn point_out(
     alloc: Global,
     text: &str,
     fault: &LoadFault,
-    told: &Told,
+    told: &Explained,
 ) -> Result<Vec<u8>, AllocError>
     ensures { IfOk result (λ v. IsPointedOut text.now fault.now told.now v.items) }
 {

@@ -3,7 +3,7 @@ use std::alloc::{AllocError, Global};
 
 /// An item of an enumeration: a word or a sign.
 #[derive(Clone, Copy)]
-pub struct Item<'a> {
+pub struct ListedWord<'a> {
     pub text: &'a str,
     /// Whether it is written between backquotes.
     pub is_sign: bool,
@@ -24,7 +24,7 @@ pub fn push_number(alloc: Global, text: &mut String, number: usize) -> Result<()
 }
 
 /// Appends an item to a text.
-fn push_item(text: &mut String, item: Item<'_>) -> Result<(), AllocError> {
+fn push_item(text: &mut String, item: ListedWord<'_>) -> Result<(), AllocError> {
     if item.is_sign {
         push_all(text, &["`", item.text, "`"])
     } else {
@@ -47,7 +47,7 @@ fn between<'a>(index: usize, count: usize, word: &'a str) -> &'a str {
 /// Appends the items, each with `before` in front, separated by commas and by a word before the last: `A, B or C`.
 pub fn push_items(
     text: &mut String,
-    items: &[Item<'_>],
+    items: &[ListedWord<'_>],
     before: &str,
     word: &str,
 ) -> Result<(), AllocError> {

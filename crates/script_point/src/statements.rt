@@ -4,7 +4,7 @@ use sdl_tree::{Action, Answer, Decision, Process, StateClause, Statement, Transi
 
 /// What contains a place: an action, a question, or an answer of a DECISION.
 #[derive(Clone, Copy)]
-pub enum Standing<'a> {
+pub enum PlacedPart<'a> {
     Action(&'a Action),
     Question(&'a Decision),
     Answer(&'a Decision, &'a Answer),
@@ -14,7 +14,7 @@ pub enum Standing<'a> {
 #[derive(Clone, Copy)]
 pub struct Found<'a> {
     pub at: u32,
-    pub standing: Standing<'a>,
+    pub standing: PlacedPart<'a>,
 }
 
 /// The later of two parts, if the second begins no later than the place; else the first.
@@ -47,7 +47,7 @@ fn in_statement<'a>(statement: &'a Statement, place: u32) -> Option<Found<'a>> {
     match statement {
         Statement::Act(action) => Some(Found {
             at: action_at(action),
-            standing: Standing::Action(action),
+            standing: PlacedPart::Action(action),
         }),
         Statement::Decide(decision) => in_decision(decision, place),
     }
@@ -58,12 +58,12 @@ fn in_statement<'a>(statement: &'a Statement, place: u32) -> Option<Found<'a>> {
 fn in_decision<'a>(decision: &'a Decision, place: u32) -> Option<Found<'a>> {
     let mut found = Some(Found {
         at: decision.at,
-        standing: Standing::Question(decision),
+        standing: PlacedPart::Question(decision),
     });
     for answer in &decision.answers {
         let here = Some(Found {
             at: answer.at,
-            standing: Standing::Answer(decision, answer),
+            standing: PlacedPart::Answer(decision, answer),
         });
         found = later(found, here, place);
         found = later(found, in_transition(&answer.body, place), place);

@@ -14,9 +14,9 @@ use Rattle.script_links.specs.declared.words.GroupWord.TheVariants as words
 use Rattle.su_octets.specs.Bits.{AreOctets}
 use Rattle.group_changeover.specs.Changeovers.{behind_label, IsKind, without_spare, Reads, Says}
 use Rattle.link_group.specs.Changing.{IsRead, reply_to, fail_fault, order_at}
-use Rattle.script_group.specs.Set.{LinkSet}
-use Rattle.script_group.specs.TermRuns.{latest}
-use Rattle.script_group.specs.GroupAnswers.{Playing, octets_line, Fails, fails_refused, fails_begins, IsReplied, IsHeard, Obeys}
+use Rattle.link_group.specs.Set.{LinkSet}
+use Rattle.script_ends.specs.TermRuns.{latest}
+use Rattle.script_ends.specs.GroupAnswers.{Playing, octets_line, Fails, fails_refused, fails_begins, IsReplied, IsHeard, Obeys}
 use Rattle.group_changeover.specs.declared.changeover.Changeover.{Changeover}
 use Rattle.group_changeover.specs.declared.changeover.Kind.{Kind}
 use Rattle.group_changeover.specs.declared.changeover.Kind.TheVariants as kind

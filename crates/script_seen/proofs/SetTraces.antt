@@ -19,20 +19,19 @@ use Rattle.script_links.specs.declared.group_script.GroupSaid.{GroupSaid}
 use Rattle.script_links.specs.declared.heads.GroupHead.{GroupHead}
 use Rattle.script_links.specs.resend_store_types.messages.Mode.{Mode}
 use Rattle.script_links.specs.resend_store_types.messages.RoundLimits.{RoundLimits}
-use Rattle.script_group.specs.Links.{read_at}
-use Rattle.script_group.specs.New.{new_set}
-use Rattle.script_group.specs.Reading.{book_of}
-use Rattle.script_group.specs.Term.{Term}
-use Rattle.script_group.specs.link_group_types.link.Link.{Link}
-use Rattle.script_group.specs.TermRuns.{latest, IsNewWithin}
-use Rattle.script_group.specs.GroupAnswers.{Playing, Obeys}
-use Rattle.script_group.specs.GroupRuns.{OWN_POINT, OTHER_POINT, begun as begun_set, AreNew, begins as group_begins, IsGroupRun, IsGroupWritten, IsGroupMissed, IsGroupMissedBy, HasObeyed, was_met, was_done}
-use Rattle.script_group.specs.Lines.{line_of}
+use Rattle.link_group.specs.Links.{read_at}
+use Rattle.link_group.specs.New.{new_set}
+use Rattle.link_group.specs.Reading.{book_of}
+use Rattle.script_ends.specs.Term.{Term}
+use Rattle.link_group.specs.declared.link.Link.{Link}
+use Rattle.script_ends.specs.TermRuns.{latest, IsNewWithin}
+use Rattle.script_ends.specs.GroupAnswers.{Playing, Obeys}
+use Rattle.script_ends.specs.GroupRuns.{OWN_POINT, OTHER_POINT, begun as begun_set, AreNew, begins as group_begins, IsGroupRun, IsGroupWritten, IsGroupMissed, IsGroupMissedBy, HasObeyed, was_met, was_done}
+use Rattle.plain_text.specs.Lines.{line_of}
 use Rattle.script_seen.specs.Kinds.{group_line}
 use Rattle.script_seen.specs.Traced.{since, told_text, are_in_step, IsFront}
 use Rattle.script_seen.specs.Following.{Agree, IsFollowed}
-use Rattle.script_seen.specs.TracedGroups.{group_only_asks, Reached, reach, under_name, links_text, all_reach, AreReached, reached_at, books_of, clock_in, IsNewBook, AreNewLinks}
-use Rattle.script_seen.specs.TracedGroups.{Traces, begins, more, holds, IsGroupTraced, IsGroupTracedInPart}
+use Rattle.script_seen.specs.TracedGroups.{group_only_asks, Reached, reach, under_name, links_text, all_reach, AreReached, reached_at, books_of, clock_in, IsNewBook, AreNewLinks, Traces, begins, more, holds, IsGroupTraced, IsGroupTracedInPart}
 use Rattle.script_seen.specs.TracingGroups.{is_expectation, IsToldBy, IsAtLink, AreAtLinks, IsToldBehind, IsGroupTracing}
 use Rattle.script_seen.specs.declared.tracing.Tracer.{Tracer}
 use Rattle.script_seen.proofs.Showings.{one_more, parts_at, all_taken}

@@ -5,8 +5,8 @@ use Rattle.std.proofs.KnownBytes.{Appends-nil, Appends-trans}
 use Rattle.std.proofs.lemmas.Option.{slice_get-map}
 use Rattle.std.proofs.lemmas.List.{take_all, take_more, map-append, take-append-drop, drop_more}
 use Rattle.script_lines.specs.Lines.{PlainLine}
-use Rattle.script_group.specs.Lines.{line_of}
-use Rattle.script_group.specs.Played.{missed_text}
+use Rattle.plain_text.specs.Lines.{line_of}
+use Rattle.script_ends.specs.Played.{missed_text}
 use Rattle.script_seen.specs.Shown.{IsLine, Shows, begins, more, IsShowing, IsMissing}
 
 -- the line of a command is written first

@@ -10,14 +10,12 @@ use Rattle.script_links.specs.TermScripts.{PlainTermSaid, plain_term_said}
 use Rattle.script_links.specs.declared.script.TermSaid.{TermSaid}
 use Rattle.script_links.specs.GroupScripts.{PlainGroupSaid, plain_group_said}
 use Rattle.script_links.specs.declared.group_script.GroupSaid.{GroupSaid}
-use Rattle.script_group.specs.Term.{Term}
-use Rattle.script_group.specs.Played.{begins as book_begins, IsRun, IsMissedBy}
-use Rattle.script_group.specs.TermRuns.{begins as term_begins, IsTermRun, IsTermMissedBy}
-use Rattle.script_group.specs.GroupAnswers.{Playing}
-use Rattle.script_group.specs.GroupRuns.{begins as group_begins, IsGroupRun, IsGroupMissedBy}
-use Rattle.script_seen.specs.Kinds.{book_line, Prints, PrintsMissed, BookShowing, BookMissing, IsBookShown, IsBookShownMissed}
-use Rattle.script_seen.specs.Kinds.{term_line, TermPrints, TermPrintsMissed, TermShowing, TermMissing, IsTermShownBy, IsTermShownMissedBy}
-use Rattle.script_seen.specs.Kinds.{group_line, GroupPrints, GroupPrintsMissed, GroupShowing, GroupMissing, IsGroupShown, IsGroupShownMissed}
+use Rattle.script_ends.specs.Term.{Term}
+use Rattle.script_ends.specs.Played.{begins as book_begins, IsRun, IsMissedBy}
+use Rattle.script_ends.specs.TermRuns.{begins as term_begins, IsTermRun, IsTermMissedBy}
+use Rattle.script_ends.specs.GroupAnswers.{Playing}
+use Rattle.script_ends.specs.GroupRuns.{begins as group_begins, IsGroupRun, IsGroupMissedBy}
+use Rattle.script_seen.specs.Kinds.{book_line, Prints, PrintsMissed, BookShowing, BookMissing, IsBookShown, IsBookShownMissed, term_line, TermPrints, TermPrintsMissed, TermShowing, TermMissing, IsTermShownBy, IsTermShownMissedBy, group_line, GroupPrints, GroupPrintsMissed, GroupShowing, GroupMissing, IsGroupShown, IsGroupShownMissed}
 use Rattle.script_seen.proofs.Showings.{HasFront, showing_begins, showing_more, missing_is, behind_is, one_more, parts_at, all_taken}
 
 -- ---- books

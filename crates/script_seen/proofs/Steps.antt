@@ -36,7 +36,7 @@ use Rattle.actor_machine.specs.declared.reply.Reply.TheVariants as reply
 use Rattle.actor_machine.proofs.Replays.{state_more, replay_more}
 use Rattle.actor_book.proofs.Ending.{ends_with, is_turn_out}
 use Rattle.script_seen.proofs.Tellings.{told_finish}
-use Rattle.script_group.specs.Lines.{line_of}
+use Rattle.plain_text.specs.Lines.{line_of}
 use Rattle.script_seen.specs.Told.{stepped, told, told_of, due_line, turn_lines}
 use Rattle.script_seen.specs.Traced.{since, told_text}
 use Rattle.script_seen.specs.Following.{Agree, IsStep, IsFollowed, IsCaughtUp, IsEnded, timers_by, timers_laid}

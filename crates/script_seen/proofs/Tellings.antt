@@ -12,7 +12,7 @@ use Rattle.actor_machine.specs.declared.name.ActorName.{ActorName}
 use Rattle.actor_machine.specs.declared.event.Event.TheVariants as event
 use Rattle.actor_machine.specs.declared.event.Offer.{Offer}
 use Rattle.actor_machine.specs.declared.reply.Report.{Report}
-use Rattle.script_group.specs.Lines.{line_of}
+use Rattle.plain_text.specs.Lines.{line_of}
 use Rattle.script_seen.specs.Told.{told, offer_line, skip_lines, turn_lines, end_lines, outcome_by}
 
 pub told_offer : (every : Bool) (d : Draft) (w : Core) (o : Offer) → line_of (offer_line d w o) ≡ flat_map line_of (told every d w (event.Offer o))

@@ -9,14 +9,13 @@ use Rattle.script_lines.specs.Scripts.{PlainSaid, plain_said}
 use Rattle.script_lines.specs.declared.script.Said.{Said}
 use Rattle.script_links.specs.TermScripts.{PlainTermSaid, plain_term_said, asks_told}
 use Rattle.script_links.specs.declared.script.TermSaid.{TermSaid}
-use Rattle.script_group.specs.Term.{Term}
-use Rattle.script_group.specs.Played.{begins as book_begins, IsRun, IsWritten, IsMissed, IsMissedBy}
-use Rattle.script_group.specs.TermRuns.{begins as term_begins, IsTermRun, IsTermWritten, IsTermMissed, IsTermMissedBy, IsTermFailed}
+use Rattle.script_ends.specs.Term.{Term}
+use Rattle.script_ends.specs.Played.{begins as book_begins, IsRun, IsWritten, IsMissed, IsMissedBy}
+use Rattle.script_ends.specs.TermRuns.{begins as term_begins, IsTermRun, IsTermWritten, IsTermMissed, IsTermMissedBy, IsTermFailed}
 use Rattle.script_seen.specs.Kinds.{book_line, term_line}
 use Rattle.script_seen.specs.Traced.{since, are_in_step}
 use Rattle.script_seen.specs.Following.{Agree, IsFollowed}
-use Rattle.script_seen.specs.TracedKinds.{IsAtStart, book_asks, BookBehind, BookMisses, BookTracing, IsBookTraced, IsBookTracedInPart}
-use Rattle.script_seen.specs.TracedKinds.{term_asks, book_in, TermBehind, TermMisses, TermTracing, IsTermTraced, IsTermTracedInPart}
+use Rattle.script_seen.specs.TracedKinds.{IsAtStart, book_asks, BookBehind, BookMisses, BookTracing, IsBookTraced, IsBookTracedInPart, term_asks, book_in, TermBehind, TermMisses, TermTracing, IsTermTraced, IsTermTracedInPart}
 use Rattle.script_seen.specs.declared.tracing.Tracer.{Tracer}
 use Rattle.script_seen.proofs.Showings.{one_more, parts_at, all_taken}
 use Rattle.script_seen.proofs.Tracings.{HasFrontOf, tracing_begins, tracing_more, is_traced}

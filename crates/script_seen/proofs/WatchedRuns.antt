@@ -7,9 +7,9 @@ use Rattle.script_lines.specs.Scripts.{PlainSaid, plain_said}
 use Rattle.script_lines.specs.declared.script.Said.{Said}
 use Rattle.script_links.specs.TermScripts.{PlainTermSaid, plain_term_said}
 use Rattle.script_links.specs.declared.script.TermSaid.{TermSaid}
-use Rattle.script_group.specs.Term.{Term}
-use Rattle.script_group.specs.Played.{IsRun}
-use Rattle.script_group.specs.TermRuns.{IsTermRun}
+use Rattle.script_ends.specs.Term.{Term}
+use Rattle.script_ends.specs.Played.{IsRun}
+use Rattle.script_ends.specs.TermRuns.{IsTermRun}
 use Rattle.script_seen.specs.Traced.{since, are_in_step}
 use Rattle.script_seen.specs.TracedKinds.{IsAtStart, BookBehind, BookMisses, TermBehind, TermMisses, book_in}
 use Rattle.script_seen.specs.Watched.{Notice, noticed_in}

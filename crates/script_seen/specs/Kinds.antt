@@ -5,11 +5,11 @@ use Rattle.script_lines.specs.Lines.{PlainLine}
 use Rattle.script_lines.specs.Scripts.{PlainSaid}
 use Rattle.script_links.specs.TermScripts.{PlainTermSaid, asks_told}
 use Rattle.script_links.specs.GroupScripts.{PlainGroupSaid}
-use Rattle.script_group.specs.Term.{Term}
-use Rattle.script_group.specs.Played.{IsRun, IsWritten, IsMissed}
-use Rattle.script_group.specs.TermRuns.{IsTermRun, IsTermMissed}
-use Rattle.script_group.specs.GroupAnswers.{Playing}
-use Rattle.script_group.specs.GroupRuns.{IsGroupRun, IsGroupWritten, IsGroupMissed}
+use Rattle.script_ends.specs.Term.{Term}
+use Rattle.script_ends.specs.Played.{IsRun, IsWritten, IsMissed}
+use Rattle.script_ends.specs.TermRuns.{IsTermRun, IsTermMissed}
+use Rattle.script_ends.specs.GroupAnswers.{Playing}
+use Rattle.script_ends.specs.GroupRuns.{IsGroupRun, IsGroupWritten, IsGroupMissed}
 use Rattle.script_seen.specs.Shown.{IsShowing, IsMissing, IsShown, IsShownMissed}
 
 -- ---- books

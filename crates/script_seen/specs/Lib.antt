@@ -9,26 +9,14 @@ pub mod Following
 pub mod TracedActs
 pub mod Watched
 pub mod WatchedKinds
-pub use Rattle.actor_machine.specs.declared as actor_machine_types
-pub use Rattle.actor_machine.specs.Effects
-pub use Rattle.actor_machine.specs.Looking
-pub use Rattle.actor_machine.specs.Names
-pub use Rattle.script_group.specs.Doing
-pub use Rattle.script_group.specs.GroupAnswers
+pub use Rattle.link_group.specs.Doing
+pub use Rattle.link_group.specs.Lines as SetLines
+pub use Rattle.link_group.specs.New
+pub use Rattle.link_group.specs.Reading
+pub use Rattle.link_group.specs.Set
+pub use Rattle.script_ends.specs.GroupAnswers
+pub use Rattle.script_ends.specs.GroupRuns
+pub use Rattle.script_ends.specs.TermAnswers
+pub use Rattle.script_ends.specs.TermRuns
+pub use Rattle.script_ends.specs.UnitLines
 pub use Rattle.turn_machine.specs.Turn
-pub use Rattle.script_group.specs.GroupRuns
-pub use Rattle.script_group.specs.Lines
-pub use Rattle.script_group.specs.Links
-pub use Rattle.script_group.specs.New
-pub use Rattle.script_group.specs.Played
-pub use Rattle.script_group.specs.Reading
-pub use Rattle.script_group.specs.Set
-pub use Rattle.script_group.specs.SetLines
-pub use Rattle.script_group.specs.Term
-pub use Rattle.script_group.specs.TermAnswers
-pub use Rattle.script_group.specs.TermRuns
-pub use Rattle.script_group.specs.UnitLines
-pub use Rattle.script_group.specs.link_group_types
-pub use Rattle.script_links.specs.GroupScripts
-pub use Rattle.script_links.specs.TermScripts
-pub use Rattle.script_links.specs.resend_store_types

@@ -4,8 +4,8 @@ use Rattle.std.specs.Prelude.{slice_get}
 use Rattle.std.specs.List.{flat_map}
 use Rattle.std.specs.Io.KnownBytes.{Appends}
 use Rattle.script_lines.specs.Lines.{PlainLine}
-use Rattle.script_group.specs.Lines.{line_of}
-use Rattle.script_group.specs.Played.{missed_text}
+use Rattle.plain_text.specs.Lines.{line_of}
+use Rattle.script_ends.specs.Played.{missed_text}
 
 -- words separated by one space
 abbrev pub parted : List (List ℕ) → List ℕ

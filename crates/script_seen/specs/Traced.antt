@@ -1,7 +1,7 @@
 -- The trace of a script's run: each command's line, followed by the lines about the events that the
 -- command caused.
-use Rattle.std.specs.Prelude.{◌≡◌, ◌≤◌, ◌+◌, ◌-◌, ℕ, Bool, true, false, List, []}
-use Rattle.std.specs.Prelude.{◌∷◌, ◌++◌, ◌==◌, ◌&&◌, length, drop, Option}
+use Rattle.std.specs.Prelude.{◌≡◌, ◌≤◌, ◌+◌, ◌-◌, ℕ, Bool, true, false, List, [], ◌∷◌, ◌++◌, ◌==◌}
+use Rattle.std.specs.Prelude.{◌&&◌, length, drop, Option}
 use Rattle.std.specs.List.{flat_map}
 use Rattle.std.specs.Io.KnownBytes.{Appends}
 use Rattle.turn_code.specs.declared.draft.Draft.{Draft}
@@ -11,7 +11,7 @@ use Rattle.actor_machine.specs.Core.{Core}
 use Rattle.actor_machine.specs.Ledger.{Ledger, runs, replay, next, state_of}
 use Rattle.actor_machine.specs.declared.event.Event.{Event}
 use Rattle.script_lines.specs.Lines.{PlainLine}
-use Rattle.script_group.specs.Lines.{line_of}
+use Rattle.plain_text.specs.Lines.{line_of}
 use Rattle.script_seen.specs.Shown.{IsLine}
 use Rattle.script_seen.specs.Told.{told_of}
 use Rattle.script_seen.specs.declared.tracing.Tracer.{Tracer}

@@ -4,7 +4,7 @@ use Rattle.plain_laws.specs.Limits.{MOST_PORT, MOST_ENVIRONMENT, MOST_JOURNAL}
 use Rattle.turn_code.specs.declared.draft.Draft.{Draft}
 use Rattle.actor_machine.specs.Kept.{opened_book}
 use Rattle.actor_machine.specs.Ledger.{Ledger, next, state_of}
-use Rattle.script_group.specs.Lines.{line_of}
+use Rattle.plain_text.specs.Lines.{line_of}
 use Rattle.script_seen.specs.Following.{IsFollowed}
 use Rattle.script_seen.specs.Shown.{parted}
 use Rattle.script_seen.specs.Traced.{since, are_in_step}

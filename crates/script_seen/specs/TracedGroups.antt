@@ -21,9 +21,9 @@ use Rattle.script_links.specs.declared.heads.GroupHead.{GroupHead}
 use Rattle.script_links.specs.declared.words.GroupWord.{GroupWord}
 use Rattle.script_links.specs.declared.words.GroupWord.TheVariants as words
 use Rattle.script_lines.specs.Lines.{PlainLine}
-use Rattle.script_group.specs.GroupAnswers.{Playing, Obeys}
-use Rattle.script_group.specs.TermRuns.{latest}
-use Rattle.script_group.specs.Lines.{line_of}
+use Rattle.script_ends.specs.GroupAnswers.{Playing, Obeys}
+use Rattle.script_ends.specs.TermRuns.{latest}
+use Rattle.plain_text.specs.Lines.{line_of}
 use Rattle.script_seen.specs.Kinds.{group_line}
 use Rattle.script_seen.specs.Traced.{since, told_text, are_in_step, IsFront}
 

@@ -10,9 +10,9 @@ use Rattle.script_lines.specs.declared.verbs.Call.TheVariants.{Begin, Finish, Sk
 use Rattle.script_links.specs.TermCommands.{PlainTermCommand}
 use Rattle.script_links.specs.TermCommands as term
 use Rattle.script_links.specs.TermScripts.{PlainTermSaid}
-use Rattle.script_group.specs.Played.{Goes as BookGoes}
-use Rattle.script_group.specs.Term.{Term}
-use Rattle.script_group.specs.TermRuns.{Goes as TermGoes}
+use Rattle.script_ends.specs.Played.{Goes as BookGoes}
+use Rattle.script_ends.specs.Term.{Term}
+use Rattle.script_ends.specs.TermRuns.{Goes as TermGoes}
 use Rattle.script_seen.specs.Kinds.{book_line, term_line}
 use Rattle.script_seen.specs.Traced.{IsAt, IsTracing, IsTraced, IsTracedInPart}
 use Rattle.script_seen.specs.declared.tracing.Tracer.{Tracer}

@@ -12,7 +12,7 @@ use Rattle.script_links.specs.Octets.{octets_of}
 use Rattle.script_links.specs.declared.words.GroupWord.{GroupWord}
 use Rattle.script_links.specs.declared.words.GroupWord.TheVariants as words
 use Rattle.script_lines.specs.Lines.{PlainLine}
-use Rattle.script_group.specs.GroupAnswers.{Playing}
+use Rattle.script_ends.specs.GroupAnswers.{Playing}
 use Rattle.script_seen.specs.Kinds.{group_line}
 use Rattle.script_seen.specs.Traced.{IsFront, IsAt}
 use Rattle.script_seen.specs.TracedGroups.{group_only_asks, message_text, Reached, AreReached}

@@ -5,7 +5,7 @@ use Rattle.actor_machine.specs.Ledger.{Ledger, runs, replay, next, state_of}
 use Rattle.actor_machine.specs.declared.event.Event.{Event}
 use Rattle.script_lines.specs.Scripts.{PlainSaid}
 use Rattle.script_links.specs.TermScripts.{PlainTermSaid}
-use Rattle.script_group.specs.Term.{Term}
+use Rattle.script_ends.specs.Term.{Term}
 use Rattle.script_seen.specs.Following.{Agree}
 use Rattle.script_seen.specs.TracedKinds.{BookBehind, BookMisses, TermBehind, TermMisses, book_in}
 use Rattle.script_seen.specs.Watched.{Notice, IsWatching, IsWatched, IsWatchedInPart}

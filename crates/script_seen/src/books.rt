@@ -3,11 +3,12 @@ ghost use Rattle.std.specs.Prelude.{◌≡◌, ◌⊎◌, ◌++◌, ◌∷◌, [
 ghost use Rattle.script_lines.specs.Lines.{plain_line, lines_of};
 ghost use Rattle.script_lines.specs.Scripts.{AreInRange, PlainSaid, plain_said, plain_script};
 ghost use Rattle.actor_machine.specs.Ledger.{Ledger};
-ghost use Rattle.script_group.specs.Played.{first_book, last_of};
+ghost use Rattle.script_ends.specs.Played.{first_book, last_of};
 ghost use Rattle.script_seen.specs.Kinds.{IsBookShown, IsBookShownMissed, BookShowing, BookMissing};
 
 use crate::fronts::{first_of, length_of, no_octets, show_line, write_behind};
-use script_group::{FAILED, HELD, MISSED, Player, open_player};
+use plain_text::{DONE, FAILED};
+use script_ends::{MISSED, Player, open_player};
 use script_lines::{Line, Said, Script, lines_in};
 use std::alloc::Global;
 use std::io::{self, Write};
@@ -61,7 +62,7 @@ fn show_each<W: Write, E: Write>(
         player.explain(alloc, said, errors);
         place = place.saturating_add(1);
     }
-    Ok(HELD)
+    Ok(DONE)
 }
 
 /// Obeys and echoes the commands. Returns the exit status: 4 if memory runs out or a write fails.

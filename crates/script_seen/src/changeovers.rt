@@ -3,13 +3,13 @@ ghost use Rattle.std.specs.Prelude.{◌≡◌, ◌++◌, List, ℕ, codes, IsNon
 ghost use Rattle.std.specs.Fmt.{decimal};
 ghost use Rattle.script_links.specs.GroupCommands.{plain_group_command};
 ghost use Rattle.script_links.specs.Octets.{octets_of};
-ghost use Rattle.script_group.specs.Lines.{line_of};
+ghost use Rattle.plain_text.specs.Lines.{line_of};
 ghost use Rattle.script_seen.specs.TracedGroups.{kind_text};
 ghost use Rattle.script_seen.specs.TracingGroups.{IsMessageTold, AreSaid, IsSaidTold, IsLastTold, AreBothTold, IsWordTold, IsToldBy};
 
 use crate::pushing::push_number;
 use crate::tracing::lost;
-use script_group::{Kind, read_changeover};
+use group_changeover::{Kind, read_changeover};
 use script_links::{GroupCommand, GroupWord, octets_in};
 use std::alloc::{AllocError, Global};
 use std::{io, str};

@@ -7,7 +7,7 @@ ghost use Rattle.input_port.specs.Queue.{first_unsaved};
 ghost use Rattle.actor_machine.specs.Core.{names_in};
 ghost use Rattle.actor_machine.specs.Ledger.{state_of};
 ghost use Rattle.actor_machine.specs.Looking.{trigger_of, is_saved};
-ghost use Rattle.script_group.specs.Lines.{line_of};
+ghost use Rattle.plain_text.specs.Lines.{line_of};
 ghost use Rattle.script_seen.specs.Told.{values_text, from_text, actor_text, timer_of_text, offer_line, due_line, skip_line, skip_lines, item_values, item_sender, stands_text};
 
 use crate::pushing::{

@@ -3,7 +3,7 @@ ghost use Rattle.std.specs.Prelude.{◌≡◌, ◌++◌, ◌∷◌, [], ℕ, Lis
 ghost use Rattle.std.specs.List.{flat_map};
 ghost use Rattle.std.specs.Io.KnownBytes.{Appends};
 ghost use Rattle.script_lines.specs.Lines.{texts, plain_line};
-ghost use Rattle.script_group.specs.Lines.{line_of};
+ghost use Rattle.plain_text.specs.Lines.{line_of};
 ghost use Rattle.script_seen.specs.Shown.{parted, IsLine};
 
 use script_lines::Line;

@@ -2,13 +2,14 @@
 ghost use Rattle.std.specs.Prelude.{◌≡◌, ◌⊎◌, ◌++◌, ◌∷◌, [], List, ℕ, Option, None, Some, map, IfOk, true, false};
 ghost use Rattle.script_lines.specs.Lines.{plain_line, lines_of};
 ghost use Rattle.script_links.specs.GroupScripts.{PlainGroupSaid, plain_group_said, IsFew};
-ghost use Rattle.script_group.specs.TermRuns.{LacksName};
-ghost use Rattle.script_group.specs.GroupAnswers.{Playing};
-ghost use Rattle.script_group.specs.GroupRuns.{playing_of, last_of, IsOfNewSet};
+ghost use Rattle.script_ends.specs.TermRuns.{LacksName};
+ghost use Rattle.script_ends.specs.GroupAnswers.{Playing};
+ghost use Rattle.script_ends.specs.GroupRuns.{playing_of, last_of, IsOfNewSet};
 ghost use Rattle.script_seen.specs.Kinds.{IsGroupShown, IsGroupShownMissed, GroupShowing, GroupMissing};
 
 use crate::fronts::{first_of, length_of, no_octets, show_line, write_behind};
-use script_group::{FAILED, GroupPlayer, HELD, MISSED, open_group, refuse_set};
+use plain_text::{DONE, FAILED};
+use script_ends::{GroupPlayer, MISSED, open_group, refuse_set};
 use script_lines::{Line, lines_in};
 use script_links::{GroupSaid, GroupScript, RoundLimits};
 use std::alloc::Global;
@@ -61,7 +62,7 @@ fn show_each<W: Write>(
         }
         place = place.saturating_add(1);
     }
-    Ok(HELD)
+    Ok(DONE)
 }
 
 /// Obeys and echoes the commands. Returns the exit status: 4 if memory runs out or a write fails.

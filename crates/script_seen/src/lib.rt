@@ -18,7 +18,6 @@ mod watched_books;
 mod watched_terminals;
 mod watching;
 
-pub use actor_machine::{ActorName, Lost};
 pub use books::show_book;
 pub use events::{same_trigger, trigger_of};
 pub use fronts::front_of;
@@ -28,14 +27,9 @@ pub use pushing::{
     meant, push_actor, push_end, push_number, push_party, push_process, push_signal, push_state,
     push_timer, push_trigger, shown,
 };
-pub use script_group::{
-    FAILED, GroupPlayer, HELD, MISSED, OpenError, TermPlayer, Terminal, Unit, asks_told, encode,
-    line_of_unit, new_player, open_group, play_book, play_group, play_terminal, refuse, refuse_set,
-    text_line, write_line,
-};
-pub use script_links::{
-    AnyScript, GroupCommand, GroupSaid, GroupScript, PlayScript, RoundLimits, TermCommand,
-    TermSaid, TermScript, play_fault, play_script_in,
+pub use script_ends::{
+    GroupPlayer, TermPlayer, asks_told, line_of_unit, new_player, open_group, play_group,
+    play_terminal, refuse_set,
 };
 pub use terminals::show_terminal;
 pub use timing::delay_of;

@@ -2,12 +2,13 @@
 ghost use Rattle.std.specs.Prelude.{◌≡◌, ◌⊎◌, ◌++◌, ◌∷◌, [], List, ℕ, Option, None, Some, map, IfOk, true, false};
 ghost use Rattle.script_lines.specs.Lines.{plain_line, lines_of};
 ghost use Rattle.script_links.specs.TermScripts.{PlainTermSaid, plain_term_said};
-ghost use Rattle.script_group.specs.Term.{Term};
-ghost use Rattle.script_group.specs.TermRuns.{last_of, IsOfNew, LacksName};
+ghost use Rattle.script_ends.specs.Term.{Term};
+ghost use Rattle.script_ends.specs.TermRuns.{last_of, IsOfNew, LacksName};
 ghost use Rattle.script_seen.specs.Kinds.{IsTermShown, IsTermShownBy, IsTermShownMissed, IsTermShownMissedBy, TermShowing, TermMissing};
 
 use crate::fronts::{first_of, length_of, no_octets, show_line, write_behind};
-use script_group::{FAILED, HELD, MISSED, TermPlayer, Terminal, asks_told, new_player, refuse_set};
+use plain_text::{DONE, FAILED};
+use script_ends::{MISSED, TermPlayer, Terminal, asks_told, new_player, refuse_set};
 use script_lines::{Line, lines_in};
 use script_links::{RoundLimits, TermSaid, TermScript};
 use std::alloc::Global;
@@ -71,7 +72,7 @@ fn show_each<W: Write>(
         }
         place = place.saturating_add(1);
     }
-    Ok(HELD)
+    Ok(DONE)
 }
 
 /// Obeys and echoes the commands. Returns the exit status: 4 if memory runs out or a write fails.

@@ -4,7 +4,7 @@ ghost use Rattle.script_lines.specs.Lines.{plain_line, lines_of};
 ghost use Rattle.script_lines.specs.Commands.{plain_command};
 ghost use Rattle.script_lines.specs.Scripts.{AreInRange, PlainSaid, plain_said, plain_script};
 ghost use Rattle.actor_machine.specs.Ledger.{Ledger};
-ghost use Rattle.script_group.specs.Played.{first_book, last_of, IsRun, IsWritten, IsMissed, IsMissedBy};
+ghost use Rattle.script_ends.specs.Played.{first_book, last_of, IsRun, IsWritten, IsMissed, IsMissedBy};
 ghost use Rattle.std.specs.Io.KnownBytes.{Appends};
 ghost use Rattle.script_seen.specs.Traced.{IsFront};
 ghost use Rattle.script_seen.specs.TracedKinds.{is_state, only_asks, IsAtStart, BookTracing, IsBookTraced, IsBookTracedInPart};
@@ -12,7 +12,8 @@ ghost use Rattle.script_seen.specs.TracedKinds.{is_state, only_asks, IsAtStart, 
 use crate::fronts::{first_of, show_line};
 use crate::tracing::{Tracer, new_tracer};
 use actor_book::Limits;
-use script_group::{FAILED, HELD, MISSED, Player, open_player};
+use plain_text::{DONE, FAILED};
+use script_ends::{MISSED, Player, open_player};
 use script_lines::{Call, Command, Line, Said, Script, Settings, lines_in};
 use std::alloc::{AllocError, Global};
 use std::io::{self, Write};
@@ -119,7 +120,7 @@ fn trace_each<W: Write, T: Write, E: Write>(
         player.explain(alloc, said, errors);
         place = place.saturating_add(1);
     }
-    Ok(HELD)
+    Ok(DONE)
 }
 
 /// The sizes of a link's stores, as a script sets them.

@@ -7,10 +7,10 @@ ghost use Rattle.actor_machine.specs.Ledger.{Ledger};
 ghost use Rattle.script_lines.specs.Lines.{plain_line, lines_of};
 ghost use Rattle.script_links.specs.GroupCommands.{plain_group_command};
 ghost use Rattle.script_links.specs.GroupScripts.{PlainGroupSaid, plain_group_said, IsFew};
-ghost use Rattle.script_group.specs.Lines.{line_of};
-ghost use Rattle.script_group.specs.TermRuns.{LacksName};
-ghost use Rattle.script_group.specs.GroupAnswers.{Playing};
-ghost use Rattle.script_group.specs.GroupRuns.{playing_of, last_of, IsGroupRun, IsGroupMissedBy, IsGroupWritten, IsGroupMissed, IsOfNewSet};
+ghost use Rattle.plain_text.specs.Lines.{line_of};
+ghost use Rattle.script_ends.specs.TermRuns.{LacksName};
+ghost use Rattle.script_ends.specs.GroupAnswers.{Playing};
+ghost use Rattle.script_ends.specs.GroupRuns.{playing_of, last_of, IsGroupRun, IsGroupMissedBy, IsGroupWritten, IsGroupMissed, IsOfNewSet};
 ghost use Rattle.script_seen.specs.Traced.{IsFront, since, told_text};
 ghost use Rattle.script_seen.specs.TracedGroups.{word_only_asks, group_only_asks, Reached, reached_at, IsReached, AreReached, reach, all_reach, books_of, clock_in, links_text, under_name, IsNewBook, AreNewLinks, IsGroupTraced, IsGroupTracedInPart};
 ghost use Rattle.script_seen.specs.TracingGroups.{is_expectation, IsAtLink, AreAtLinks, IsToldBehind, IsGroupTracing};
@@ -19,7 +19,8 @@ use crate::changeovers::changeover_text;
 use crate::fronts::{first_of, show_line};
 use crate::traced_terminals::open_tracer;
 use crate::tracing::{Tracer, lost};
-use script_group::{FAILED, GroupPlayer, HELD, MISSED, open_group, refuse_set, text_line};
+use plain_text::{DONE, FAILED};
+use script_ends::{GroupPlayer, MISSED, open_group, refuse_set, text_line};
 use script_lines::{Line, lines_in};
 use script_links::{GroupCommand, GroupSaid, GroupScript, GroupWord, RoundLimits};
 use std::alloc::{AllocError, Global};
@@ -274,7 +275,7 @@ fn trace_each<W: Write, T: Write>(
         }
         place = place.saturating_add(1);
     }
-    Ok(HELD)
+    Ok(DONE)
 }
 
 /// Obeys and traces a script on a new link set. Returns the exit status: 0, or 1 if an expectation failed.

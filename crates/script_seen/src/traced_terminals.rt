@@ -6,15 +6,16 @@ ghost use Rattle.script_lines.specs.Lines.{plain_line, lines_of};
 ghost use Rattle.script_links.specs.TermCommands.{plain_term_command};
 ghost use Rattle.script_links.specs.TermScripts.{PlainTermSaid, plain_term_said, asks_told};
 ghost use Rattle.plain_laws.specs.Limits.{MOST_PORT, MOST_ENVIRONMENT, MOST_JOURNAL};
-ghost use Rattle.script_group.specs.Term.{Term};
-ghost use Rattle.script_group.specs.TermRuns.{last_of, IsTermRun, IsTermWritten, IsTermMissed, IsTermFailed, IsTermMissedBy, IsOfNew, LacksName};
+ghost use Rattle.script_ends.specs.Term.{Term};
+ghost use Rattle.script_ends.specs.TermRuns.{last_of, IsTermRun, IsTermWritten, IsTermMissed, IsTermFailed, IsTermMissedBy, IsOfNew, LacksName};
 ghost use Rattle.script_seen.specs.Traced.{IsFront};
 ghost use Rattle.script_seen.specs.TracedKinds.{term_only_asks, book_in, IsAtStart, TermTracing, IsTermTraced, IsTermTracedInPart};
 
 use crate::fronts::{first_of, show_line};
 use crate::tracing::{Tracer, new_tracer};
 use actor_book::Limits;
-use script_group::{FAILED, HELD, MISSED, TermPlayer, Terminal, asks_told, new_player, refuse_set};
+use plain_text::{DONE, FAILED};
+use script_ends::{MISSED, TermPlayer, Terminal, asks_told, new_player, refuse_set};
 use script_lines::{Line, lines_in};
 use script_links::{RoundLimits, TermCommand, TermSaid, TermScript};
 use std::alloc::{AllocError, Global};
@@ -133,7 +134,7 @@ fn trace_each<W: Write, T: Write>(
         }
         place = place.saturating_add(1);
     }
-    Ok(HELD)
+    Ok(DONE)
 }
 
 /// The sizes of the stores of a terminal's book.

@@ -6,7 +6,7 @@ ghost use Rattle.actor_machine.specs.Ledger.{Ledger, next, state_of};
 ghost use Rattle.actor_machine.specs.Kept.{opened_book};
 ghost use Rattle.actor_machine.specs.declared.event.Event.TheVariants as event;
 ghost use Rattle.tick_wheel.specs.Turning.{timers_of};
-ghost use Rattle.script_group.specs.Lines.{line_of};
+ghost use Rattle.plain_text.specs.Lines.{line_of};
 ghost use Rattle.script_seen.specs.Told.{told};
 ghost use Rattle.script_seen.specs.Traced.{since, are_in_step};
 ghost use Rattle.script_seen.specs.Following.{IsStep, Agree, IsFollowed, IsCaughtUp, IsEnded};

@@ -5,7 +5,7 @@ ghost use Rattle.turn_code.specs.Outcome.{Outcome};
 ghost use Rattle.turn_machine.specs.Turn.{outcome_of};
 ghost use Rattle.actor_machine.specs.declared.reply.Lost.{Lost as OneLost};
 ghost use Rattle.script_lines.specs.Replies.{signal_text};
-ghost use Rattle.script_group.specs.Lines.{line_of};
+ghost use Rattle.plain_text.specs.Lines.{line_of};
 ghost use Rattle.script_seen.specs.Told.{values_text, receiver_text, effect_text, effects_text, change_text, changes_text, cause_text, lost_text, lost_at, began_text, ended_text, turn_line, turn_lines, stays_in, is_dull, value_at};
 
 use crate::pushing::{

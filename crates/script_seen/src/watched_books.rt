@@ -2,14 +2,15 @@
 ghost use Rattle.std.specs.Prelude.{◌≡◌, ◌⊎◌, ◌++◌, ◌∷◌, [], List, ℕ, Option, None, map, IfOk, true, false};
 ghost use Rattle.script_lines.specs.Scripts.{AreInRange, PlainSaid, plain_said, plain_script};
 ghost use Rattle.actor_machine.specs.Ledger.{Ledger};
-ghost use Rattle.script_group.specs.Played.{first_book, last_of, IsRun, IsWritten, IsMissed, IsMissedBy};
+ghost use Rattle.script_ends.specs.Played.{first_book, last_of, IsRun, IsWritten, IsMissed, IsMissedBy};
 ghost use Rattle.script_seen.specs.TracedKinds.{IsAtStart};
 ghost use Rattle.script_seen.specs.WatchedKinds.{BookWatching, IsBookWatched, IsBookWatchedInPart};
 
 use crate::traced_books::open_tracer;
 use crate::tracing::Tracer;
 use crate::watching::Watcher;
-use script_group::{FAILED, HELD, MISSED, Player, open_player};
+use plain_text::{DONE, FAILED};
+use script_ends::{MISSED, Player, open_player};
 use script_lines::{Said, Script};
 use std::alloc::Global;
 use std::io::{self, Write};
@@ -70,7 +71,7 @@ fn watch_each<N: Watcher, W: Write, E: Write>(
         }
         player.explain(alloc, said, errors);
     }
-    Ok(HELD)
+    Ok(DONE)
 }
 
 /// Obeys a script on a new link, and notifies a watcher. Returns the exit status: 0, or 1 if an expectation failed.

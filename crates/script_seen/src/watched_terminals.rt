@@ -3,15 +3,16 @@ ghost use Rattle.std.specs.Prelude.{◌≡◌, ◌⊎◌, ◌++◌, ◌∷◌, [
 ghost use Rattle.actor_machine.specs.Kept.{opened_book};
 ghost use Rattle.plain_laws.specs.Limits.{MOST_PORT, MOST_ENVIRONMENT, MOST_JOURNAL};
 ghost use Rattle.script_links.specs.TermScripts.{PlainTermSaid, plain_term_said, asks_told};
-ghost use Rattle.script_group.specs.Term.{Term};
-ghost use Rattle.script_group.specs.TermRuns.{last_of, IsTermRun, IsTermWritten, IsTermMissed, IsTermFailed, IsTermMissedBy, IsOfNew, LacksName};
+ghost use Rattle.script_ends.specs.Term.{Term};
+ghost use Rattle.script_ends.specs.TermRuns.{last_of, IsTermRun, IsTermWritten, IsTermMissed, IsTermFailed, IsTermMissedBy, IsOfNew, LacksName};
 ghost use Rattle.script_seen.specs.TracedKinds.{book_in, IsAtStart};
 ghost use Rattle.script_seen.specs.WatchedKinds.{TermWatching, IsTermWatched, IsTermWatchedInPart};
 
 use crate::traced_terminals::open_tracer;
 use crate::tracing::Tracer;
 use crate::watching::Watcher;
-use script_group::{FAILED, HELD, MISSED, TermPlayer, Terminal, asks_told, new_player, refuse_set};
+use plain_text::{DONE, FAILED};
+use script_ends::{MISSED, TermPlayer, Terminal, asks_told, new_player, refuse_set};
 use script_links::{RoundLimits, TermSaid, TermScript};
 use std::alloc::Global;
 use std::io::{self, Write};
@@ -72,7 +73,7 @@ fn watch_each<N: Watcher, W: Write>(
             return Ok(MISSED);
         }
     }
-    Ok(HELD)
+    Ok(DONE)
 }
 
 /// Obeys a script on a new terminal, and notifies a watcher. Returns the exit status: 0, or 1 if an expectation failed.

@@ -3,5 +3,4 @@ pub mod Limits
 pub mod Places
 pub mod Plain
 pub mod Views
-pub use Rattle.sdl_lex.specs.Limits as LexLimits
 pub use Rattle.sdl_lex.specs.Spelling

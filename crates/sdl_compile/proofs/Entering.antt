@@ -12,8 +12,8 @@ use Rattle.turn_code.specs.Sets.{Has, IsWithin}
 use Rattle.sdl_meaning.specs.Act.{is_truth}
 use Rattle.sdl_meaning.specs.Outcomes.{Scope, connector_at}
 use Rattle.sdl_meaning.specs.Code.{number_or_zero}
-use Rattle.sdl_facts.specs.Reads.{action_set, meet, choice_left}
-use Rattle.sdl_facts.specs.Entries.{entry_at, end_met, met, answers_met, else_met, connection_met, connections_met}
+use Rattle.sdl_compile.specs.Reads.{action_set, meet, choice_left}
+use Rattle.sdl_compile.specs.Entries.{entry_at, end_met, met, answers_met, else_met, connection_met, connections_met}
 use Rattle.sdl_meaning.proofs.Branches.{EachEnd, EachJoin, ChoiceJoin}
 use Rattle.sdl_compile.proofs.UnsetLaws.{meet_front, meet_back}
 

@@ -30,19 +30,19 @@ use Rattle.sdl_meaning.specs.Outcomes.{Scope, state_at}
 use Rattle.sdl_meaning.specs.Code.{number_or_zero, next, jump, tree_code, action_code, end_code, body_size, range_code, ranges_code, tests_code, names_truth, picked, pick_code, bodies_place, else_place, answers_place, after_choice}
 use Rattle.sdl_meaning.specs.Named.{NamedTree, NamedText, NamedChoice}
 use Rattle.sdl_meaning.specs.Declarations.{sort_of_tree}
-use Rattle.sdl_facts.specs.Reads.{ReadTree, action_set, left, choice_left, ReadText, ReadChoice}
-use Rattle.sdl_facts.specs.Entries.{entry_at}
+use Rattle.sdl_compile.specs.Reads.{ReadTree, action_set, left, choice_left, ReadText, ReadChoice}
+use Rattle.sdl_compile.specs.Entries.{entry_at}
 use Rattle.sdl_meaning.proofs.Sorting.{tree_has_sort}
 use Rattle.sdl_meaning.proofs.Sizes.{tree_size, action_size, tests_are}
-use Rattle.sdl_facts.proofs.Straight.{AreRight}
-use Rattle.sdl_facts.proofs.Stretches.{Leads, left_shape}
-use Rattle.sdl_facts.proofs.Shapes.{tree_leads, action_leads}
-use Rattle.sdl_facts.proofs.Rights.{plain_right, tree_right, one_of as one_at}
-use Rattle.sdl_facts.proofs.Actions.{Stands, Reaching, counted_action, action_right, next_right, stop_right}
+use Rattle.sdl_compile.proofs.Straight.{AreRight}
+use Rattle.sdl_compile.proofs.PlaceStretches.{Leads, left_shape}
+use Rattle.sdl_compile.proofs.Shapes.{tree_leads, action_leads}
+use Rattle.sdl_compile.proofs.Rights.{plain_right, tree_right, one_of as one_at}
+use Rattle.sdl_compile.proofs.Actions.{Stands, Reaching, counted_action, action_right, next_right, stop_right}
 use Rattle.sdl_meaning.proofs.Branches.{EachEnd, EachJoin, ChoiceJoin}
 use Rattle.sdl_compile.proofs.UnsetLaws.{not_true}
 use Rattle.sdl_compile.proofs.Entering.{number_at, TextFits, ChoiceFits}
-use Rattle.sdl_facts.proofs.Spots.{Spot, leave_spots, text_spots, else_spots, answers_spots, bodies_spots}
+use Rattle.sdl_compile.proofs.Spots.{Spot, leave_spots, text_spots, else_spots, answers_spots, bodies_spots}
 use Rattle.plain_laws.proofs.Truths.{and_second}
 use Rattle.std.proofs.lemmas.Bool.{and_from as both_true}
 use Rattle.sdl_compile.proofs.RightTexts.{RightTree, RightText, RightChoice, two_at, Leaves, choice_leaves}

@@ -7,12 +7,12 @@ use Rattle.turn_code.specs.Transitions.{Transition}
 use Rattle.turn_code.specs.Rules.{greatest, depths, count_in, effects_in, KeepsCounts}
 use Rattle.sdl_sound.specs.Longest.{Piece, piece_depth}
 use Rattle.sdl_meaning.specs.Outcomes.{Scope}
-use Rattle.sdl_facts.specs.PlaceCounts.{weight, number_at}
-use Rattle.sdl_facts.specs.declared.counts.Counted.TheVariants.{Effects}
+use Rattle.sdl_compile.specs.PlaceCounts.{weight, number_at}
+use Rattle.sdl_compile.specs.declared.counts.Counted.TheVariants.{Effects}
 use Rattle.sdl_compile.specs.Made.{IsLongestOf, AreCountsOf, IsPieceOf}
 use Rattle.sdl_meaning.specs.Named.{NamedPiece, AreSorted}
 use Rattle.sdl_compile.proofs.Depths.{facts_deep}
-use Rattle.sdl_facts.proofs.Passes.{same_all as same_greatest}
+use Rattle.sdl_compile.proofs.Passes.{same_all as same_greatest}
 
 count_of : (fs : List PlaceFacts) (k : ℕ) → number_at (map (λ (f : PlaceFacts). f.count) fs) k ≡ count_in (slice_get fs k)
 count_of [] k = refl

@@ -16,9 +16,9 @@ use Rattle.sdl_meaning.specs.Named.{NamedPiece}
 use Rattle.sdl_compile.specs.Facts.{shapes_from, piece_sets}
 use Rattle.sdl_meaning.specs.Declarations.{drafted_signals, drafted_variables}
 use Rattle.sdl_compile.specs.Made.{IsPieceOf}
-use Rattle.sdl_facts.specs.declared.counts.Counted.TheVariants.{Instructions, Effects}
+use Rattle.sdl_compile.specs.declared.counts.Counted.TheVariants.{Instructions, Effects}
 use Rattle.sdl_compile.specs.Entries.{piece_entries}
-use Rattle.sdl_facts.specs.PlaceCounts.{weight, number_at, AreCounts}
+use Rattle.sdl_compile.specs.PlaceCounts.{weight, number_at, AreCounts}
 use Rattle.sdl_compile.specs.Settings.{IsReadyPiece, count_from, effects_from}
 use Rattle.sdl_compile.proofs.Spots.{Spot, piece_spots, piece_instructions}
 use Rattle.sdl_compile.proofs.PlaceSets.{piece_set_at}

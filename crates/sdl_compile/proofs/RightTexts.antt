@@ -11,8 +11,8 @@ use Rattle.sdl_sound.specs.Sorts.{wrong_in, wrong_action}
 use Rattle.sdl_sound.specs.Divisors.{bad_divisors_in, action_divisors}
 use Rattle.sdl_sound.specs.Receivers.{lost_action, doubtful_action}
 use Rattle.sdl_meaning.specs.Outcomes.{Scope}
-use Rattle.sdl_facts.specs.Reads.{everything, meet, left, answers_left, else_left, choice_left}
-use Rattle.sdl_facts.proofs.Rights.{one_of as one_at}
+use Rattle.sdl_compile.specs.Reads.{everything, meet, left, answers_left, else_left, choice_left}
+use Rattle.sdl_compile.proofs.Rights.{one_of as one_at}
 use Rattle.sdl_compile.proofs.UnsetLaws.{meet_front, meet_back}
 
 -- ---- the property of a right text

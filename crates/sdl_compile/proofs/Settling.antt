@@ -15,8 +15,8 @@ use Rattle.sdl_sound.specs.Paths.{Event, sets_in}
 use Rattle.sdl_sound.specs.Chances.{text_chances, chances_by}
 use Rattle.sdl_meaning.specs.Outcomes.{Scope}
 use Rattle.sdl_meaning.specs.Named.{NamedText, NamedConnections}
-use Rattle.sdl_facts.specs.Reads.{everything, ReadText}
-use Rattle.sdl_facts.specs.Entries.{entry_at, met, connections_met}
+use Rattle.sdl_compile.specs.Reads.{everything, ReadText}
+use Rattle.sdl_compile.specs.Entries.{entry_at, met, connections_met}
 use Rattle.sdl_meaning.proofs.Numbers.{AreNumbered}
 use Rattle.sdl_meaning.proofs.Branches.{EachJoin}
 use Rattle.sdl_meaning.proofs.Joining.{has_connection, each_join}

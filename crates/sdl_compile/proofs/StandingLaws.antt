@@ -23,23 +23,23 @@ use Rattle.sdl_meaning.specs.Outcomes.{Scope, connector_at}
 use Rattle.sdl_meaning.specs.Code.{number_or_zero, tree_code, action_code, end_code, code_joins, joined, ArePlaced, text_at, size_at, place_in, connections_place, text_place, places_code}
 use Rattle.sdl_meaning.specs.Named.{NamedText, NamedConnections, NamedPiece}
 use Rattle.sdl_meaning.specs.Declarations.{sort_of_tree}
-use Rattle.sdl_facts.specs.Reads.{action_set, places_set, ReadText}
-use Rattle.sdl_facts.specs.Entries.{entry_at}
+use Rattle.sdl_compile.specs.Reads.{action_set, places_set, ReadText}
+use Rattle.sdl_compile.specs.Entries.{entry_at}
 use Rattle.sdl_meaning.proofs.Sizes.{tree_size, action_size, places_size}
-use Rattle.sdl_facts.proofs.Stretches.{left_set}
-use Rattle.sdl_facts.proofs.Shapes.{action_leads, places_leads}
-use Rattle.sdl_facts.proofs.Actions.{Stands, Reaching, counted_action, places_right}
+use Rattle.sdl_compile.proofs.PlaceStretches.{left_set}
+use Rattle.sdl_compile.proofs.Shapes.{action_leads, places_leads}
+use Rattle.sdl_compile.proofs.Actions.{Stands, Reaching, counted_action, places_right}
 use Rattle.sdl_meaning.proofs.Branches.{EachJoin}
 use Rattle.sdl_meaning.proofs.Joining.{contains_map, has_connection, each_join}
 use Rattle.sdl_meaning.proofs.Acts.{joined_placed, placed_closed, tail_contains}
 use Rattle.sdl_compile.proofs.Entering.{number_at, TextFits}
-use Rattle.sdl_facts.proofs.Spots.{Spot, over, text_spots, connections_spots, piece_spots}
+use Rattle.sdl_compile.proofs.Spots.{Spot, over, text_spots, connections_spots, piece_spots}
 use Rattle.sdl_compile.proofs.RightTexts.{RightText}
 use Rattle.sdl_compile.proofs.Stretches.{Enters, AllFine, HasSpots, Chain, has_front, has_back, fine_append, chain_append, enters_here}
 use Rattle.sdl_compile.proofs.Fine.{Begins, stretch, text_fine}
 use Rattle.sdl_compile.proofs.TextLengths.{text_length, over_length}
 use Rattle.std.proofs.lemmas.Bool.{eqb-true as same_place}
-use Rattle.sdl_facts.proofs.Piecewise.{cost_some}
+use Rattle.sdl_compile.proofs.Piecewise.{cost_some}
 
 not_ended : {P : Type 0} (b : Bool) → b ≡ false → b ≡ true → P
 not_ended true e f = absurd (let k : ⊥ = cc in k)

@@ -1,5 +1,5 @@
 -- Places one after another: the claims about each agree with the state in which it is reached.
-use Rattle.sdl_facts.proofs.Actions.{Stands}
+use Rattle.sdl_compile.proofs.Actions.{Stands}
 use Rattle.sdl_meaning.specs.Code.{jump, range_code}
 use Rattle.sdl_meaning.specs.Outcomes.{Scope}
 use Rattle.turn_code.specs.declared.value.Sort.TheVariants.{Integer}
@@ -15,11 +15,11 @@ use Rattle.turn_code.specs.declared.draft.Draft.{Draft}
 use Rattle.turn_code.specs.Sets.{Has, IsWithin}
 use Rattle.turn_code.specs.Code.{shape_left, shape_after, set_after, jumps, behind}
 use Rattle.turn_code.specs.Transitions.{Transition}
-use Rattle.sdl_facts.specs.Facts.{shapes_from}
-use Rattle.sdl_facts.proofs.Straight.{IsRight, AreRight, AreSteps}
-use Rattle.sdl_facts.proofs.Stretches.{left_set, left_shape}
-use Rattle.sdl_facts.proofs.Rights.{one_of as one_at, plain_right}
-use Rattle.sdl_facts.proofs.Spots.{Spot, instructions, shapes, over}
+use Rattle.sdl_compile.specs.Facts.{shapes_from}
+use Rattle.sdl_compile.proofs.Straight.{IsRight, AreRight, AreSteps}
+use Rattle.sdl_compile.proofs.PlaceStretches.{left_set, left_shape}
+use Rattle.sdl_compile.proofs.Rights.{one_of as one_at, plain_right}
+use Rattle.sdl_compile.proofs.Spots.{Spot, instructions, shapes, over}
 use Rattle.turn_code.proofs.Lists.{within as there}
 use Rattle.sdl_sound.proofs.Lists.{get_one as same_some}
 

@@ -14,7 +14,7 @@ use Rattle.sdl_sound.specs.Longest.{jump_size, size, bodies_size}
 use Rattle.sdl_meaning.specs.Outcomes.{Scope}
 use Rattle.sdl_meaning.specs.Code.{leave_code, tests_code, else_size, pick_code, bodies_place, else_place, answers_place, after_choice, else_code, answers_code}
 use Rattle.sdl_meaning.proofs.Sizes.{leave_size, tests_are, text_size_is, bodies_size_is, answers_size_is, else_size_is}
-use Rattle.sdl_facts.proofs.Spots.{Spot, instructions, over, leave_spots, text_spots, else_spots, answers_spots, bodies_spots, text_instructions, else_instructions, answers_instructions, bodies_instructions}
+use Rattle.sdl_compile.proofs.Spots.{Spot, instructions, over, leave_spots, text_spots, else_spots, answers_spots, bodies_spots, text_instructions, else_instructions, answers_instructions, bodies_instructions}
 
 -- Code has as many places as instructions.
 module _ (d : Draft) (t : Transition) where

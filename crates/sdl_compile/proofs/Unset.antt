@@ -22,8 +22,8 @@ use Rattle.sdl_meaning.specs.Act.{is_truth}
 use Rattle.sdl_meaning.specs.Outcomes.{Scope, variable_at, state_at, connector_at}
 use Rattle.sdl_meaning.specs.Code.{number_or_zero}
 use Rattle.sdl_meaning.specs.Named.{NamedTree, NamedAction, NamedText, NamedChoice}
-use Rattle.sdl_facts.specs.Reads.{ReadTree, ReadAction, tasks_set, action_set, everything, meet, left, answers_left, else_left, choice_left, ReadText, ReadChoice}
-use Rattle.sdl_facts.specs.Entries.{entry_at, met_at, met, answers_met, else_met, connection_met, connections_met}
+use Rattle.sdl_compile.specs.Reads.{ReadTree, ReadAction, tasks_set, action_set, everything, meet, left, answers_left, else_left, choice_left, ReadText, ReadChoice}
+use Rattle.sdl_compile.specs.Entries.{entry_at, met_at, met, answers_met, else_met, connection_met, connections_met}
 use Rattle.sdl_meaning.proofs.Branches.{EachJoin, ChoiceJoin}
 use Rattle.sdl_meaning.proofs.Numbers.{AreNumbered}
 use Rattle.sdl_meaning.proofs.Sorting.{place_in, first_of_some, found_at}

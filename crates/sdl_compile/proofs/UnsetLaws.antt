@@ -18,7 +18,7 @@ use Rattle.sdl_sound.specs.Chances.{Chances, no_chances, event_chances, behind, 
 use Rattle.sdl_sound.specs.Names.{tree_names}
 use Rattle.sdl_meaning.specs.Outcomes.{Scope, variable_at}
 use Rattle.sdl_meaning.specs.Code.{number_or_zero}
-use Rattle.sdl_facts.specs.Reads.{tasks_set, action_set, everything, meet, left, answers_left, else_left, choice_left}
+use Rattle.sdl_compile.specs.Reads.{tasks_set, action_set, everything, meet, left, answers_left, else_left, choice_left}
 use Rattle.sdl_compile.proofs.Walks.{has_more, sets_append, reads_set_none}
 use Rattle.plain_laws.proofs.Truths.{neither_first as or_front, neither_second as or_back}
 

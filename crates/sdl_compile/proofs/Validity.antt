@@ -14,8 +14,8 @@ use Rattle.turn_code.specs.Code.{shape_left, shape_after, set_after, successors,
 use Rattle.turn_code.specs.Transitions.{Transition}
 use Rattle.turn_code.specs.Rules.{StartsRight, HasTrigger, HasSaves, KeepsCounts, KeepsProcessLimits, KeepsPieceLimits}
 use Rattle.turn_code.specs.Valid.{IsValidTransition}
-use Rattle.sdl_facts.proofs.Straight.{IsRight}
-use Rattle.sdl_facts.proofs.Spots.{Spot, instructions, shapes, sets_at}
+use Rattle.sdl_compile.proofs.Straight.{IsRight}
+use Rattle.sdl_compile.proofs.Spots.{Spot, instructions, shapes, sets_at}
 use Rattle.sdl_compile.proofs.Stretches.{Enters, IsFine, AllFine}
 use Rattle.sdl_sound.proofs.Lists.{get_one as one_item}
 

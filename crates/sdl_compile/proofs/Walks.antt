@@ -17,7 +17,7 @@ use Rattle.sdl_sound.specs.Names.{tree_names, place_names}
 use Rattle.sdl_meaning.specs.Outcomes.{Scope, variable_at}
 use Rattle.sdl_meaning.specs.Code.{number_or_zero}
 use Rattle.sdl_meaning.specs.Named.{NamedTree, NamedTrees, NamedTasks, NamedSendings, NamedAction}
-use Rattle.sdl_facts.specs.Reads.{ReadTree, ReadTrees, ReadTasks, ReadSendings, ReadAction, tasks_set, action_set, places_set}
+use Rattle.sdl_compile.specs.Reads.{ReadTree, ReadTrees, ReadTasks, ReadSendings, ReadAction, tasks_set, action_set, places_set}
 use Rattle.sdl_meaning.proofs.Numbers.{AreNumbered, number_there}
 use Rattle.sdl_tables.proofs.Numbers.{is_in-append as in_append}
 use Rattle.sdl_sound.proofs.Numbered.{number_alike, same_back as same_other_way}

@@ -16,7 +16,7 @@ use Rattle.sdl_ast.specs.Views.{input_of, stimulus_of, text_of}
 use Rattle.sdl_tables.specs.Rows.{stimulus_inputs}
 use Rattle.sdl_tables.specs.Names.{Input, states_of, of_state, by_state}
 use Rattle.sdl_meaning.specs.Outcomes.{Scope}
-use Rattle.sdl_compile.specs.Scopes.{input_by}
+use Rattle.sdl_emit.specs.Scopes.{input_by}
 use Rattle.sdl_compile.specs.Drafts.{AllReady, AreReady, IsReadyInput, IsInputOf, AreInputsOf, MatchesInput, MatchesInputs, AreTriggers, AllTriggers, sets_of}
 use Rattle.sdl_meaning.specs.Declarations.{trigger_sorts}
 use Rattle.sdl_compile.specs.Settings.{IsReadyPiece}

@@ -2,8 +2,8 @@
 use Rattle.std.specs.Prelude.{◌≡◌}
 use Rattle.sdl_ast.specs.Views.{block_of, process_of}
 use Rattle.sdl_sound.specs.Orders.{IsOrder}
-use Rattle.sdl_compile.specs.Measures.{AreMeasures}
-use Rattle.sdl_trimmed.specs.Trimmed.{AreTrimmed}
+use Rattle.sdl_emit.specs.Measures.{AreMeasures}
+use Rattle.sdl_emit.specs.Trimmed.{AreTrimmed}
 use Rattle.sdl_compile.specs.declared.state.Context.{Context}
 use Rattle.sdl_meaning.specs.Declarations.{drafted_signals, drafted_variables}
 

@@ -7,7 +7,7 @@ ghost use Rattle.turn_code.specs.Valid.{IsValid};
 ghost use Rattle.sdl_tables.specs.Names.{number_of, processes_of, routes_of};
 ghost use Rattle.sdl_sound.specs.Settled.{AreSettled};
 ghost use Rattle.sdl_sound.specs.Orders.{AreOrders};
-ghost use Rattle.sdl_compile.specs.Measures.{AllMeasures};
+ghost use Rattle.sdl_emit.specs.Measures.{AllMeasures};
 ghost use Rattle.sdl_sound.specs.Sound.{Sound};
 ghost use Rattle.sdl_meaning.specs.Code.{number_or_zero};
 ghost use Rattle.sdl_meaning.specs.Act.{scope_of};

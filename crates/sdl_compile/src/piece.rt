@@ -2,8 +2,8 @@
 ghost use Rattle.std.specs.Prelude.{◌≡◌, ◌≤◌, length, Option, IfOk};
 ghost use Rattle.sdl_ast.specs.declared.expression.Identifier as tree_identifier;
 ghost use Rattle.sdl_ast.specs.Views.{text_of};
-ghost use Rattle.sdl_compile.specs.Bodies.{IsBody};
-ghost use Rattle.sdl_compile.specs.Scopes.{scope_in, piece_in};
+ghost use Rattle.sdl_emit.specs.Bodies.{IsBody};
+ghost use Rattle.sdl_emit.specs.Scopes.{scope_in, piece_in};
 ghost use Rattle.sdl_meaning.specs.Named.{AnswersAll};
 ghost use Rattle.sdl_sound.specs.Longest.{places_cost};
 ghost use Rattle.sdl_compile.specs.Drafts.{Means};
@@ -11,11 +11,12 @@ ghost use Rattle.sdl_compile.specs.Made.{IsPieceOf};
 ghost use Rattle.sdl_compile.specs.Settings.{IsSetting, IsReadyPiece, count_from, effects_from};
 ghost use Rattle.plain_laws.specs.Limits.{MOST_PARAMETERS};
 
+use crate::entries::{PieceSets, place_sets};
+use crate::facts::{Marks, greatest_depth, place_facts};
+use crate::setting::Setting;
+use crate::totals::{Layout, piece_counts};
 use sdl_ast::{Identifier, Transition};
-use sdl_facts::{
-    Body, Layout, Marks, Setting, Standing, connection_places, emit_piece, greatest_depth,
-    piece_counts, place_connections, place_facts, place_sets, text_size,
-};
+use sdl_emit::{Body, connection_places, emit_piece, place_connections, text_size};
 use std::alloc::{AllocError, Global};
 use turn_code::{Cert, DraftPiece, PlaceFacts, Sequence};
 
@@ -71,7 +72,7 @@ fn make_piece(
     let start = places_length(places) + text_size(names.process, body);
     let targets = connection_places(alloc, names, setting.measures, start, &numbers)?;
     let code = emit_piece(alloc, names, copies, places, body, &numbers, &targets)?;
-    let standing = Standing {
+    let standing = PieceSets {
         places,
         entry: setting.entry,
         order: setting.order,

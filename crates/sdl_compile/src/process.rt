@@ -5,10 +5,10 @@ ghost use Rattle.std.specs.List.{AllZip};
 ghost use Rattle.sdl_tables.specs.Names.{process_names, states_of, inputs_by_state, saves_by_state};
 ghost use Rattle.sdl_sound.specs.Settled.{AreSettled};
 ghost use Rattle.sdl_sound.specs.Orders.{IsOrder};
-ghost use Rattle.sdl_compile.specs.Measures.{AreMeasures};
+ghost use Rattle.sdl_emit.specs.Measures.{AreMeasures};
 ghost use Rattle.sdl_meaning.specs.Act.{scope_of};
-ghost use Rattle.sdl_compile.specs.Scopes.{scope_in};
-ghost use Rattle.sdl_compile.specs.Uses.{IsUseTable};
+ghost use Rattle.sdl_emit.specs.Scopes.{scope_in};
+ghost use Rattle.sdl_emit.specs.Uses.{IsUseTable};
 ghost use Rattle.sdl_compile.specs.Contexts.{IsContext};
 ghost use Rattle.sdl_meaning.specs.Declarations.{drafted_signals};
 ghost use Rattle.turn_code.specs.Sets.{initial_set};
@@ -18,12 +18,13 @@ ghost use Rattle.sdl_compile.specs.Drafts.{IsReadyProcess, Means, MatchesProcess
 ghost use Rattle.plain_laws.specs.Limits.{MOST_PROCESSES};
 
 use crate::piece::compile_transition;
+use crate::setting::Setting;
 use crate::state::{Context, compile_states, draft_name};
 use crate::variables::compile_variables;
-use sdl_facts::{Body, Names, Setting, UseTable, find_uses};
-use sdl_rules::{Measure, standing_inputs};
+use sdl_emit::{Body, Names, UseTable, find_uses, trim_connections, trim_transition};
+use sdl_rules::Measure;
+use sdl_sound::standing_inputs;
 use sdl_tables::{BlockTable, NameTable, ProcessTable};
-use sdl_trimmed::{trim_connections, trim_transition};
 use std::alloc::{AllocError, Global};
 use turn_code::{DraftPiece, DraftProcess, DraftSignal, DraftState, Name, Sequence, set_at_start};
 

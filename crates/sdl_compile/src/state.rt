@@ -5,18 +5,18 @@ ghost use Rattle.sdl_ast.specs.Views.{text_of, input_of, block_of, process_of};
 ghost use Rattle.sdl_tables.specs.Rows.{stimulus_inputs, row_names};
 ghost use Rattle.sdl_tables.specs.Names.{Input, states_of};
 ghost use Rattle.sdl_sound.specs.Standing.{taken_by, taken_in};
-ghost use Rattle.sdl_trimmed.specs.Trimmed.{trimmed};
-ghost use Rattle.sdl_compile.specs.Scopes.{scope_in, input_by};
+ghost use Rattle.sdl_emit.specs.Trimmed.{trimmed};
+ghost use Rattle.sdl_emit.specs.Scopes.{scope_in, input_by};
 ghost use Rattle.sdl_meaning.specs.Declarations.{trigger_of, trigger_sorts, parameters_by, drafted_signals};
 ghost use Rattle.sdl_compile.specs.Drafts.{AllReady, IsNamedAs, MatchesInputs, SavesAll, AreReady, IsReadyInput, IsInputOf, AreInputsOf, IsTrigger, AreTriggers, AllTriggers, sets_of};
 ghost use Rattle.sdl_compile.specs.Contexts.{IsContext};
 
 use crate::piece::compile_transition;
+use crate::setting::Setting;
 use sdl_ast::{Identifier, InputPart, Stimulus, Transition};
-use sdl_facts::{Body, Names, Setting};
+use sdl_emit::{Body, Names, trim_transition};
 use sdl_lex::Name;
 use sdl_rules::Measure;
-use sdl_trimmed::trim_transition;
 use std::alloc::{AllocError, Global};
 use turn_code::{
     DraftInput, DraftSignal, DraftState, DraftVariable, Sequence, SignalNumber, Sort, TimerNumber,

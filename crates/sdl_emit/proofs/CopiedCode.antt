@@ -10,7 +10,7 @@ use Rattle.sdl_ast.specs.Plain.{Text, falls, PlainConnection}
 use Rattle.sdl_ast.specs.Views.{text_of}
 use Rattle.sdl_tables.specs.Names.{variables_of}
 use Rattle.sdl_sound.specs.Longest.{size}
-use Rattle.sdl_trimmed.specs.Trimmed.{trimmed, AreTrimmed}
+use Rattle.sdl_emit.specs.Trimmed.{trimmed, AreTrimmed}
 use Rattle.sdl_meaning.specs.Outcomes.{Scope, connector_at}
 use Rattle.sdl_meaning.specs.Named.{NamedText}
 use Rattle.sdl_meaning.specs.Code.{number_or_zero, joined, text_at, text_code}

@@ -10,3 +10,5 @@ pub mod Once
 pub mod Picking
 pub mod Spacing
 pub mod Trimming
+pub mod Trimmings
+pub mod Used

@@ -14,7 +14,7 @@ use Rattle.std.specs.List.{list_any, sum_by}
 use Rattle.turn_code.specs.declared.instruction.Instruction.{Instruction}
 use Rattle.turn_code.specs.declared.instruction.Instruction.TheVariants as i
 use Rattle.sdl_meaning.specs.Code.{jump, tree_code, action_code, leave_code, body_size, else_size, ranges_code, tests_code, names_truth, picked, pick_code, bodies_place, else_place, answers_place, after_choice, text_code, else_code, answers_code, bodies_code, truth_code, integer_code, code_joins, else_joins, answers_joins, bodies_joins}
-use Rattle.sdl_trimmed.specs.Trimmed.{kept, trimmed, trimmed_choice}
+use Rattle.sdl_emit.specs.Trimmed.{kept, trimmed, trimmed_choice}
 
 -- ---- whether it goes on
 

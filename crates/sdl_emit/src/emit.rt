@@ -4,17 +4,17 @@ ghost use Rattle.turn_code.specs.Values.{wrap};
 ghost use Rattle.sdl_ast.specs.Views.{tree_of, assignment_of, sending_of, action_of};
 ghost use Rattle.sdl_ast.specs.declared.expression.BinaryOperator.TheVariants.{Equal as EqualSign, NotEqual as NotEqualSign};
 ghost use Rattle.sdl_sound.specs.Longest.{is_division};
-ghost use Rattle.sdl_names.specs.Scopes.{scope_in};
+ghost use Rattle.sdl_emit.specs.Scopes.{scope_in};
 ghost use Rattle.sdl_meaning.specs.Act.{divisor_of};
 ghost use Rattle.sdl_meaning.specs.Named.{NamedTree, NamedTrees, NamedTasks, NamedSending, NamedSendings, NamedAction, NamedPlaces};
 ghost use Rattle.sdl_meaning.specs.Code.{tree_code, trees_code, tasks_code, sendings_code, action_code, places_code, unary_code, binary_code, division_code};
 ghost use Rattle.plain_laws.specs.Limits.{MOST_PARAMETERS};
 
 use crate::landing::put;
+use crate::names::Names;
 use sdl_ast::{
     Action, Assignment, BinaryOperator, Destination, Expression, Identifier, Sending, UnaryOperator,
 };
-use sdl_names::Names;
 use sdl_sound::is_division;
 use std::alloc::AllocError;
 use turn_code::{Instruction, Relation};

@@ -4,7 +4,7 @@ ghost use Rattle.std.specs.List.{list_any, sum_by};
 ghost use Rattle.sdl_ast.specs.Views.{text_of, end_text, statement_of, choice_of, else_choice, process_of};
 ghost use Rattle.sdl_measures.specs.Counting.{measure_at};
 ghost use Rattle.sdl_measures.specs.Measures.{AreMeasures};
-ghost use Rattle.sdl_trimmed.specs.Trimmed.{AreTrimmed};
+ghost use Rattle.sdl_emit.specs.Trimmed.{AreTrimmed};
 ghost use Rattle.sdl_emit.specs.Bodies.{IsBody};
 ghost use Rattle.sdl_emit.specs.Scopes.{scope_in, places_by};
 ghost use Rattle.sdl_emit.specs.Placing.{decision_joins, numbers_of, HaveNumbers, AreMarked};
@@ -15,9 +15,9 @@ ghost use Rattle.plain_laws.specs.Limits.{MOST_INSTRUCTIONS};
 
 use crate::bodies::Body;
 use crate::marks::add_once;
+use crate::names::Names;
 use sdl_ast::{Decision, End, Join, Statement, Transition};
 use sdl_measures::Measure;
-use sdl_names::Names;
 use std::alloc::{AllocError, Global};
 
 /// Adds the JOIN that ends a text, if one does.

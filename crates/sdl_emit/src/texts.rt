@@ -6,7 +6,7 @@ ghost use Rattle.sdl_ast.specs.Views.{text_of, statement_of, decision_of, choice
 ghost use Rattle.sdl_tables.specs.Names.{variables_of};
 ghost use Rattle.sdl_sound.specs.Longest.{size};
 ghost use Rattle.sdl_sound.specs.Going.{goes_on, choice_goes_on};
-ghost use Rattle.sdl_trimmed.specs.Trimmed.{AreTrimmed};
+ghost use Rattle.sdl_emit.specs.Trimmed.{AreTrimmed};
 ghost use Rattle.sdl_emit.specs.Bodies.{IsBody};
 ghost use Rattle.sdl_emit.specs.Scopes.{scope_in, places_by, question_in, piece_in};
 ghost use Rattle.sdl_meaning.specs.Named.{NamedEnd, NamedText, NamedChoice, NamedPiece};
@@ -19,9 +19,9 @@ use crate::emit::{emit_action, emit_expression, emit_places};
 use crate::landing::{
     choose, fill_places, has_any, keep_places, land_jumps, leave, put, tests_length,
 };
+use crate::names::Names;
 use crate::ranges::emit_tests;
 use sdl_ast::{Decision, End, Identifier, Statement, Transition};
-use sdl_names::Names;
 use sdl_sound::both;
 use std::alloc::{AllocError, Global};
 use turn_code::{CodePlace, Instruction};

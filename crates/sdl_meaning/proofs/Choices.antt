@@ -2,12 +2,12 @@
 use Rattle.std.proofs.Common.{◌≡◌, ℕ, suc, ◌+◌, Bool, true, false, cond, ◌||◌, List, [], ◌∷◌, ◌++◌, length, Some, refl, sym, ap, ◌∙◌, subst, arith}
 use Rattle.std.specs.Prelude.{slice_get, ℤ}
 use Rattle.std.specs.List.{list_any}
-use Rattle.sdl_sound.specs.sdl_ast_types.tree.Literal.{Literal}
-use Rattle.sdl_sound.specs.sdl_ast_types.tree.Literal.TheVariants as literals
-use Rattle.sdl_sound.specs.sdl_ast_types.tree.Range.{Range}
-use Rattle.sdl_sound.specs.sdl_ast_types.tree.Range.TheVariants.{Value as IsValue, Compared, Between}
-use Rattle.sdl_sound.specs.sdl_ast_types.tree.Sort.TheVariants.{Integer, Boolean}
-use Rattle.sdl_sound.specs.Plain.{Tree, Text, Choice, nothing_else, otherwise, answer}
+use Rattle.sdl_ast.specs.declared.tree.Literal.{Literal}
+use Rattle.sdl_ast.specs.declared.tree.Literal.TheVariants as literals
+use Rattle.sdl_ast.specs.declared.tree.Range.{Range}
+use Rattle.sdl_ast.specs.declared.tree.Range.TheVariants.{Value as IsValue, Compared, Between}
+use Rattle.sdl_ast.specs.declared.tree.Sort.TheVariants.{Integer, Boolean}
+use Rattle.sdl_ast.specs.Plain.{Tree, Text, Choice, nothing_else, otherwise, answer}
 use Rattle.turn_code.specs.declared.value.Value.{Value}
 use Rattle.turn_code.specs.declared.value.Value.TheVariants.{Int, Bool as Truth}
 use Rattle.turn_code.specs.declared.input.Input.{Input}

@@ -5,7 +5,7 @@ use Rattle.std.specs.List.{list_any, sum_by, filter, flat_map}
 use Rattle.std.specs.Option.{option_map_or}
 use Rattle.std.proofs.lemmas.Bool.Decides.{nat_tests}
 use Rattle.std.proofs.lemmas.List.Sums.{sum_by-cons}
-use Rattle.sdl_sound.specs.Plain.{falls, PlainConnection}
+use Rattle.sdl_ast.specs.Plain.{falls, PlainConnection}
 use Rattle.turn_code.specs.declared.instruction.Instruction.{Instruction}
 use Rattle.sdl_sound.specs.TableNames.{variables_of}
 use Rattle.sdl_sound.specs.Joins.{reaches, reached}

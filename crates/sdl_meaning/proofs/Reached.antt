@@ -4,10 +4,10 @@ use Rattle.std.specs.Prelude.{slice_get, Contains}
 use Rattle.std.specs.List.{list_any, flat_map}
 use Rattle.std.specs.Option.{option_map, option_map_or}
 use Rattle.std.proofs.lemmas.List.Concat.{flat_map-append}
-use Rattle.sdl_sound.specs.sdl_ast_types.expression.Identifier.{Identifier}
-use Rattle.sdl_sound.specs.sdl_ast_types.tree.Join as tree_join
-use Rattle.sdl_sound.specs.sdl_ast_types.tree.End.TheVariants.{NextState, Stop, Join}
-use Rattle.sdl_sound.specs.Plain.{Tree, Text, falls, ends, does, decides, Choice, nothing_else, otherwise, answer, PlainConnection, PlainProcess}
+use Rattle.sdl_ast.specs.declared.expression.Identifier.{Identifier}
+use Rattle.sdl_ast.specs.declared.tree.Join as tree_join
+use Rattle.sdl_ast.specs.declared.tree.End.TheVariants.{NextState, Stop, Join}
+use Rattle.sdl_ast.specs.Plain.{Tree, Text, falls, ends, does, decides, Choice, nothing_else, otherwise, answer, PlainConnection, PlainProcess}
 use Rattle.sdl_sound.specs.TableNames.{same_name, number_of, connector_names, connection_named}
 use Rattle.sdl_sound.specs.Statements.{statements_of, choice_statements, statement_joins, joins_of}
 use Rattle.sdl_sound.specs.Joins.{joins_at, comes_by, comes, reaches}

@@ -6,7 +6,7 @@ use Rattle.std.proofs.lemmas.List.{reverse-reverse, length-reverse}
 use Rattle.std.proofs.lemmas.Grind.{reverse_onto}
 use Rattle.std.proofs.lemmas.Bool.Decides.{nat_tests}
 use Rattle.std.proofs.lemmas.Option.{slice_get-get_or}
-use Rattle.sdl_sound.specs.Plain.{Tree}
+use Rattle.sdl_ast.specs.Plain.{Tree}
 use Rattle.turn_code.specs.declared.value.Value.{Value}
 use Rattle.turn_code.specs.declared.trouble.Trouble.TheVariants.{Underflow}
 use Rattle.turn_code.specs.declared.instruction.Instruction.{Instruction}

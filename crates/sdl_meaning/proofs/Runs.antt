@@ -1,16 +1,16 @@
 -- The run of the instructions of expressions and actions is their meaning.
 use Rattle.std.proofs.Common.{◌≡◌, ℕ, suc, ◌+◌, Bool, true, false, cond, List, [], ◌∷◌, ◌++◌, length, Option, Some, None, IsSome, refl, sym, ap, ◌∙◌, subst, arith, length-append}
 use Rattle.std.specs.Prelude.{slice_get, slice_set, ℤ, pos, int_lt}
-use Rattle.sdl_sound.specs.sdl_ast_types.expression.Identifier.{Identifier}
-use Rattle.sdl_sound.specs.sdl_ast_types.expression.UnaryOperator.{UnaryOperator}
-use Rattle.sdl_sound.specs.sdl_ast_types.expression.UnaryOperator.TheVariants.{Negate, Not}
-use Rattle.sdl_sound.specs.sdl_ast_types.expression.BinaryOperator.{BinaryOperator}
-use Rattle.sdl_sound.specs.sdl_ast_types.expression.BinaryOperator.TheVariants.{Or, Xor, And, Equal, NotEqual, Less, LessEqual, Greater, GreaterEqual, Add, Subtract, Multiply, Divide, Modulo, Remainder}
-use Rattle.sdl_sound.specs.sdl_ast_types.tree.Destination.{Destination}
-use Rattle.sdl_sound.specs.sdl_ast_types.tree.Destination.TheVariants as address
-use Rattle.sdl_sound.specs.sdl_ast_types.tree.Party.TheVariants as tree_parties
-use Rattle.sdl_sound.specs.sdl_ast_types.tree.Party as tree_party
-use Rattle.sdl_sound.specs.Plain.{Tree, number, truth, variable, unary, binary, PlainAssignment, PlainSending, PlainAction, task, output, set_timer, reset_timer}
+use Rattle.sdl_ast.specs.declared.expression.Identifier.{Identifier}
+use Rattle.sdl_ast.specs.declared.expression.UnaryOperator.{UnaryOperator}
+use Rattle.sdl_ast.specs.declared.expression.UnaryOperator.TheVariants.{Negate, Not}
+use Rattle.sdl_ast.specs.declared.expression.BinaryOperator.{BinaryOperator}
+use Rattle.sdl_ast.specs.declared.expression.BinaryOperator.TheVariants.{Or, Xor, And, Equal, NotEqual, Less, LessEqual, Greater, GreaterEqual, Add, Subtract, Multiply, Divide, Modulo, Remainder}
+use Rattle.sdl_ast.specs.declared.tree.Destination.{Destination}
+use Rattle.sdl_ast.specs.declared.tree.Destination.TheVariants as address
+use Rattle.sdl_ast.specs.declared.tree.Party.TheVariants as tree_parties
+use Rattle.sdl_ast.specs.declared.tree.Party as tree_party
+use Rattle.sdl_ast.specs.Plain.{Tree, number, truth, variable, unary, binary, PlainAssignment, PlainSending, PlainAction, task, output, set_timer, reset_timer}
 use Rattle.turn_code.specs.declared.value.Value.{Value}
 use Rattle.turn_code.specs.declared.value.Value.TheVariants.{Int, Bool as Truth}
 use Rattle.turn_code.specs.declared.input.Input.{Input}

@@ -1,10 +1,10 @@
 -- The measures of a text depend only on the measures of its JOINs.
 use Rattle.std.proofs.Common.{◌≡◌, ℕ, ◌+◌, max, Bool, true, false, cond, List, refl, ap, ◌∙◌, arith}
-use Rattle.sdl_sound.specs.sdl_ast_types.tree.Join as tree_join
-use Rattle.sdl_sound.specs.sdl_ast_types.tree.Range.{Range}
-use Rattle.sdl_sound.specs.sdl_ast_types.tree.End.{End}
-use Rattle.sdl_sound.specs.sdl_ast_types.tree.End.TheVariants.{NextState, Stop, Join}
-use Rattle.sdl_sound.specs.Plain.{Text, falls, ends, does, decides, Choice, nothing_else, otherwise, answer}
+use Rattle.sdl_ast.specs.declared.tree.Join as tree_join
+use Rattle.sdl_ast.specs.declared.tree.Range.{Range}
+use Rattle.sdl_ast.specs.declared.tree.End.{End}
+use Rattle.sdl_ast.specs.declared.tree.End.TheVariants.{NextState, Stop, Join}
+use Rattle.sdl_ast.specs.Plain.{Text, falls, ends, does, decides, Choice, nothing_else, otherwise, answer}
 use Rattle.sdl_sound.specs.TableNames.{Variable}
 use Rattle.sdl_sound.specs.Sorts.{is_truth as in_truth}
 use Rattle.sdl_sound.specs.Longest.{action_cost, action_depth, action_effects, cost_of, end_cost, end_count, tests_budget, budget, case_budget, pick_budget, depth, choice_depth, effects, choice_effects}

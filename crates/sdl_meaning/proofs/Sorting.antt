@@ -5,11 +5,11 @@ use Rattle.std.specs.List.{position, position_or_len}
 use Rattle.std.specs.Option.{option_to_list, option_map_or}
 use Rattle.std.proofs.lemmas.Bool.Decides.{nat_tests}
 use Rattle.std.proofs.lemmas.List.{length-map}
-use Rattle.sdl_sound.specs.sdl_ast_types.expression.Identifier.{Identifier}
-use Rattle.sdl_sound.specs.sdl_ast_types.tree.Sort as tree_sort
-use Rattle.sdl_sound.specs.sdl_ast_types.tree.Sort.TheVariants as tree_sorts
-use Rattle.sdl_sound.specs.Plain.{Tree, number, truth, variable, unary, binary, PlainSignal, PlainBlock}
-use Rattle.sdl_sound.specs.Places.{place_of}
+use Rattle.sdl_ast.specs.declared.expression.Identifier.{Identifier}
+use Rattle.sdl_ast.specs.declared.tree.Sort as tree_sort
+use Rattle.sdl_ast.specs.declared.tree.Sort.TheVariants as tree_sorts
+use Rattle.sdl_ast.specs.Plain.{Tree, number, truth, variable, unary, binary, PlainSignal, PlainBlock}
+use Rattle.sdl_ast.specs.Places.{place_of}
 use Rattle.turn_code.specs.declared.draft.DraftSignal.{DraftSignal}
 use Rattle.turn_code.specs.declared.draft.DraftVariable.{DraftVariable}
 use Rattle.turn_code.specs.Code.{sort_at}

@@ -3,11 +3,11 @@ use Rattle.std.proofs.Common.{◌≡◌, ℕ, zero, suc, ◌+◌, ◌≤◌, max
 use Rattle.std.specs.Prelude.{ℤ}
 use Rattle.std.specs.List.{position_or_len}
 use Rattle.std.specs.Option.{option_map_or}
-use Rattle.sdl_sound.specs.sdl_ast_types.expression.Identifier.{Identifier}
-use Rattle.sdl_sound.specs.sdl_ast_types.tree.Range.{Range}
-use Rattle.sdl_sound.specs.sdl_ast_types.tree.End.{End}
-use Rattle.sdl_sound.specs.sdl_ast_types.tree.End.TheVariants.{NextState, Stop, Join}
-use Rattle.sdl_sound.specs.Plain.{Tree, Text, falls, ends, does, decides, Choice, nothing_else, otherwise, answer, PlainConnection}
+use Rattle.sdl_ast.specs.declared.expression.Identifier.{Identifier}
+use Rattle.sdl_ast.specs.declared.tree.Range.{Range}
+use Rattle.sdl_ast.specs.declared.tree.End.{End}
+use Rattle.sdl_ast.specs.declared.tree.End.TheVariants.{NextState, Stop, Join}
+use Rattle.sdl_ast.specs.Plain.{Tree, Text, falls, ends, does, decides, Choice, nothing_else, otherwise, answer, PlainConnection}
 use Rattle.turn_code.specs.declared.value.Value.{Value}
 use Rattle.turn_code.specs.declared.value.Value.TheVariants.{Int, Bool as Truth}
 use Rattle.turn_code.specs.declared.input.Address.{Address}

@@ -5,34 +5,32 @@ use Rattle.std.specs.Prelude.{int_rem, Bool, true, false, not, ◌||◌, ◌&&�
 use Rattle.std.specs.Prelude.{◌∷◌, length, Option, Some, None, slice_get, slice_set}
 use Rattle.std.specs.Int.{int_rem_euclid}
 use Rattle.std.specs.Option.{option_map}
-use Rattle.sdl_sound.specs.sdl_ast_types.expression.Identifier.{Identifier}
-use Rattle.sdl_sound.specs.sdl_ast_types.expression.UnaryOperator.{UnaryOperator}
-use Rattle.sdl_sound.specs.sdl_ast_types.expression.UnaryOperator.TheVariants.{Negate, Not}
-use Rattle.sdl_sound.specs.sdl_ast_types.expression.BinaryOperator.{BinaryOperator}
-use Rattle.sdl_sound.specs.sdl_ast_types.expression.BinaryOperator.TheVariants.{Or, Xor, And, Equal}
-use Rattle.sdl_sound.specs.sdl_ast_types.expression.BinaryOperator.TheVariants.{NotEqual, Less}
-use Rattle.sdl_sound.specs.sdl_ast_types.expression.BinaryOperator.TheVariants.{LessEqual, Greater}
-use Rattle.sdl_sound.specs.sdl_ast_types.expression.BinaryOperator.TheVariants.{GreaterEqual, Add}
-use Rattle.sdl_sound.specs.sdl_ast_types.expression.BinaryOperator.TheVariants.{Subtract, Multiply}
-use Rattle.sdl_sound.specs.sdl_ast_types.expression.BinaryOperator.TheVariants.{Divide, Modulo}
-use Rattle.sdl_sound.specs.sdl_ast_types.expression.BinaryOperator.TheVariants.{Remainder}
-use Rattle.sdl_sound.specs.sdl_ast_types.tree.Sort.TheVariants.{Boolean}
-use Rattle.sdl_sound.specs.sdl_ast_types.tree.Party as tree_party
-use Rattle.sdl_sound.specs.sdl_ast_types.tree.Party.TheVariants as tree_parties
-use Rattle.sdl_sound.specs.sdl_ast_types.tree.Destination.{Destination}
-use Rattle.sdl_sound.specs.sdl_ast_types.tree.Destination.TheVariants as address
-use Rattle.sdl_sound.specs.sdl_ast_types.tree.End.{End}
-use Rattle.sdl_sound.specs.sdl_ast_types.tree.End.TheVariants.{NextState, Stop, Join}
-use Rattle.sdl_sound.specs.sdl_ast_types.tree.Literal as literal
-use Rattle.sdl_sound.specs.sdl_ast_types.tree.Literal.TheVariants as literals
-use Rattle.sdl_sound.specs.sdl_ast_types.tree.Relation as tree_relation
-use Rattle.sdl_sound.specs.sdl_ast_types.tree.Relation.TheVariants as signs
-use Rattle.sdl_sound.specs.sdl_ast_types.tree.Range.{Range}
-use Rattle.sdl_sound.specs.sdl_ast_types.tree.Range.TheVariants as ranges
-use Rattle.sdl_sound.specs.Plain.{Tree, number, truth, variable, unary, binary, PlainAssignment}
-use Rattle.sdl_sound.specs.Plain.{PlainSending, PlainAction, task, output, set_timer, reset_timer}
-use Rattle.sdl_sound.specs.Plain.{Text, falls, ends, does, decides, Choice, nothing_else, otherwise}
-use Rattle.sdl_sound.specs.Plain.{answer, PlainConnection, PlainProcess, PlainBlock}
+use Rattle.sdl_ast.specs.declared.expression.Identifier.{Identifier}
+use Rattle.sdl_ast.specs.declared.expression.UnaryOperator.{UnaryOperator}
+use Rattle.sdl_ast.specs.declared.expression.UnaryOperator.TheVariants.{Negate, Not}
+use Rattle.sdl_ast.specs.declared.expression.BinaryOperator.{BinaryOperator}
+use Rattle.sdl_ast.specs.declared.expression.BinaryOperator.TheVariants.{Or, Xor, And, Equal}
+use Rattle.sdl_ast.specs.declared.expression.BinaryOperator.TheVariants.{NotEqual, Less, LessEqual}
+use Rattle.sdl_ast.specs.declared.expression.BinaryOperator.TheVariants.{Greater, GreaterEqual, Add}
+use Rattle.sdl_ast.specs.declared.expression.BinaryOperator.TheVariants.{Subtract, Multiply, Divide}
+use Rattle.sdl_ast.specs.declared.expression.BinaryOperator.TheVariants.{Modulo, Remainder}
+use Rattle.sdl_ast.specs.declared.tree.Sort.TheVariants.{Boolean}
+use Rattle.sdl_ast.specs.declared.tree.Party as tree_party
+use Rattle.sdl_ast.specs.declared.tree.Party.TheVariants as tree_parties
+use Rattle.sdl_ast.specs.declared.tree.Destination.{Destination}
+use Rattle.sdl_ast.specs.declared.tree.Destination.TheVariants as address
+use Rattle.sdl_ast.specs.declared.tree.End.{End}
+use Rattle.sdl_ast.specs.declared.tree.End.TheVariants.{NextState, Stop, Join}
+use Rattle.sdl_ast.specs.declared.tree.Literal as literal
+use Rattle.sdl_ast.specs.declared.tree.Literal.TheVariants as literals
+use Rattle.sdl_ast.specs.declared.tree.Relation as tree_relation
+use Rattle.sdl_ast.specs.declared.tree.Relation.TheVariants as signs
+use Rattle.sdl_ast.specs.declared.tree.Range.{Range}
+use Rattle.sdl_ast.specs.declared.tree.Range.TheVariants as ranges
+use Rattle.sdl_ast.specs.Plain.{Tree, number, truth, variable, unary, binary, PlainAssignment}
+use Rattle.sdl_ast.specs.Plain.{PlainSending, PlainAction, task, output, set_timer, reset_timer}
+use Rattle.sdl_ast.specs.Plain.{Text, falls, ends, does, decides, Choice, nothing_else, otherwise}
+use Rattle.sdl_ast.specs.Plain.{answer, PlainConnection, PlainProcess, PlainBlock}
 use Rattle.turn_code.specs.declared.value.Value.{Value}
 use Rattle.turn_code.specs.declared.value.Value.TheVariants.{Int, Bool as Truth}
 use Rattle.turn_code.specs.declared.input.Input.{Input}

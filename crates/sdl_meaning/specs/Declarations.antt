@@ -1,12 +1,12 @@
 -- What a draft has for the declarations of a text.
 use Rattle.std.specs.Prelude.{ℕ, List, [], map, Option, None, Some, option_map, slice_get}
-use Rattle.sdl_sound.specs.sdl_ast_types.expression.Identifier.{Identifier}
-use Rattle.sdl_sound.specs.sdl_ast_types.tree.Constant.{Constant}
-use Rattle.sdl_sound.specs.sdl_ast_types.tree.Literal as literal
-use Rattle.sdl_sound.specs.sdl_ast_types.tree.Literal.TheVariants as literals
-use Rattle.sdl_sound.specs.sdl_ast_types.tree.Sort as tree_sort
-use Rattle.sdl_sound.specs.sdl_ast_types.tree.Sort.TheVariants as tree_sorts
-use Rattle.sdl_sound.specs.Plain.{PlainSignal, PlainProcess, PlainBlock}
+use Rattle.sdl_ast.specs.declared.expression.Identifier.{Identifier}
+use Rattle.sdl_ast.specs.declared.tree.Constant.{Constant}
+use Rattle.sdl_ast.specs.declared.tree.Literal as literal
+use Rattle.sdl_ast.specs.declared.tree.Literal.TheVariants as literals
+use Rattle.sdl_ast.specs.declared.tree.Sort as tree_sort
+use Rattle.sdl_ast.specs.declared.tree.Sort.TheVariants as tree_sorts
+use Rattle.sdl_ast.specs.Plain.{PlainSignal, PlainProcess, PlainBlock}
 use Rattle.turn_code.specs.declared.value.Sort.{Sort}
 use Rattle.turn_code.specs.declared.value.Sort.TheVariants.{Integer, Boolean}
 use Rattle.turn_code.specs.declared.value.Value.{Value}

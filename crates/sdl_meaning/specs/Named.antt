@@ -2,18 +2,18 @@
 -- question.
 use Rattle.std.specs.Prelude.{◌≡◌, ℕ, ◌<◌, ◌≤◌, true, false, List, [], ◌∷◌, length, All, Contains}
 use Rattle.std.specs.Prelude.{Option, None, Some, IsSome, slice_get}
-use Rattle.sdl_sound.specs.sdl_ast_types.expression.Identifier.{Identifier}
-use Rattle.sdl_sound.specs.sdl_ast_types.tree.Party as tree_party
-use Rattle.sdl_sound.specs.sdl_ast_types.tree.Destination.{Destination}
-use Rattle.sdl_sound.specs.sdl_ast_types.tree.Destination.TheVariants as address
-use Rattle.sdl_sound.specs.sdl_ast_types.tree.End.{End}
-use Rattle.sdl_sound.specs.sdl_ast_types.tree.End.TheVariants.{NextState, Stop, Join}
-use Rattle.sdl_sound.specs.sdl_ast_types.tree.Join as tree_join
-use Rattle.sdl_sound.specs.sdl_ast_types.tree.Range.{Range}
-use Rattle.sdl_sound.specs.Plain.{Tree, number, truth, variable, unary, binary, PlainAssignment}
-use Rattle.sdl_sound.specs.Plain.{PlainSending, PlainAction, task, output, set_timer, reset_timer}
-use Rattle.sdl_sound.specs.Plain.{Text, falls, ends, does, decides, Choice, nothing_else, otherwise}
-use Rattle.sdl_sound.specs.Plain.{answer, PlainConnection}
+use Rattle.sdl_ast.specs.declared.expression.Identifier.{Identifier}
+use Rattle.sdl_ast.specs.declared.tree.Party as tree_party
+use Rattle.sdl_ast.specs.declared.tree.Destination.{Destination}
+use Rattle.sdl_ast.specs.declared.tree.Destination.TheVariants as address
+use Rattle.sdl_ast.specs.declared.tree.End.{End}
+use Rattle.sdl_ast.specs.declared.tree.End.TheVariants.{NextState, Stop, Join}
+use Rattle.sdl_ast.specs.declared.tree.Join as tree_join
+use Rattle.sdl_ast.specs.declared.tree.Range.{Range}
+use Rattle.sdl_ast.specs.Plain.{Tree, number, truth, variable, unary, binary, PlainAssignment}
+use Rattle.sdl_ast.specs.Plain.{PlainSending, PlainAction, task, output, set_timer, reset_timer}
+use Rattle.sdl_ast.specs.Plain.{Text, falls, ends, does, decides, Choice, nothing_else, otherwise}
+use Rattle.sdl_ast.specs.Plain.{answer, PlainConnection}
 use Rattle.turn_code.specs.declared.input.Address.{Address}
 use Rattle.std.specs.List.{flat_map}
 use Rattle.plain_laws.specs.Limits.{MOST_PARAMETERS}

@@ -1,8 +1,8 @@
 -- The scope of a transition, the end of a walk, the outcome of a part of a transition, and names
 -- (Z.100, transitions).
 use Rattle.std.specs.Prelude.{ℕ, Option}
-use Rattle.sdl_sound.specs.sdl_ast_types.expression.Identifier.{Identifier}
-use Rattle.sdl_sound.specs.Plain.{PlainProcess, PlainBlock}
+use Rattle.sdl_ast.specs.declared.expression.Identifier.{Identifier}
+use Rattle.sdl_ast.specs.Plain.{PlainProcess, PlainBlock}
 use Rattle.turn_code.specs.declared.machine.End as code_end
 use Rattle.turn_code.specs.declared.trouble.Trouble.{Trouble}
 use Rattle.turn_code.specs.Run.{Progress}

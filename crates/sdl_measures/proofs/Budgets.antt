@@ -17,11 +17,11 @@ use Rattle.sdl_sound.specs.Sorts.{is_truth}
 use Rattle.sdl_sound.specs.Longest.{cost_of, tests_budget, budget, case_budget, pick_budget, jump_size, tests_size, size, bodies_size, joined_by, joined, text_budget, text_size}
 use Rattle.sdl_sound.specs.Joins.{joins_at, comes_by, comes, reaches, reached, comes_back, connection_cycles, process_cycles}
 use Rattle.sdl_sound.specs.Orders.{links_of}
-use Rattle.sdl_joins.proofs.Connectors.{numbered, comes_by_number, comes_is, links_length}
+use Rattle.sdl_measures.proofs.Connectors.{numbered, comes_by_number, comes_is, links_length}
 use Rattle.sdl_sound.proofs.Numbered.{nowhere, folded_same, name_back, unnumbered}
 use Rattle.sdl_sound.proofs.Items.{Each, each_front, each_back, each_with, each_nil, each_at_place as get_each}
 use Rattle.sdl_sound.proofs.Lists.{any_at}
-use Rattle.sdl_joins.proofs.Ways.{goes_any}
+use Rattle.sdl_measures.proofs.Ways.{goes_any}
 use Rattle.plain_laws.proofs.Places.{among_at}
 use Rattle.std.proofs.lemmas.Bool.{and_from as both_true, or_left as left_true, or_right as right_true}
 

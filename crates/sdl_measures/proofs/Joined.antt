@@ -12,7 +12,7 @@ use Rattle.sdl_ast.specs.declared.tree.End.TheVariants as how
 use Rattle.sdl_ast.specs.Plain.{Text, falls, ends, does, decides, Choice, nothing_else, otherwise, answer, PlainConnection, PlainProcess}
 use Rattle.sdl_tables.specs.Names.{Variable, variables_of, number_of, connector_names, connection_named}
 use Rattle.sdl_tables.specs.Scopes.{repeats}
-use Rattle.sdl_joins.specs.JoinLists.{text_joins, choice_joins}
+use Rattle.sdl_measures.specs.JoinLists.{text_joins, choice_joins}
 use Rattle.sdl_sound.specs.Longest.{cost_of, end_count, tests_budget, budget, case_budget, pick_budget, depth, choice_depth, effects, choice_effects, size, joined_by, joined, text_depth, text_effects}
 use Rattle.sdl_sound.specs.Sorts.{is_truth}
 use Rattle.sdl_sound.specs.Orders.{IsOrder}
@@ -20,8 +20,8 @@ use Rattle.sdl_measures.specs.Measures.{capped, IsMeasureOf, AreMeasures}
 use Rattle.sdl_measures.specs.Counting.{IsMeasured, measure_at, measure_named, depth_named, effects_named, no_measure}
 use Rattle.sdl_measures.specs.declared.measures.Measure.{Measure}
 use Rattle.sdl_sound.proofs.Lists.{get_one}
-use Rattle.sdl_joins.proofs.Joining.{joins_are}
-use Rattle.sdl_joins.proofs.Connectors.{numbered, own_number}
+use Rattle.sdl_measures.proofs.Joining.{joins_are}
+use Rattle.sdl_measures.proofs.Connectors.{numbered, own_number}
 use Rattle.sdl_sound.proofs.Numbered.{unnumbered}
 use Rattle.plain_laws.proofs.Places.{get_set_same, get_set_other}
 use Rattle.plain_laws.proofs.Pairwise.{zip_by, zip_at, zip_length}

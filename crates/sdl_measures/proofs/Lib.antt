@@ -1,5 +1,12 @@
 pub mod Budgets
+pub mod Connectors
 pub mod Joined
+pub mod Joining
+pub mod MarkCounts
+pub mod Marking
 pub mod Measuring
+pub mod Ordering
 pub mod Passing
+pub mod Returning
 pub mod Texts
+pub mod Ways

@@ -6,7 +6,7 @@ ghost use Rattle.sdl_ast.specs.Views.{text_of, stimulus_of, input_of, process_of
 ghost use Rattle.sdl_tables.specs.Names.{connector_names, processes_of, signals_of, states_of, variables_of, timers_of};
 ghost use Rattle.sdl_tables.specs.Rows.{rows_inputs, stimulus_inputs};
 ghost use Rattle.sdl_tables.specs.Scopes.{repeats};
-ghost use Rattle.sdl_joins.specs.Links.{graph_in, IsGraph};
+ghost use Rattle.sdl_measures.specs.Links.{graph_in, IsGraph};
 ghost use Rattle.sdl_sound.specs.Orders.{links_of};
 ghost use Rattle.sdl_sound.specs.Longest.{Piece, pieces_of, start_piece, input_piece};
 ghost use Rattle.sdl_measures.specs.Measures.{capped, AreMeasures, AllMeasures};
@@ -18,9 +18,9 @@ ghost use Rattle.sdl_sound.specs.declared.fault.Limit.TheVariants.{Instances};
 ghost use Rattle.sdl_sound.specs.Limits.{exceeds, wrong_instances, number_limits, later_limits, first_limit};
 
 use crate::counts::{places_cost, places_depth};
+use crate::joins::{find_links, reached_in};
 use crate::measures::{Measure, NOTHING, measure_transition};
 use sdl_ast::{Identifier, InputPart, SignalDeclaration, Stimulus, Transition};
-use sdl_joins::{find_links, reached_in};
 use sdl_sound::{Limit, standing_inputs};
 use sdl_tables::{BlockTable, InputRow, ProcessTable};
 use std::alloc::{AllocError, Global};

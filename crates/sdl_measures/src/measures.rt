@@ -10,7 +10,7 @@ ghost use Rattle.sdl_sound.specs.Orders.{IsOrder, AreOrders};
 
 use crate::counts;
 use sdl_ast::{Action, Answer, Decision, End, Identifier, Range, Statement, Transition};
-use sdl_sorts::is_truth;
+use sdl_scopes::is_truth;
 use sdl_sound::{both, one_of};
 use sdl_tables::{BlockTable, ProcessTable};
 use std::alloc::{AllocError, Global};

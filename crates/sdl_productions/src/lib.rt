@@ -1,5 +1,5 @@
 //! Reads single tokens and expressions, keeps the state of a transition that is being read, and defines each production
-//! as a reading of tokens. `sdl_readers` reads the productions.
+//! as a reading of tokens. `sdl_tree` reads the productions.
 #![tactic(auto)]
 
 mod bodies;

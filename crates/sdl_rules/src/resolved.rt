@@ -8,14 +8,12 @@ ghost use Rattle.sdl_unset.specs.Surveys.{AllSettled};
 ghost use Rattle.sdl_sound.specs.Sound.{Sound};
 ghost use Rattle.sdl_sound.specs.Refusals.{IsDistinct, IsSingle, IsJoined, IsDivided, IsWithin, Refuses};
 
+use crate::lost::lost_output;
+use crate::statements::{bad_divisor, doubtful_output, missing_answer, unknown_name, wrong_sort};
 use sdl_ast::{Block, Route, SignalDeclaration};
-use sdl_joins::find_orders;
-use sdl_measures::{Measure, first_limit, measure_all};
+use sdl_measures::{Measure, find_orders, first_limit, measure_all};
 use sdl_scopes::stray_end;
 use sdl_sound::RuleFault;
-use sdl_statements::{
-    bad_divisor, doubtful_output, lost_output, missing_answer, unknown_name, wrong_sort,
-};
 use sdl_tables::{BlockTable, NameTable, ProcessTable};
 use sdl_unset::{Unset, settle};
 use std::alloc::Global;

@@ -1,2 +1,4 @@
+pub mod Answered
 pub mod Knowing
+pub mod Pairs
 pub mod Straying

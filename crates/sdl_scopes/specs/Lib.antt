@@ -3,3 +3,4 @@ pub mod Known
 pub mod Parties
 pub mod Reaches
 pub mod Rests
+pub mod Times

@@ -4,8 +4,8 @@ use Rattle.std.specs.Prelude.{All, Contains, find, slice_get}
 use Rattle.std.specs.List.{list_any, flat_map}
 use Rattle.std.proofs.lemmas.List.Elements.{All-nil, All-cons, All-contains}
 use Rattle.std.proofs.lemmas.Option.{none-some, same_Some}
-pub use Rattle.sdl_tables.proofs.Lists.{append-nil_left as nil_front, append-nil_right as nil_back}
-use Rattle.sdl_tables.proofs.Truths.{neither_first as or_left, neither_second as or_right}
+pub use Rattle.plain_laws.proofs.Lists.{append-nil_left as nil_front, append-nil_right as nil_back}
+use Rattle.plain_laws.proofs.Truths.{neither_first as or_left, neither_second as or_right}
 
 abbrev pub Each : {A : Type 0} → (A → Type 0) → List A → Type 0
 Each P [] = Unit {0}

@@ -4,9 +4,9 @@ use Rattle.std.specs.Prelude.{slice_get, slice_set, Contains, All}
 use Rattle.std.specs.List.{list_any}
 use Rattle.std.proofs.lemmas.List.Folds.{list_any_at}
 use Rattle.std.proofs.lemmas.Bool.{or_cases}
-pub use Rattle.sdl_tables.proofs.Places.{get_set_same, get_set_other, among_at, at_among, last_at as get_push_new}
-pub use Rattle.sdl_tables.proofs.Pairwise.{zip_push}
-pub use Rattle.sdl_tables.proofs.Lists.{mapped_more}
+pub use Rattle.plain_laws.proofs.Places.{get_set_same, get_set_other, among_at, at_among, last_at as get_push_new}
+pub use Rattle.plain_laws.proofs.Pairwise.{zip_push}
+pub use Rattle.plain_laws.proofs.Lists.{mapped_more}
 pub use Rattle.std.proofs.lemmas.Bool.{or_left, or_right}
 
 pub get_push_old : {A : Type 0} (xs : List A) (x y : A) (i : ℕ) → slice_get xs i ≡ Some y → slice_get (xs ++ x ∷ []) i ≡ Some y

@@ -8,9 +8,9 @@ use Rattle.std.proofs.lemmas.List.Folds.{list_any-append}
 use Rattle.std.proofs.lemmas.List.Quantifiers.{position-Some}
 use Rattle.std.proofs.lemmas.Option.{none-some, same_Some, slice_get-get_or, slice_get-map}
 use Rattle.std.proofs.lemmas.Slice.Eq.{bytes_eq-Decides}
-use Rattle.sdl_tables.proofs.Lists.{append-nil_left, append-nil_right, no_mark}
-use Rattle.sdl_tables.proofs.Searches.{first_within}
-use Rattle.sdl_tables.specs.Spelling.{folded}
+use Rattle.plain_laws.proofs.Lists.{append-nil_left, append-nil_right, no_mark}
+use Rattle.plain_laws.proofs.Searches.{first_within}
+use Rattle.sdl_lex.specs.Spelling.{folded}
 use Rattle.sdl_tables.specs.sdl_ast_types.expression.Identifier.{Identifier}
 use Rattle.sdl_tables.specs.Plain.{PlainConnection, PlainProcess}
 use Rattle.sdl_tables.specs.Names.{same_name, is_in, number_of, connector_names, connection_named}

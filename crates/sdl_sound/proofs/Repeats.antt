@@ -1,2 +1,2 @@
 -- Re-exports lemmas on empty lists of places.
-pub use Rattle.sdl_tables.proofs.Lists.{append-nil_left, append-nil_right}
+pub use Rattle.plain_laws.proofs.Lists.{append-nil_left, append-nil_right}

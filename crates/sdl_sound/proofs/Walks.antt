@@ -4,7 +4,7 @@ use Rattle.std.proofs.lemmas.Bool.{and_from, or_right}
 use Rattle.std.proofs.Math.Bool.{and_assoc, or_assoc}
 use Rattle.sdl_tables.specs.Names.{same_name}
 use Rattle.sdl_sound.specs.Paths.{Event, reads, sets, reads_first, sets_in}
-use Rattle.sdl_tables.proofs.Truths.{not_or, set_now}
+use Rattle.plain_laws.proofs.Truths.{not_or, set_now}
 
 pub sets_in-append : (xs ys : List Event) (x : List ℕ) → not (sets_in (xs ++ ys) x) ≡ (not (sets_in xs x) && not (sets_in ys x))
 sets_in-append [] ys x = refl

@@ -3,7 +3,7 @@
 use Rattle.std.specs.Prelude.{ℕ, Bool, true, false, not, ◌&&◌, List, [], ◌∷◌, ◌++◌, if◌then◌else◌}
 use Rattle.std.specs.Prelude.{nat_lt, nat_le}
 use Rattle.std.specs.List.{flat_map}
-use Rattle.sdl_tables.specs.LexLimits.{GREATEST_NUMBER}
+use Rattle.sdl_lex.specs.Limits.{GREATEST_NUMBER}
 use Rattle.sdl_tables.specs.sdl_ast_types.expression.BinaryOperator.{BinaryOperator}
 use Rattle.sdl_tables.specs.sdl_ast_types.expression.BinaryOperator.TheVariants.{Or, Xor, And}
 use Rattle.sdl_tables.specs.sdl_ast_types.expression.BinaryOperator.TheVariants.{Equal, NotEqual}

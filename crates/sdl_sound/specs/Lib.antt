@@ -23,7 +23,4 @@ pub mod Spellings
 pub mod Standing
 pub mod Statements
 pub use Rattle.sdl_tables.specs.Names as TableNames
-pub use Rattle.sdl_tables.specs.Places
-pub use Rattle.sdl_tables.specs.Plain
 pub use Rattle.sdl_tables.specs.Scopes
-pub use Rattle.sdl_tables.specs.sdl_ast_types

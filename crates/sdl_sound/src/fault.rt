@@ -2,7 +2,8 @@
 ghost use Rattle.std.specs.Prelude.{◌≡◌, Some};
 ghost use Rattle.sdl_sound.specs.Printed.{limit_text, step_text, path_text, fault_text};
 
-use sdl_tables::{Name, TableFault};
+use sdl_lex::Name;
+use sdl_tables::TableFault;
 use std::alloc::AllocError;
 use std::fmt;
 use thiserror::Error;

@@ -9,9 +9,4 @@ pub mod Repeats
 pub mod RouteKeys
 pub mod States
 pub mod Tables
-pub use Rattle.plain_laws.proofs.Lists
-pub use Rattle.plain_laws.proofs.Pairwise
-pub use Rattle.plain_laws.proofs.Places
-pub use Rattle.plain_laws.proofs.Searches
-pub use Rattle.plain_laws.proofs.Truths
 pub use Rattle.sdl_ast.proofs.Views

@@ -21,4 +21,4 @@ pub use name_table::NameTable;
 pub use party_table::PartyTable;
 pub use process_table::{InputRow, ProcessTable, Variable};
 pub use scope::earlier;
-pub use sdl_ast::{BinaryOperator, InputPart, Name, StateClause, StatePart};
+pub use sdl_ast::{BinaryOperator, InputPart, StateClause, StatePart};

@@ -3,6 +3,8 @@ pub mod LowHeights
 pub mod LoweredActions
 pub mod ParseLemmas
 pub mod PartMarks
+pub mod StepLemmas
+pub mod StepTurns
 pub mod SyntaxDecides
 pub mod TextDecides
 pub mod TextMarks

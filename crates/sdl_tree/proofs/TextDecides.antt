@@ -15,7 +15,7 @@ use Rattle.sdl_productions.specs.Machine.{whole_trees, expression_at}
 use Rattle.sdl_productions.specs.Readings.{Reading, read, then_read, either, choice, give, optional}
 use Rattle.sdl_productions.specs.Productions.{action_at, question_at, head_at, end_decision_at, end_at, head_step, closing_step, answer_step, body_step, behind_step, end_step, decision_step, action_step, step_at, after_move, steps_for, steps_from, at_first, text_at}
 use Rattle.sdl_productions.proofs.Decides.{Seen, Decides, optional_decides}
-use Rattle.sdl_readers.proofs.StepLemmas.{from_step, from_reaches, steps_look}
+use Rattle.sdl_tree.proofs.StepLemmas.{from_step, from_reaches, steps_look}
 use Rattle.sdl_tree.proofs.TextSteps.{Leaves, step_looks, all_before-more, all_answers-more, split, Closed, Chosen, Answered, InBody, Behind, Stands, Follows, carried, closing_sound, head_begins}
 
 -- The body after a head is part of the remaining answers.

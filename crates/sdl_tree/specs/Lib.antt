@@ -1,5 +1,6 @@
 pub mod DeclarationSyntax
 pub mod Printed
 pub mod Refusals
+pub mod SectionViews
 pub mod Settled
 pub mod Syntax

@@ -1,15 +1,24 @@
-//! The parser for SDL process texts: it turns the tokens of a text into its syntax tree.
+//! The productions of process texts, each read from the first tokens on, and the parser, held against the
+//! grammar.
 #![tactic(auto)]
 
+mod actions;
+mod answers;
+mod attempt;
+mod blocks;
+mod declarations;
+mod endings;
 mod fault;
 mod parsing;
+mod production;
+mod sections;
+mod statements;
+mod transitions;
 
 pub use fault::ParseFault;
 pub use parsing::{parse, reads_once};
 pub use sdl_ast::{
-    Action, Answer, Assignment, BinaryOperator, Block, Connect, Connection, Constant, Decision,
-    Declaration, Destination, End, Entity, Expression, Group, Identifier, InputPart, Join, Literal,
-    MAX_HEIGHT, NextState, Output, Party, Path, Process, Range, Relation, ResetTimer, Route,
-    Sending, SetTimer, SignalDeclaration, Sort, Start, StateClause, StatePart, Statement, Stimulus,
-    Task, Transition, UnaryOperator,
+    Action, Answer, Assignment, BinaryOperator, Block, Decision, Destination, End, Expression,
+    Identifier, Literal, Output, Party, Process, Range, Sending, SignalDeclaration, Sort,
+    StateClause, Statement, Stimulus, Transition, UnaryOperator,
 };

@@ -6,11 +6,11 @@ ghost use Rattle.sdl_tree.specs.Settled.{Settled};
 ghost use Rattle.sdl_tree.specs.Syntax.{Reads};
 ghost use Rattle.sdl_ast.specs.Views.{block_of};
 
+use crate::blocks::read_block;
 use crate::fault::ParseFault;
 use sdl_ast::Block;
 use sdl_lex::Token;
 use sdl_productions::{Marked, Stop};
-use sdl_readers::read_block;
 use std::alloc::Global;
 
 /// The tree of all tokens, or the reason why there is none.

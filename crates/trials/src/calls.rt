@@ -1,9 +1,10 @@
 //! Calls of a terminal, and why they stop a trial. Trials show behaviour that no contract states.
 ghost use Rattle.std.specs.Prelude.{◌≤◌, length};
 
-use link_standard::{
-    CallError, Command, Mode, Msu, NewError, OpenError, Report, Terminal, new_terminal,
-};
+use link_processes::Command;
+use link_transceiver::Report;
+use link_whole::{CallError, NewError, OpenError, Terminal, new_terminal};
+use resend_store::{Mode, Msu};
 use std::alloc::{AllocError, Global};
 
 /// Why a trial stopped.

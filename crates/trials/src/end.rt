@@ -5,7 +5,10 @@ use crate::calls::{Stopped, hear, next_report, pass, put, speak, tell, terminal,
 use crate::figures::Figures;
 use crate::noise::Noise;
 use arrayvec::ArrayVec;
-use link_standard::{Command, LinkStatus, Mode, Msu, Report, Terminal};
+use link_processes::Command;
+use link_transceiver::{LinkStatus, Report};
+use link_whole::Terminal;
+use resend_store::{Mode, Msu};
 use std::alloc::Global;
 
 /// The greatest number of unacknowledged or unsent messages that an end keeps.

@@ -7,8 +7,8 @@ use crate::calls::Stopped;
 use crate::events::read::{events_of, limits_of};
 use crate::events::told::write_replies;
 use crate::texts::text_of;
-use actor_book::run_events;
-use actor_headline::{Book, LoadFault, TextRun, run_text};
+use actor_book::{Book, run_events};
+use link_whole::{LoadFault, TextRun, run_text};
 use std::alloc::Global;
 
 /// Rebases a book, makes the events of these lines, and writes the answers.

@@ -2,7 +2,7 @@
 ghost use Rattle.std.specs.Prelude.{◌≡◌, ◌≤◌, length};
 
 use arrayvec::ArrayVec;
-use link_standard::Msu;
+use resend_store::Msu;
 
 /// A message with a field of this many octets, 2 to 272: its number twice, followed by as much of the filler as needed.
 pub fn message_of(number: u8, octets: u16, filler: &[u8; 270]) -> Msu

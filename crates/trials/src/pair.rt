@@ -5,7 +5,7 @@ use crate::end::End;
 use crate::lines::make_run;
 use crate::reports::do_steps;
 use crate::run::Run;
-use link_standard::Mode;
+use resend_store::Mode;
 use std::alloc::Global;
 
 /// Both ends.

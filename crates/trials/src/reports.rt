@@ -4,7 +4,9 @@ use crate::calls::{Stopped, hear, next_report, pass, put, speak, tell};
 use crate::message::message_of;
 use crate::pair::{Pair, try_pair};
 use crate::steps::{Step, step_of};
-use link_standard::{LinkStatus, Mode, Report, Terminal};
+use link_transceiver::{LinkStatus, Report};
+use link_whole::Terminal;
+use resend_store::Mode;
 use std::alloc::{AllocError, Global};
 
 /// The number of units each way in an exchange, so that some of them are whole on the line.

@@ -1,6 +1,6 @@
 //! Runs as they are written.
 
-use link_standard::Mode;
+use resend_store::Mode;
 use std::str::SplitWhitespace;
 
 /// A run over a line.

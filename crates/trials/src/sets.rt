@@ -1,10 +1,10 @@
 //! Link sets over the program's own set of processes.
 
 use crate::calls::Stopped;
-use link_standard::{Verified, standard};
-use mtp2_text::q703;
+use mtp2_text::{q703, standard};
 use std::alloc::Global;
 use trials_groups::{Stopped as SetStopped, make_calls, run_script, run_sets, run_tended};
+use turn_check::Verified;
 
 /// Why a trial of sets stopped.
 pub fn why_stopped(stopped: SetStopped) -> Stopped {

@@ -2,7 +2,7 @@
 
 use crate::figures::{Figures, Wrong};
 use crate::run::Run;
-use link_standard::Mode;
+use resend_store::Mode;
 use std::alloc::AllocError;
 
 /// The word of a mode.

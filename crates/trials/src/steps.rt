@@ -5,7 +5,7 @@
 //! line octets; `show` shows its reports. If the first line is `cyclic`, both ends use preventive cyclic
 //! retransmission.
 
-use link_standard::Command;
+use link_processes::Command;
 
 /// A step with the two ends.
 #[derive(Clone, Copy)]

@@ -1,7 +1,9 @@
 //! Texts by name, and the sets of texts that are accepted.
 
 use crate::calls::Stopped;
-use link_standard::{LoadFault, OwnSet, Verified};
+use link_whole::LoadFault;
+use mtp2_text::OwnSet;
+use turn_check::Verified;
 
 /// The text of the program's own set with this name; otherwise the source itself is the text.
 pub fn text_of(source: &str) -> &str {

@@ -4,7 +4,8 @@ use crate::calls::Stopped;
 use crate::each_call::{WAY, bring_up, change_over, fill, give_them_up};
 use crate::far_end::FarEnd;
 use crate::opening::open_set;
-use set_tending::{Group, Mode};
+use line_tending::Group;
+use resend_store::Mode;
 use std::alloc::Global;
 use turn_check::Verified;
 

@@ -1,8 +1,9 @@
 //! Calls of a set. One that runs out of memory is made once more, since it changed nothing. Contracts end here.
 
-use set_tending::{
-    AbandonError, CallError, Command, CommandError, Group, LineError, RetrieveError,
-};
+use group_changeover::{AbandonError, LineError, RetrieveError};
+use line_tending::{CommandError, Group};
+use link_processes::Command;
+use link_term::CallError;
 use std::alloc::AllocError;
 
 /// Why a trial stopped.

@@ -1,7 +1,7 @@
 //! The counts at one end.
 
 use crate::messages::{Way, place_of};
-use set_tending::Msu;
+use resend_store::Msu;
 
 /// How many numbers below the next one are remembered as left out or not: 16 times the bits of a word.
 const REMEMBERED: u32 = 1_024;

@@ -5,8 +5,10 @@ use crate::far_end::{FarEnd, fill_in, status};
 use crate::keeping::{Given, Went, divert, give_up, hand_out};
 use crate::messages::{Way, message, place_of};
 use arrayvec::ArrayVec;
-use group_changeover::label_of;
-use set_tending::{Command, Group, LineError, Msu};
+use group_changeover::{LineError, label_of};
+use line_tending::Group;
+use link_processes::Command;
+use resend_store::Msu;
 use std::alloc::AllocError;
 use su_octets::Unit;
 

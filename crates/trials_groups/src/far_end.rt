@@ -2,7 +2,7 @@
 
 use crate::calls::{Stopped, take};
 use bit_line::Stuffer;
-use set_tending::Group;
+use line_tending::Group;
 use su_octets::{Head, Unit};
 
 /// The bits that it puts on the line.

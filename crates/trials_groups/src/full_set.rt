@@ -7,7 +7,8 @@ use crate::keeping::{Given, Went, divert, hand_out};
 use crate::messages::message;
 use crate::opening::open_set;
 use group_changeover::label_of;
-use set_tending::{Group, Mode};
+use line_tending::Group;
+use resend_store::Mode;
 use std::alloc::Global;
 use turn_check::Verified;
 

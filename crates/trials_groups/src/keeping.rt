@@ -1,7 +1,8 @@
 //! Retrieving messages, and diverting them.
 
 use crate::calls::{Stopped, abandon, retrieve};
-use set_tending::{AbandonError, DivertError, Group, RetrieveError};
+use group_changeover::{AbandonError, RetrieveError};
+use line_tending::{DivertError, Group};
 
 /// The result of a retrieval.
 #[derive(Clone, Copy)]

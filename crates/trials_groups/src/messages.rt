@@ -2,7 +2,7 @@
 
 use arrayvec::ArrayVec;
 use group_changeover::label_of;
-use set_tending::Msu;
+use resend_store::Msu;
 
 /// The octets after a message's number; a message has the first few.
 const FILLER: [u8; 24] = [

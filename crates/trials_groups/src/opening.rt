@@ -6,7 +6,9 @@ ghost use Rattle.trials_groups.specs.Opened.{AreNew};
 
 use crate::calls::Stopped;
 use crate::messages::Way;
-use set_tending::{Group, Mode, Terminal};
+use line_tending::Group;
+use link_term::Terminal;
+use resend_store::Mode;
 use std::alloc::Global;
 use turn_check::Verified;
 

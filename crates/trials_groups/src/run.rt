@@ -1,6 +1,6 @@
 //! The runs as written in a text.
 
-use set_tending::Mode;
+use resend_store::Mode;
 use std::str::SplitWhitespace;
 
 /// A run of two sets back to back.

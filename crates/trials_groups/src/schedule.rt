@@ -17,7 +17,7 @@
 use crate::calls::{Stopped, serves};
 use crate::dice::Dice;
 use crate::set_end::{MOST_MAIL, SetEnd};
-use set_tending::Sif;
+use line_tending::Sif;
 
 /// One link is cut, and one cut is healed, in so many rounds on average.
 const CUTS: u32 = 12;

@@ -4,7 +4,9 @@ use crate::calls::{Stopped, pass, serves, speak, take, tell};
 use crate::counts::Counts;
 use crate::messages::{Way, message};
 use group_changeover::label_of;
-use set_tending::{Command, Group, LinkStatus, Report, Sif};
+use line_tending::{Group, Sif};
+use link_processes::Command;
+use link_transceiver::{LinkStatus, Report};
 use std::collections::VecDeque;
 
 /// How many changeover messages may be under way to one end.

@@ -4,7 +4,7 @@ use crate::counts::Counts;
 use crate::run::Run;
 use crate::schedule::Schedule;
 use crate::set_end::SetEnd;
-use set_tending::Mode;
+use resend_store::Mode;
 use std::alloc::AllocError;
 
 /// The word of a mode.

@@ -7,7 +7,7 @@ use crate::tended_channel::Channel;
 use crate::tended_end::TendedEnd;
 use crate::tended_pair::{Faults, Parts, Tie, make_tended_rounds};
 use crate::tended_run::{TendedRun, tended_run_of};
-use set_tending::{Ends, Tender, Wire};
+use line_tending::{Ends, LinkLine, TendedSet};
 use std::alloc::Global;
 use std::collections::VecDeque;
 use turn_check::Verified;
@@ -20,10 +20,10 @@ const FAR: u16 = 16_383;
 /// The octets sent first on lines that deliver as many octets as were sent.
 const AHEAD: [u8; 8] = [0xFF; 8];
 
-fn wires(alloc: Global, links: usize) -> Result<Vec<Wire>, Stopped> {
+fn wires(alloc: Global, links: usize) -> Result<Vec<LinkLine>, Stopped> {
     let mut wires = Vec::new(alloc);
     for _link in 0..links {
-        if wires.push(Wire::new()).is_err() {
+        if wires.push(LinkLine::new()).is_err() {
             return Err(Stopped::NoMemory);
         }
     }
@@ -39,7 +39,7 @@ fn open_end(alloc: Global, set: &Verified, run: TendedRun, way: Way) -> Result<T
         peer: way.to,
         network: 2,
     };
-    let tender = Tender::new(alloc, ends, run.tests, group);
+    let tender = TendedSet::new(alloc, ends, run.tests, group);
     Ok(TendedEnd::new(tender, wires, way, run.loud))
 }
 

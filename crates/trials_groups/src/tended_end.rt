@@ -5,7 +5,9 @@ use crate::counts::Counts;
 use crate::dice::Dice;
 use crate::messages::{Way, message};
 use group_changeover::label_of;
-use set_tending::{Command, Msu, Passed, TendError, Tender, Told, Wire};
+use line_tending::{LineChange, LinkLine, TendError, TendedSet, Told};
+use link_processes::Command;
+use resend_store::Msu;
 
 /// How many octets are sent first on a line.
 const AHEAD: usize = 8;
@@ -13,8 +15,8 @@ const AHEAD: usize = 8;
 /// One end.
 #[derive(Drop)]
 pub struct TendedEnd {
-    pub tender: Tender,
-    wires: Vec<Wire>,
+    pub tender: TendedSet,
+    wires: Vec<LinkLine>,
     pub counts: Counts,
     way: Way,
     /// How many messages may be lost, as reported.
@@ -37,7 +39,7 @@ fn stopped_by(error: TendError) -> Stopped {
 
 impl TendedEnd {
     /// A new end.
-    pub fn new(tender: Tender, wires: Vec<Wire>, way: Way, loud: bool) -> TendedEnd {
+    pub fn new(tender: TendedSet, wires: Vec<LinkLine>, way: Way, loud: bool) -> TendedEnd {
         TendedEnd {
             tender,
             wires,
@@ -93,7 +95,7 @@ impl TendedEnd {
             return Err(Stopped::Refused);
         };
         match wire.pass(&mut self.tender, link, AHEAD, came, out) {
-            Ok(Passed::Silent) => self.silences = self.silences.wrapping_add(1),
+            Ok(LineChange::Silent) => self.silences = self.silences.wrapping_add(1),
             Ok(_) => {}
             Err(error) => return Err(stopped_by(error)),
         }

@@ -5,7 +5,7 @@ use crate::calls::Stopped;
 use crate::dice::Dice;
 use crate::tended_end::TendedEnd;
 use crate::tended_run::TendedRun;
-use set_tending::Command;
+use link_processes::Command;
 
 /// For so many rounds at the beginning links come into service.
 const FIRST: u64 = 15_000;

@@ -1,6 +1,6 @@
 //! The runs of two sets with link management, as written in a text.
 
-use set_tending::Mode;
+use resend_store::Mode;
 use std::str::SplitWhitespace;
 
 /// A run.

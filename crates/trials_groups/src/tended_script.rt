@@ -6,7 +6,9 @@ use crate::messages::{Way, message};
 use crate::opening::open_set;
 use crate::tended_channel::{Channel, Weather};
 use group_changeover::label_of;
-use set_tending::{Command, Ends, Mode, TendError, Tender, Wire};
+use line_tending::{Ends, LinkLine, TendError, TendedSet};
+use link_processes::Command;
+use resend_store::Mode;
 use std::alloc::Global;
 use std::collections::VecDeque;
 use turn_check::Verified;
@@ -25,8 +27,8 @@ const FAR_WAY: Way = Way { from: 2, to: 1 };
 struct Side {
     name: &'static str,
     way: Way,
-    tender: Tender,
-    wires: Vec<Wire>,
+    tender: TendedSet,
+    wires: Vec<LinkLine>,
 }
 
 /// Lines in memory, whose octets arrive as sent: from the near end to the far one, and back.
@@ -58,10 +60,10 @@ fn channels(alloc: Global, links: usize) -> Result<Vec<Channel>, Stopped> {
     Ok(channels)
 }
 
-fn wires(alloc: Global, links: usize) -> Result<Vec<Wire>, Stopped> {
+fn wires(alloc: Global, links: usize) -> Result<Vec<LinkLine>, Stopped> {
     let mut wires = Vec::with_capacity(alloc, links)?;
     for _link in 0..links {
-        if wires.push(Wire::new()).is_err() {
+        if wires.push(LinkLine::new()).is_err() {
             return Err(Stopped::NoMemory);
         }
     }
@@ -83,7 +85,7 @@ fn open_side(
         peer: way.to,
         network: 2,
     };
-    let tender = Tender::new(alloc, ends, true, group);
+    let tender = TendedSet::new(alloc, ends, true, group);
     Ok(Side {
         name,
         way,

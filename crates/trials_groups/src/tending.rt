@@ -4,7 +4,8 @@ use crate::calls::{Stopped, serves};
 use crate::dice::Dice;
 use crate::keeping::{Given, Went, divert, give_up, hand_out};
 use crate::set_end::SetEnd;
-use set_tending::{Group, RetrieveError, Sif};
+use group_changeover::RetrieveError;
+use line_tending::{Group, Sif};
 
 /// Now and then gives up the unsure messages: a late answer may still arrive. Returns whether the rest is retrieved.
 fn give_up_late(group: &mut Group, link: usize, dice: &mut Dice) -> Result<bool, Stopped> {

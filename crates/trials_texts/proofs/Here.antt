@@ -13,12 +13,12 @@ use Rattle.turn_code.specs.declared.draft.DraftSignal.{DraftSignal}
 use Rattle.turn_code.specs.declared.draft.DraftProcess.{DraftProcess}
 use Rattle.turn_code.specs.declared.draft.DraftState.{DraftState}
 use Rattle.turn_code.specs.declared.draft.DraftInput.{DraftInput}
-use Rattle.turn_check.specs.turn_words_types.piece.Piece.{Piece}
-use Rattle.turn_check.specs.turn_words_types.words.Words.{Words}
-use Rattle.turn_check.specs.Bare.{bare_of}
-use Rattle.turn_check.specs.Meant.{AreWordsOf}
-use Rattle.turn_check.specs.Sorts.{AreSortsOf}
-use Rattle.turn_check.specs.Steps.{StandAt}
+use Rattle.turn_code.specs.declared.piece.Piece.{Piece}
+use Rattle.turn_code.specs.declared.words.Words.{Words}
+use Rattle.turn_code.specs.Bare.{bare_of}
+use Rattle.turn_code.specs.Meant.{AreWordsOf}
+use Rattle.turn_code.specs.Sorts.{AreSortsOf}
+use Rattle.turn_code.specs.Steps.{StandAt}
 use Rattle.turn_check.proofs.Whole.{start_small}
 use Rattle.trials_texts.specs.Holding.{HoldAt}
 

@@ -1,9 +1,9 @@
 -- One more operand in words.
 use Rattle.std.proofs.Common.{◌≡◌, ℕ, ◌-◌, ◌≤◌, ℤ, List, [], ◌∷◌, length, take, drop, take_all, get_or, Option, sym, ap, ◌∙◌, subst, arith}
 use Rattle.turn_code.specs.declared.value.Value.{Value}
-use Rattle.turn_check.specs.Bare.{Bare, pushed}
-use Rattle.turn_check.specs.Meant.{word_of, AreWordsOf}
-use Rattle.turn_check.proofs.Standing.{one_more}
+use Rattle.turn_code.specs.Bare.{Bare, pushed}
+use Rattle.turn_code.specs.Meant.{word_of, AreWordsOf}
+use Rattle.turn_code.proofs.Standing.{one_more}
 
 pub put_one : (ops : List Value) (d : Value) (old new : Bare) (z : ℤ) (vs : List (Option Value)) (ps : List Value) → 1 ≤ length ops
     → AreWordsOf old (take (length ops - 1) (drop 1 ops)) vs ps → new ≡ pushed old z → z ≡ word_of (get_or ops 0 d) → AreWordsOf new ops vs ps

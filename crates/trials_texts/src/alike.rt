@@ -3,9 +3,9 @@
 use crate::stepping::Stepped;
 use crate::wording::word_of;
 use turn_code::{
-    Address, After as Sorted, Effect, Machine, Operands, Value, VariableNumber, VariableSet,
+    Address, After as Sorted, BareEffect, Effect, Machine, Next, Operands, Value, VariableNumber,
+    VariableSet, Words,
 };
-use turn_machine::{Given, Next, Words};
 
 /// Whether a step on words and one on values with their sorts have equal results: the next place or the end, the
 /// effect, operands and variables. Takes the machine's operands.
@@ -27,19 +27,19 @@ pub fn are_alike(
 }
 
 /// Whether the effect of the step on words, or its absence, is equal to the effects of the step on values.
-fn same_given(effects: &[Effect], given: Option<Given>, sender: Option<Address>) -> bool {
+fn same_given(effects: &[Effect], given: Option<BareEffect>, sender: Option<Address>) -> bool {
     match (effects, given) {
         ([], None) => true,
-        ([Effect::Output(sending)], Some(Given::Output(signal, to, count, words))) => {
+        ([Effect::Output(sending)], Some(BareEffect::Output(signal, to, count, words))) => {
             sending.signal == signal
                 && Some(sending.receiver) == to.address(sender)
                 && sending.parameters.len() == usize::from(count)
                 && same_words(sending.parameters.as_slice(), &words)
         }
-        ([Effect::Set(timer, delay)], Some(Given::Set(other, word))) => {
+        ([Effect::Set(timer, delay)], Some(BareEffect::Set(other, word))) => {
             *timer == other && *delay == word
         }
-        ([Effect::Reset(timer)], Some(Given::Reset(other))) => *timer == other,
+        ([Effect::Reset(timer)], Some(BareEffect::Reset(other))) => *timer == other,
         _ => false,
     }
 }

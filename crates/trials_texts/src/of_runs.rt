@@ -1,7 +1,8 @@
 //! Tests of turns of loaded texts: the signals that they send, where they end, and how many instructions they run.
 use arrayvec::ArrayVec;
-use mtp2_text::{Verified, load};
+use mtp2_text::load;
 use std::alloc::Global;
+use turn_check::Verified;
 use turn_code::{Address, Effect, End, Party, Place, ProcessNumber, StateNumber, Value};
 use turn_machine::{Done, Job, Received, fits, run};
 

@@ -8,7 +8,8 @@ ghost use Rattle.turn_code.specs.Machine.{HasRoom, HasRoomFor};
 
 use crate::tally::tally_of as steps_of;
 use arrayvec::ArrayVec;
-use mtp2_text::{LoadFault, Verified, load, monitors, standard};
+use mtp2_text::{LoadFault, load, monitors, standard};
+use turn_check::Verified;
 use turn_code::{
     Address, After, DraftVariable, Effect, End, Input, Instruction, Machine, Operands, Party,
     Place, ProcessNumber, Sort, StateNumber, Value, copied_variables, same_variables, step_plain,

@@ -6,13 +6,12 @@ use crate::standing::hold_at;
 use crate::wording::words_with;
 use arrayvec::ArrayVec;
 use turn_check::Verified;
-use turn_code::{Input, Place, ProcessNumber, Value};
-use turn_machine::{After, Piece, Words, step_bare};
+use turn_code::{BareAfter, Input, Piece, Place, ProcessNumber, Value, Words, step_bare};
 
 /// The result of a step on words, and the words after it.
 #[derive(Clone, Copy)]
 pub struct Stepped {
-    pub after: After,
+    pub after: BareAfter,
     pub words: Words,
 }
 

@@ -1,14 +1,13 @@
 //! Words that represent values.
 
 ghost use Rattle.std.specs.Prelude.{◌≡◌, ℕ, ◌<◌, ◌≤◌, [], List, Option as Maybe, Some, length, slice_get};
-ghost use Rattle.turn_check.specs.Bare.{bare_of, pushed};
-ghost use Rattle.turn_check.specs.Meant.{word_of, AreWordsOf};
-ghost use Rattle.turn_check.specs.Limits.{MOST_OPERANDS, MOST_PARAMETERS, MOST_VARIABLES};
+ghost use Rattle.turn_code.specs.Bare.{bare_of, pushed};
+ghost use Rattle.turn_code.specs.Meant.{word_of, AreWordsOf};
+ghost use Rattle.plain_laws.specs.Limits.{MOST_OPERANDS, MOST_PARAMETERS, MOST_VARIABLES};
 ghost use Rattle.turn_code.specs.declared.value.Value.{Value as AnyValue};
 ghost use Rattle.turn_machine.specs.Wording.{kept_value, IsKeptTo};
 
-use turn_code::{Input, Value};
-use turn_machine::Words;
+use turn_code::{Input, Value, Words};
 
 /// The words of an input, with these operands, topmost first.
 pub fn words_with(input: &Input, operands: &[Value]) -> Words

@@ -6,8 +6,8 @@ use Rattle.turn_code.specs.Valid.{IsValid}
 use Rattle.turn_code.specs.declared.draft.Draft.{Draft}
 use Rattle.turn_code.specs.declared.draft.DraftProcess.{DraftProcess}
 use Rattle.turn_code.specs.declared.draft.DraftSignal.{DraftSignal}
-use Rattle.turn_words.specs.Sorts.{sort_bits, sorts_of, AreBitsOf, AreSortsOf}
-use Rattle.turn_words.specs.declared.sorts.Sorts.{Sorts}
+use Rattle.turn_code.specs.Sorts.{sort_bits, sorts_of, AreBitsOf, AreSortsOf}
+use Rattle.turn_code.specs.declared.sorts.Sorts.{Sorts}
 use Rattle.turn_check.specs.Sorted.{AreVariableBits, IsSorted}
 use Rattle.turn_check.proofs.Whole.{start_small}
 

@@ -3,7 +3,7 @@ use Rattle.std.specs.Prelude.{◌≡◌, ℕ, List, Some, slice_get}
 use Rattle.turn_code.specs.Valid.{IsValid}
 use Rattle.turn_code.specs.declared.draft.Draft.{Draft}
 use Rattle.turn_code.specs.declared.draft.DraftProcess.{DraftProcess}
-use Rattle.turn_words.specs.Sorts.{sort_bits, sorts_of, AreBitsOf}
+use Rattle.turn_code.specs.Sorts.{sort_bits, sorts_of, AreBitsOf}
 
 -- the element of each process has the bits of its variables
 abbrev pub AreVariableBits : List DraftProcess → List ℕ → Type 0

@@ -6,7 +6,7 @@ ghost use Rattle.turn_code.specs.Transitions.{parameters_of};
 ghost use Rattle.turn_code.specs.Start.{initial_values};
 ghost use Rattle.turn_check.specs.Named.{variables_at, inputs_at};
 ghost use Rattle.turn_check.specs.Answered.{same_trigger, input_for};
-ghost use Rattle.turn_words.specs.Limits.{MOST_VARIABLES};
+ghost use Rattle.turn_code.specs.Limits.{MOST_VARIABLES};
 
 use crate::verified::Verified;
 use arrayvec::ArrayVec;

@@ -12,5 +12,4 @@ mod walk;
 pub use answers::initial_values_of;
 pub use fault::{Spot, VerifyFault};
 pub use turn_rules::Transition;
-pub use turn_words::{After, Given, Next, Piece, Sorts, Words, step_bare, value_of};
 pub use verified::{Verified, verify};

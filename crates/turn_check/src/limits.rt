@@ -3,7 +3,7 @@
 ghost use Rattle.std.specs.Prelude.{◌≡◌, ◌<◌, ◌≤◌, ◌+◌, ◌↔◌, length, All, sum_by, IsTrue, IfSome, IfNone};
 ghost use Rattle.turn_code.specs.Rules.{pieces_of, inputs_of, KeepsSetLimits};
 ghost use Rattle.turn_code.specs.declared.draft.DraftSignal.{DraftSignal};
-ghost use Rattle.turn_words.specs.Limits.{MOST_PARAMETERS};
+ghost use Rattle.turn_code.specs.Limits.{MOST_PARAMETERS};
 
 use turn_code::{Draft, DraftProcess, DraftSignal, DraftState};
 

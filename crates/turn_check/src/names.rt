@@ -2,7 +2,7 @@
 
 ghost use Rattle.std.specs.Prelude.{◌≡◌, ◌≤◌, length, option_copied, slice_get};
 ghost use Rattle.turn_check.specs.Named.{instances_at, states_at, timer_names, saves_at, variables_at, inputs_at, process_names, signal_names, variable_names, state_names, trigger_at, trigger_name};
-ghost use Rattle.turn_words.specs.Limits.{MOST_INSTANCES};
+ghost use Rattle.turn_code.specs.Limits.{MOST_INSTANCES};
 
 use crate::verified::Verified;
 use turn_code::{

@@ -5,20 +5,22 @@ ghost use Rattle.turn_code.specs.Transitions.{Transition as Plain, transition_at
 ghost use Rattle.turn_rules.specs.Seen.{seen};
 ghost use Rattle.turn_code.specs.Valid.{IsValid};
 ghost use Rattle.turn_code.specs.declared.draft.DraftProcess.{DraftProcess as PlainProcess};
-ghost use Rattle.turn_words.specs.Sorts.{AreSortsOf};
+ghost use Rattle.turn_code.specs.Sorts.{AreSortsOf};
 ghost use Rattle.turn_check.specs.Earliest.{IsFirstFault};
 ghost use Rattle.turn_check.specs.Faults.{IsBroken};
 ghost use Rattle.turn_check.specs.Sorted.{AreVariableBits};
-ghost use Rattle.turn_words.specs.Limits.{MOST_PROCESSES, MOST_VARIABLES};
+ghost use Rattle.turn_code.specs.Limits.{MOST_PROCESSES, MOST_VARIABLES};
 
 use crate::fault::VerifyFault;
 use crate::walk::check_draft;
 use std::alloc::AllocError;
 use std::marker::Model;
 use turn_code::laws::{path_law, safe_law};
-use turn_code::{Cert, Draft, DraftProcess, DraftSignal, Place, ProcessNumber, StateNumber};
+use turn_code::{
+    Cert, Draft, DraftProcess, DraftSignal, Place, ProcessNumber, Sorts, StateNumber,
+    parameter_bits, variable_bits,
+};
 use turn_rules::{Transition, input_transition, start_transition};
-use turn_words::{Sorts, parameter_bits, variable_bits};
 
 /// A valid draft, which contracts see as that draft, with bits for the sorts of parameters and variables. Only `verify`
 /// makes one.

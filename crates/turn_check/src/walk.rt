@@ -9,7 +9,7 @@ ghost use Rattle.turn_rules.specs.Seen.{seen};
 ghost use Rattle.turn_check.specs.Faults.{IsBroken};
 ghost use Rattle.turn_check.specs.Earliest.{IsFirstFault, IsFirstAt, IsFirstOfState, IsFirstOfProcess};
 ghost use Rattle.turn_check.specs.Walk.{IsValidAt, IsValidState, IsValidProcess};
-ghost use Rattle.turn_words.specs.Limits.{MOST_VARIABLES};
+ghost use Rattle.turn_code.specs.Limits.{MOST_VARIABLES};
 
 use crate::fault::{Spot, VerifyFault};
 use crate::limits::keeps_set_limits;

@@ -1,9 +1,11 @@
 pub mod At
+pub mod Bare
 pub mod Code
 pub mod Division
 pub mod Effects
 pub mod Fits
 pub mod Machine
+pub mod Meant
 pub mod Operation
 pub mod Outcome
 pub mod Paths
@@ -12,8 +14,11 @@ pub mod Rules
 pub mod Run
 pub mod Safe
 pub mod Sets
+pub mod Sorts
 pub mod Start
+pub mod Steps
 pub mod Taken
 pub mod Transitions
 pub mod Valid
 pub mod Values
+pub use Rattle.plain_laws.specs.Limits

@@ -1,9 +1,9 @@
 -- What a valid draft keeps, rule by rule, at each place of each transition.
 use Rattle.std.specs.Prelude.{◌≡◌, ℕ, ◌+◌, ◌<◌, ◌≤◌, pos, ◌≤ℤ◌, max, List, [], ◌∷◌, length, map}
 use Rattle.std.specs.Prelude.{sum_by, All, Contains, Option, Some, None, IfSome, slice_get}
-use Rattle.plain_laws.specs.Limits.{MOST_EFFECTS, MOST_INSTANCES, MOST_INSTRUCTIONS}
-use Rattle.plain_laws.specs.Limits.{MOST_OPERANDS, MOST_PARAMETERS, MOST_PIECES, MOST_PROCESSES}
-use Rattle.plain_laws.specs.Limits.{MOST_SIGNALS, MOST_STATES, MOST_TIMERS_EACH, MOST_VARIABLES}
+use Rattle.plain_laws.specs.Limits.{MOST_EFFECTS, MOST_INSTANCES, MOST_INSTRUCTIONS, MOST_OPERANDS}
+use Rattle.plain_laws.specs.Limits.{MOST_PARAMETERS, MOST_PIECES, MOST_PROCESSES, MOST_SIGNALS}
+use Rattle.plain_laws.specs.Limits.{MOST_STATES, MOST_TIMERS_EACH, MOST_VARIABLES}
 use Rattle.turn_code.specs.Values.{sort_of}
 use Rattle.turn_code.specs.Sets.{Has, IsWithin}
 use Rattle.turn_code.specs.Routes.{IsPartyOf, Reaches, Answers}

@@ -19,8 +19,8 @@ use Rattle.turn_code.specs.declared.draft.DraftSignal.{DraftSignal}
 use Rattle.turn_code.specs.declared.draft.DraftProcess.{DraftProcess}
 use Rattle.turn_code.specs.declared.draft.DraftState.{DraftState}
 use Rattle.turn_code.specs.declared.draft.DraftInput.{DraftInput}
-use Rattle.turn_check.specs.turn_words_types.sorts.Sorts.{Sorts}
-use Rattle.turn_check.specs.Sorts.{AreSortsOf}
+use Rattle.turn_code.specs.declared.sorts.Sorts.{Sorts}
+use Rattle.turn_code.specs.Sorts.{AreSortsOf}
 use Rattle.turn_check.proofs.Whole.{start_small}
 use Rattle.turn_machine.specs.Turn.{Turn, turn_of, IsRunnableBy}
 use Rattle.turn_machine.specs.Ends.{EndsSo}

@@ -23,17 +23,17 @@ use Rattle.turn_code.proofs.Lists.{zip_length}
 use Rattle.turn_code.proofs.SafeRuns.{code_at, stands_at_start}
 use Rattle.turn_code.proofs.RightEffects.{EffectsAre, act_keeps, adds}
 use Rattle.turn_code.proofs.Ran.{step_count}
-use Rattle.turn_check.specs.turn_words_types.piece.Piece.{Piece}
-use Rattle.turn_check.specs.turn_words_types.sorts.Sorts.{Sorts}
-use Rattle.turn_check.specs.turn_words_types.words.Words.{Words}
-use Rattle.turn_check.specs.turn_words_types.after.After.{After}
-use Rattle.turn_check.specs.turn_words_types.after.Given.{Given}
-use Rattle.turn_check.specs.turn_words_types.after.Given.TheVariants as gives
-use Rattle.turn_check.specs.turn_words_types.after.Next.TheVariants.{Goes, Ends}
-use Rattle.turn_check.specs.Bare.{bare_of}
-use Rattle.turn_check.specs.Meant.{AreWordsOf, IsEffectOf, Grow}
-use Rattle.turn_check.specs.Sorts.{AreSortsOf, IsOfSorts, HasReceiver, sort_bits}
-use Rattle.turn_check.specs.Steps.{StandAt, Follows, IsStep}
+use Rattle.turn_code.specs.declared.piece.Piece.{Piece}
+use Rattle.turn_code.specs.declared.sorts.Sorts.{Sorts}
+use Rattle.turn_code.specs.declared.words.Words.{Words}
+use Rattle.turn_code.specs.declared.after.BareAfter.{BareAfter}
+use Rattle.turn_code.specs.declared.after.BareEffect.{BareEffect}
+use Rattle.turn_code.specs.declared.after.BareEffect.TheVariants as gives
+use Rattle.turn_code.specs.declared.after.Next.TheVariants.{Goes, Ends}
+use Rattle.turn_code.specs.Bare.{bare_of}
+use Rattle.turn_code.specs.Meant.{AreWordsOf, IsEffectOf, Grow}
+use Rattle.turn_code.specs.Sorts.{AreSortsOf, IsOfSorts, HasReceiver, sort_bits}
+use Rattle.turn_code.specs.Steps.{StandAt, Follows, IsStep}
 use Rattle.turn_machine.specs.Growing.{IsGrown, CanGrow}
 use Rattle.turn_machine.specs.Safety.{IsSafeWithin, IsUnderWay, HasEnded}
 use Rattle.turn_machine.proofs.Worded.{variables_told}
@@ -56,7 +56,7 @@ of_sorts d t s (effect.Output m) sorts right =
 of_sorts d t s (effect.Set n z) sorts right = tt
 of_sorts d t s (effect.Reset n) sorts right = tt
 
-grown : (d : Draft) (t : Transition) (p : Piece) (o : Option Given) (old new : List Effect) → AreSortsOf d.signals t.process.variables p.sorts.now
+grown : (d : Draft) (t : Transition) (p : Piece) (o : Option BareEffect) (old new : List Effect) → AreSortsOf d.signals t.process.variables p.sorts.now
     → AreRightEffects d t new → length new ≤ 32 → Grow p.sender o old new → IsGrown p o old new
 grown d t p None old new sorts right few g = g
 grown d t p (Some given) old new sorts right few g =
@@ -66,27 +66,27 @@ grown d t p (Some given) old new sorts right few g =
     (g.0, g.1, of_sorts d t p.sorts.now g.0 sorts (last_right d t old g.0 right'), room, g.2)
 
 -- an effect in words has a receiver, if it represents an effect
-received : (from : Option Address) (given : Given) (e : Effect) → IsEffectOf from given e → HasReceiver given from
+received : (from : Option Address) (given : BareEffect) (e : Effect) → IsEffectOf from given e → HasReceiver given from
 received from (gives.Output n r c ws) (effect.Output s) h = (s.receiver, h.3, h.1)
 received from (gives.Output n r c ws) (effect.Set t z) h = absurd h
 received from (gives.Output n r c ws) (effect.Reset t) h = absurd h
 received from (gives.Set n z) e h = tt
 received from (gives.Reset n) e h = tt
 
-pub can_give : (p : Piece) (o : Option Given) (given : Given) (old : List Effect) → o ≡ Some given → CanGrow p o old → HasReceiver given p.sender
+pub can_give : (p : Piece) (o : Option BareEffect) (given : BareEffect) (old : List Effect) → o ≡ Some given → CanGrow p o old → HasReceiver given p.sender
 can_give p o given old is can =
-    let own : CanGrow p (Some given) old = subst (λ (u : Option Given). CanGrow p u old) is can in
+    let own : CanGrow p (Some given) old = subst (λ (u : Option BareEffect). CanGrow p u old) is can in
     received p.sender given own.1.0 own.1.1
 
-pub has_room : (p : Piece) (o : Option Given) (given : Given) (old : List Effect) → o ≡ Some given → CanGrow p o old → length old < 32
+pub has_room : (p : Piece) (o : Option BareEffect) (given : BareEffect) (old : List Effect) → o ≡ Some given → CanGrow p o old → length old < 32
 has_room p o given old is can =
-    let own : CanGrow p (Some given) old = subst (λ (u : Option Given). CanGrow p u old) is can in
+    let own : CanGrow p (Some given) old = subst (λ (u : Option BareEffect). CanGrow p u old) is can in
     own.1.3
 
-pub gave_one : (p : Piece) (o : Option Given) (given : Given) (old new es : List Effect) (r : Effect) → o ≡ Some given
+pub gave_one : (p : Piece) (o : Option BareEffect) (given : BareEffect) (old new es : List Effect) (r : Effect) → o ≡ Some given
     → ((e : Effect) → IsEffectOf p.sender given e → IsOfSorts p.sorts.now e → r ≡ e) → new ≡ old ++ r ∷ [] → IsGrown p o old es → new ≡ es
 gave_one p o given old new es r is one more h =
-    let own : IsGrown p (Some given) old es = subst (λ (u : Option Given). IsGrown p u old es) is h in
+    let own : IsGrown p (Some given) old es = subst (λ (u : Option BareEffect). IsGrown p u old es) is h in
     more ∙ ap (λ (u : Effect). old ++ u ∷ []) (one own.0 own.1 own.2) ∙ sym own.4
 
 -- ---- the whole run, from its beginning
@@ -131,7 +131,7 @@ begun_so p x c w es h from words none =
 
 -- ---- after one instruction
 -- what is known after it
-pub record HasGone (p : Piece) (x : Input) (c : Cert) (taken : ℕ) (w : Words) (a : After) (es : List Effect) : Type 0 where
+pub record HasGone (p : Piece) (x : Input) (c : Cert) (taken : ℕ) (w : Words) (a : BareAfter) (es : List Effect) : Type 0 where
   pub new : List Effect
   pub grows : IsGrown p a.effect es new
   pub onward : (j : ℕ) → a.next ≡ Goes j → IsUnderWay p x c (taken + 1) j w new
@@ -141,7 +141,7 @@ safe_few : (t : Transition) (x : Input) (left k : ℕ) (os : List Value) (s : Pr
 safe_few t x zero k os s h = absurd h
 safe_few t x (suc left) k os s h = h.1
 
-grown_here : (d : Draft) (t : Transition) (p : Piece) (x : Input) (o : Option Given) (old new es : List Effect) → AreSortsOf d.signals t.process.variables p.sorts.now
+grown_here : (d : Draft) (t : Transition) (p : Piece) (x : Input) (o : Option BareEffect) (old new es : List Effect) → AreSortsOf d.signals t.process.variables p.sorts.now
     → x.sender ≡ p.sender → AreRightEffects d t new → length new ≤ 32 → es ≡ old → Grow x.sender o old new → IsGrown p o es new
 grown_here d t p x o old new es sorts from right few same g =
     subst (λ (u : List Effect). IsGrown p o u new) (sym same) (
@@ -151,7 +151,7 @@ module _ (p : Piece) (x : Input) (c : Cert) (taken k : ℕ) (w : Words) (es : Li
   most_effects : h.transition.piece.certificate.effects ≤ 32
   most_effects = ((h.stand.valid.limit 0).piece refl).effects
 
-  gone_by : (w' : Words) (a : After) (left fuel : ℕ) (g : Tagged) → taken + suc left ≡ c.budget → taken + suc fuel ≡ 512 → left ≤ fuel
+  gone_by : (w' : Words) (a : BareAfter) (left fuel : ℕ) (g : Tagged) → taken + suc left ≡ c.budget → taken + suc fuel ≡ 512 → left ≤ fuel
       → Follows h.draft h.transition p x h.progress a w' g → IsSafeAfter h.transition (IsSafe h.transition x left) g
       → go_on (exec h.transition.piece.code x fuel) g ≡ run h.transition.piece.code x → EffectsAre (AreRightEffects h.draft h.transition) g
       → CountIs (h.progress.count + 1) g → HasGone p x c taken w' a es
@@ -221,7 +221,7 @@ module _ (p : Piece) (x : Input) (c : Cert) (taken k : ℕ) (w : Words) (es : Li
       (adds h.draft h.transition h.stand.valid x h.fits k h.operands h.progress h.stand.at i.0 i.1 h.right) in
       subst (λ o. EffectsAre (AreRightEffects h.draft h.transition) (act_if o x (k + 1) h.operands (tick h.progress))) (sym i.1) own
 
-  gone_at : (w' : Words) (a : After) (left fuel : ℕ) → taken + left ≡ c.budget → taken + fuel ≡ 512 → left ≤ fuel
+  gone_at : (w' : Words) (a : BareAfter) (left fuel : ℕ) → taken + left ≡ c.budget → taken + fuel ≡ 512 → left ≤ fuel
       → IsStep p k w a w' → IsSafe h.transition x left k h.operands h.progress
       → exec h.transition.piece.code x fuel k h.operands h.progress ≡ run h.transition.piece.code x → HasGone p x c taken w' a es
   gone_at w' a zero fuel budget fuel_is less is safe same = absurd safe
@@ -230,7 +230,7 @@ module _ (p : Piece) (x : Input) (c : Cert) (taken k : ℕ) (w : Words) (es : Li
       gone_by w' a left fuel (step h.transition.piece.code x k h.operands h.progress) budget fuel_is (omega arith)
       (is h.draft h.transition x h.operands h.progress h.stand) safe.2 same right_after (step_count h.transition.piece.code x k h.operands h.progress)
 
-  pub gone : (w' : Words) (a : After) → IsStep p k w a w' → HasGone p x c taken w' a es
+  pub gone : (w' : Words) (a : BareAfter) → IsStep p k w a w' → HasGone p x c taken w' a es
   gone w' a is = gone_at w' a h.left h.fuel h.budget_is h.fuel_is h.less is h.safe h.same
 
   -- the words represent values there
@@ -245,16 +245,16 @@ module _ (p : Piece) (x : Input) (c : Cert) (taken k : ℕ) (w : Words) (es : Li
   }
 
   -- the effects can grow
-  pub can_grow : (w' : Words) (a : After) → IsStep p k w a w' → CanGrow p a.effect es
+  pub can_grow : (w' : Words) (a : BareAfter) → IsStep p k w a w' → CanGrow p a.effect es
   can_grow w' a is = let g = gone w' a is in (g.new, g.grows)
 
-  pub goes_on : (w' : Words) (a : After) (es' : List Effect) (j : ℕ) → IsStep p k w a w' → ((u : List Effect) → IsGrown p a.effect es u → es' ≡ u)
+  pub goes_on : (w' : Words) (a : BareAfter) (es' : List Effect) (j : ℕ) → IsStep p k w a w' → ((u : List Effect) → IsGrown p a.effect es u → es' ≡ u)
       → a.next ≡ Goes j → IsUnderWay p x c (taken + 1) j w' es'
   goes_on w' a es' j is one next =
       let g = gone w' a is in
       subst (λ (u : List Effect). IsUnderWay p x c (taken + 1) j w' u) (sym (one g.new g.grows)) (g.onward j next)
 
-  pub ends_so : (w' : Words) (a : After) (es' : List Effect) (e : End) → IsStep p k w a w' → ((u : List Effect) → IsGrown p a.effect es u → es' ≡ u)
+  pub ends_so : (w' : Words) (a : BareAfter) (es' : List Effect) (e : End) → IsStep p k w a w' → ((u : List Effect) → IsGrown p a.effect es u → es' ≡ u)
       → a.next ≡ Ends e → HasEnded p x c e w' es' (taken + 1)
   ends_so w' a es' e is one next =
       let g = gone w' a is in

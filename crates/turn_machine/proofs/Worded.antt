@@ -11,11 +11,11 @@ use Rattle.turn_code.specs.Fits.{HasSort, HaveSorts}
 use Rattle.turn_code.specs.declared.value.Sort.{Sort}
 use Rattle.turn_code.specs.declared.value.Value.{Value}
 use Rattle.turn_code.specs.declared.draft.DraftVariable.{DraftVariable}
-use Rattle.turn_check.specs.Bare.{Bare, kept}
-use Rattle.turn_check.specs.Meant.{word_of, IsKept}
-use Rattle.turn_check.specs.Sorts.{is_boolean, sort_bits, sorts_of}
+use Rattle.turn_code.specs.Bare.{Bare, kept}
+use Rattle.turn_code.specs.Meant.{word_of, IsKept}
+use Rattle.turn_code.specs.Sorts.{is_boolean, sort_bits, sorts_of}
 use Rattle.turn_machine.specs.Wording.{kept_value, IsKeptTo, IsVariable, AreVariables}
-use Rattle.turn_check.proofs.Standing.{kept_here, kept_elsewhere}
+use Rattle.turn_code.proofs.Standing.{kept_here, kept_elsewhere}
 
 -- ---- storing values
 pub kept_to_none : (b : Bare) (vs : List (Option Value)) → b.set ≡ 0 → length b.variables ≡ 32 → IsKeptTo b b vs 0

@@ -1,19 +1,19 @@
 -- Effects with one more, made from words.
 use Rattle.std.specs.Prelude.{◌≡◌, ◌<◌, List, [], ◌∷◌, ◌++◌, length, Option, Some, None}
-use Rattle.turn_check.specs.Limits.{MOST_EFFECTS}
+use Rattle.plain_laws.specs.Limits.{MOST_EFFECTS}
 use Rattle.turn_code.specs.declared.effect.Effect.{Effect}
-use Rattle.turn_check.specs.turn_words_types.after.Given.{Given}
-use Rattle.turn_check.specs.turn_words_types.piece.Piece.{Piece}
-use Rattle.turn_check.specs.Meant.{IsEffectOf}
-use Rattle.turn_check.specs.Sorts.{IsOfSorts}
+use Rattle.turn_code.specs.declared.after.BareEffect.{BareEffect}
+use Rattle.turn_code.specs.declared.piece.Piece.{Piece}
+use Rattle.turn_code.specs.Meant.{IsEffectOf}
+use Rattle.turn_code.specs.Sorts.{IsOfSorts}
 
 -- the new effect follows the others and has the sorts of its signal; there was room for it
-abbrev pub IsGrown : Piece → Option Given → List Effect → List Effect → Type 0
+abbrev pub IsGrown : Piece → Option BareEffect → List Effect → List Effect → Type 0
 IsGrown p None old new = new ≡ old
 IsGrown p (Some given) old new =
     (e : Effect) × IsEffectOf p.sender given e × IsOfSorts p.sorts.now e
     × (length old < MOST_EFFECTS) × (new ≡ old ++ e ∷ [])
 
 -- the effects can grow
-abbrev pub CanGrow : Piece → Option Given → List Effect → Type 0
+abbrev pub CanGrow : Piece → Option BareEffect → List Effect → Type 0
 CanGrow p given old = (new : List Effect) × IsGrown p given old new

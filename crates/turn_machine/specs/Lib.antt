@@ -7,5 +7,3 @@ pub mod Rooms
 pub mod Safety
 pub mod Turn
 pub mod Wording
-pub use Rattle.turn_check.specs.Answered
-pub use Rattle.turn_check.specs.Named

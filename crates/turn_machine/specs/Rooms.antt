@@ -1,6 +1,6 @@
 -- The contents of a worker's room.
 use Rattle.std.specs.Prelude.{◌≡◌, ℕ}
-use Rattle.turn_check.specs.turn_words_types.sorts.Sorts.{Sorts}
+use Rattle.turn_code.specs.declared.sorts.Sorts.{Sorts}
 use Rattle.turn_code.specs.declared.input.Input.{Input}
 use Rattle.turn_code.specs.declared.input.Place.{Place}
 use Rattle.turn_code.specs.declared.numbers.ProcessNumber.{ProcessNumber}

@@ -1,6 +1,6 @@
 -- Code that runs to its end, on words.
 use Rattle.std.specs.Prelude.{◌≡◌, ℕ, ◌+◌, ◌≤◌, List, [], length}
-use Rattle.turn_check.specs.Limits.{MOST_INSTRUCTIONS, MOST_VARIABLES}
+use Rattle.plain_laws.specs.Limits.{MOST_INSTRUCTIONS, MOST_VARIABLES}
 use Rattle.turn_code.specs.Run.{Progress, exec, run, ended, begun}
 use Rattle.turn_code.specs.Transitions.{Transition}
 use Rattle.turn_code.specs.Rules.{KeepsSetLimits}
@@ -15,12 +15,12 @@ use Rattle.turn_code.specs.declared.instruction.Instruction.{Instruction}
 use Rattle.turn_code.specs.declared.machine.End.{End}
 use Rattle.turn_code.specs.declared.draft.Cert.{Cert}
 use Rattle.turn_code.specs.declared.draft.Draft.{Draft}
-use Rattle.turn_check.specs.turn_words_types.piece.Piece.{Piece}
-use Rattle.turn_check.specs.turn_words_types.sorts.Sorts.{Sorts}
-use Rattle.turn_check.specs.turn_words_types.words.Words.{Words}
-use Rattle.turn_check.specs.Bare.{bare_of}
-use Rattle.turn_check.specs.Sorts.{AreSortsOf}
-use Rattle.turn_check.specs.Steps.{Stand}
+use Rattle.turn_code.specs.declared.piece.Piece.{Piece}
+use Rattle.turn_code.specs.declared.sorts.Sorts.{Sorts}
+use Rattle.turn_code.specs.declared.words.Words.{Words}
+use Rattle.turn_code.specs.Bare.{bare_of}
+use Rattle.turn_code.specs.Sorts.{AreSortsOf}
+use Rattle.turn_code.specs.Steps.{Stand}
 use Rattle.turn_machine.specs.Wording.{AreVariables}
 
 -- the code and its counts are those of a valid transition, the input fits it, the sorts are its

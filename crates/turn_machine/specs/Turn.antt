@@ -1,8 +1,8 @@
 -- A turn, which is how contracts see a job, run or not.
 use Rattle.std.specs.Prelude.{◌≡◌, ℕ, ◌≤◌, List, length, Option, Some}
-use Rattle.turn_check.specs.Limits.{MOST_VARIABLES}
-use Rattle.turn_check.specs.Sorts.{AreSortsOf}
-use Rattle.turn_check.specs.turn_words_types.sorts.Sorts.{Sorts}
+use Rattle.plain_laws.specs.Limits.{MOST_VARIABLES}
+use Rattle.turn_code.specs.Sorts.{AreSortsOf}
+use Rattle.turn_code.specs.declared.sorts.Sorts.{Sorts}
 use Rattle.turn_code.specs.Run.{run, ended}
 use Rattle.turn_code.specs.Transitions.{Transition, transition_at}
 use Rattle.turn_code.specs.Rules.{KeepsSetLimits}

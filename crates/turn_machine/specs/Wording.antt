@@ -2,12 +2,12 @@
 use Rattle.std.specs.Prelude.{◌≡◌, ℕ, ◌<◌, ◌≤◌, if◌then◌else◌, List, length, Option, Some, None}
 use Rattle.std.specs.Prelude.{slice_get}
 use Rattle.std.specs.Int.{bit_at}
-use Rattle.turn_check.specs.Limits.{MOST_VARIABLES}
+use Rattle.plain_laws.specs.Limits.{MOST_VARIABLES}
 use Rattle.turn_code.specs.Values.{sort_of}
 use Rattle.turn_code.specs.declared.value.Value.{Value}
-use Rattle.turn_check.specs.Bare.{Bare, kept}
-use Rattle.turn_check.specs.Meant.{word_of, IsKept}
-use Rattle.turn_check.specs.Sorts.{is_boolean}
+use Rattle.turn_code.specs.Bare.{Bare, kept}
+use Rattle.turn_code.specs.Meant.{word_of, IsKept}
+use Rattle.turn_code.specs.Sorts.{is_boolean}
 
 -- the words after a variable's value is stored, if it has one
 abbrev pub kept_value : Bare → ℕ → Option Value → Bare

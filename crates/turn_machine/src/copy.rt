@@ -1,7 +1,7 @@
 //! Copies that allocate no memory.
 
 ghost use Rattle.std.specs.Prelude.{◌≡◌, ◌≤◌, length};
-ghost use Rattle.turn_check.specs.Limits.{MOST_INSTRUCTIONS};
+ghost use Rattle.plain_laws.specs.Limits.{MOST_INSTRUCTIONS};
 
 use arrayvec::ArrayVec;
 use turn_code::{Effect, Input, Instruction, Value};

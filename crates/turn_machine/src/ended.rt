@@ -6,9 +6,8 @@ ghost use Rattle.turn_machine.specs.Turn.{IsRunnableBy};
 
 use crate::ending::{new_machine, run_code};
 use crate::work::Work;
-use turn_check::Sorts;
 use turn_code::laws::safe_law;
-use turn_code::{End, Machine};
+use turn_code::{End, Machine, Sorts};
 
 /// The end of a turn, and the machine at that point with its variables, effects and count.
 #[derive(Drop)]

@@ -11,9 +11,11 @@ use crate::execute::execute;
 use crate::values::set_variables;
 use crate::wording::words_of;
 use arrayvec::ArrayVec;
-use turn_check::{Piece, Sorts, Verified};
+use turn_check::Verified;
 use turn_code::laws::safe_law;
-use turn_code::{Cert, End, Input, Instruction, Machine, Operands, Place, ProcessNumber};
+use turn_code::{
+    Cert, End, Input, Instruction, Machine, Operands, Piece, Place, ProcessNumber, Sorts,
+};
 
 /// A machine that has run nothing yet. It can be reused: each run resets it.
 pub fn new_machine() -> Machine

@@ -6,8 +6,7 @@ ghost use Rattle.turn_machine.specs.Growing.{CanGrow, IsGrown};
 ghost use Rattle.turn_machine.specs.Safety.{IsUnderWay, HasEnded};
 
 use arrayvec::ArrayVec;
-use turn_check::{Given, Next, Piece, Words, step_bare};
-use turn_code::{Cert, Effect, End, Input, Machine};
+use turn_code::{BareEffect, Cert, Effect, End, Input, Machine, Next, Piece, Words, step_bare};
 
 /// Runs a piece with these counts to its end, on the words of an input. The machine has no effects yet; it gets those
 /// of the run and the number of instructions taken. (Only the contract uses `input`.)
@@ -38,7 +37,7 @@ pub(crate) fn execute(
 }
 
 /// Adds the effect, if there is one.
-fn give(effects: &mut ArrayVec<Effect, 32>, given: Option<Given>, piece: &Piece<'_>)
+fn give(effects: &mut ArrayVec<Effect, 32>, given: Option<BareEffect>, piece: &Piece<'_>)
     requires { CanGrow piece.now given effects.old.items }
     ensures { (es : List AnyEffect) → IsGrown piece.now given effects.old.items es → effects.new.items ≡ es }
 {

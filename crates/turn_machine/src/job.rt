@@ -11,8 +11,8 @@ use crate::work::Work;
 use arrayvec::ArrayVec;
 use std::alloc::AllocError;
 use std::marker::Model;
-use turn_check::{Sorts, Verified};
-use turn_code::{Cert, Input, Instruction, Place, ProcessNumber, Value};
+use turn_check::Verified;
+use turn_code::{Cert, Input, Instruction, Place, ProcessNumber, Sorts, Value};
 
 /// A transition that is ready to run. It has, by value, its code, the sorts for it, and an input that fits it.
 #[derive(Drop)]

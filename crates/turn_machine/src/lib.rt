@@ -25,5 +25,4 @@ pub use job::Job;
 pub use received::Received;
 pub use room::{Held, Room};
 pub use same_turn::{is_turn, runs_piece};
-pub use turn_check::{After, Given, Next, Piece, Sorts, Words, step_bare, value_of};
 pub use work::Work;

@@ -7,8 +7,8 @@ ghost use Rattle.turn_machine.specs.Rooms.{Free, Begun, Ran, ran, IsToRun, HasRu
 use crate::ended::{Ended, run_work};
 use crate::work::Work;
 use std::marker::Model;
-use turn_check::{Sorts, Verified};
-use turn_code::{Input, Place, ProcessNumber};
+use turn_check::Verified;
+use turn_code::{Input, Place, ProcessNumber, Sorts};
 
 /// The contents of a room.
 #[derive(Clone, Copy, PartialEq, Eq, Debug)]

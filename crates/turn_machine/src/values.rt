@@ -1,14 +1,13 @@
 //! The values of variables, from their words.
 
 ghost use Rattle.std.specs.Prelude.{◌≡◌, ◌<◌, ◌≤◌, List, Option as Maybe, length};
-ghost use Rattle.turn_check.specs.Bare.{bare_of};
+ghost use Rattle.turn_code.specs.Bare.{bare_of};
 ghost use Rattle.turn_code.specs.declared.value.Value.{Value as AnyValue};
 ghost use Rattle.turn_machine.specs.Wording.{IsVariable, AreVariables};
-ghost use Rattle.turn_check.specs.Limits.{MOST_VARIABLES};
+ghost use Rattle.plain_laws.specs.Limits.{MOST_VARIABLES};
 
 use arrayvec::ArrayVec;
-use turn_check::{Words, value_of};
-use turn_code::{Value, VariableNumber, VariableSet};
+use turn_code::{Value, VariableNumber, VariableSet, Words, value_of};
 
 /// Replaces the variables by the first `count` that the words represent: Booleans as the bits say, none for one that
 /// isn't set.

@@ -1,14 +1,13 @@
 //! The words of an input.
 
 ghost use Rattle.std.specs.Prelude.{◌≡◌, ℕ, ◌<◌, ◌≤◌, [], Some, length, slice_get};
-ghost use Rattle.turn_check.specs.Bare.{bare_of};
-ghost use Rattle.turn_check.specs.Meant.{word_of, AreWordsOf};
+ghost use Rattle.turn_code.specs.Bare.{bare_of};
+ghost use Rattle.turn_code.specs.Meant.{word_of, AreWordsOf};
 ghost use Rattle.turn_code.specs.declared.value.Value.{Value as AnyValue};
 ghost use Rattle.turn_machine.specs.Wording.{kept_value, IsKeptTo};
-ghost use Rattle.turn_check.specs.Limits.{MOST_PARAMETERS, MOST_VARIABLES};
+ghost use Rattle.plain_laws.specs.Limits.{MOST_PARAMETERS, MOST_VARIABLES};
 
-use turn_check::Words;
-use turn_code::{Input, Value};
+use turn_code::{Input, Value, Words};
 
 /// The words of an input, with no operand.
 pub(crate) fn words_of(input: &Input) -> Words

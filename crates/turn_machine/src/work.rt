@@ -1,7 +1,7 @@
 //! The work of a turn.
 
 ghost use Rattle.std.specs.Prelude.{◌≡◌, ◌≤◌, length};
-ghost use Rattle.turn_check.specs.Limits.{MOST_INSTRUCTIONS};
+ghost use Rattle.plain_laws.specs.Limits.{MOST_INSTRUCTIONS};
 ghost use Rattle.turn_machine.specs.Turn.{turn_of};
 
 use crate::copy::{copied_code, copy_code, copy_input};

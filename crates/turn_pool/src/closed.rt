@@ -5,7 +5,8 @@ ghost use Rattle.actor_machine.specs.Ledger.{event_at};
 ghost use Rattle.turn_pool.specs.Receipts.{StandsIn, AllStand, FailsAt};
 
 use crate::receipt::Receipt;
-use actor_book::{Book, Event};
+use actor_book::Book;
+use actor_machine::Event;
 use std::fmt;
 use thiserror::Error;
 

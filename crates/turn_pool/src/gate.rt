@@ -4,7 +4,7 @@ ghost use Rattle.std.specs.Prelude.{◌≡◌, Bool};
 
 use crate::pool::Pool;
 use crate::totals::Seat;
-use actor_book::ActorName;
+use actor_machine::ActorName;
 use std::sync::Wait;
 use std::sync::ledger::Ledger;
 

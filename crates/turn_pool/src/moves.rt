@@ -7,7 +7,8 @@ ghost use Rattle.turn_pool.specs.Steps.{Counts};
 
 use crate::slot::Slot;
 use crate::totals::{Seat, Totals};
-use actor_book::{Refusal, Report, RoomRefusal};
+use actor_book::RoomRefusal;
+use actor_machine::{Refusal, Report};
 use std::sync::ledger::Ledger;
 use turn_code::Trigger;
 use turn_machine::Room;

@@ -9,7 +9,7 @@ ghost use Rattle.turn_pool.specs.declared.receipt.PoolRefusal.TheVariants.{NoLin
 use crate::receipt::{PoolRefusal, Receipt};
 use crate::slot::Slot;
 use crate::totals::{Seat, Totals};
-use actor_book::Emitted;
+use actor_machine::Emitted;
 use std::sync::atomic::{AtomicBool, Ordering};
 use std::sync::ledger::Ledger;
 use std::sync::{Mutex, Wait};

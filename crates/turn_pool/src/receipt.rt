@@ -2,7 +2,7 @@
 
 ghost use Rattle.std.specs.Prelude.{◌≡◌};
 
-use actor_book::{Event, Refusal};
+use actor_machine::{Event, Refusal};
 use std::fmt;
 use thiserror::Error;
 

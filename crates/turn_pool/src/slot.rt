@@ -13,8 +13,9 @@ ghost use Rattle.turn_pool.specs.Steps.{HasCounted, made};
 
 use crate::receipt::Receipt;
 use crate::totals::{Seat, Totals};
-use actor_book::{Book, Emitted, Event, Refusal, Report, RoomRefusal, Turn, one_turn};
+use actor_book::{Book, RoomRefusal, Turn, one_turn};
 use actor_machine::laws::place_law;
+use actor_machine::{Emitted, Event, Refusal, Report};
 use std::alloc::AllocError;
 use std::marker::Model;
 use std::sync::ledger::{Ledger, Share};

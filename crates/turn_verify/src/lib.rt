@@ -5,11 +5,4 @@
 mod loading;
 
 pub use loading::{LoadFault, load};
-pub use sdl_compile::{ControlPath, Limit, RuleFault, Step};
-pub use sdl_lex::LexFault;
-pub use sdl_tree::ParseFault;
-pub use turn_check::{Spot, Transition, Verified, VerifyFault, verify};
-pub use turn_code::{
-    Cert, Draft, Name, Place, ProcessNumber, Rule, SignalNumber, StateNumber, TimerNumber, Trigger,
-    VariableNumber,
-};
+pub use turn_check::Verified;

@@ -13,8 +13,9 @@ ghost use Rattle.turn_verify.specs.Printed.{fault_text, place_text};
 ghost use Rattle.turn_verify.specs.Loaded.{IsLoaded, IsSoundText, IsRead, Gives, IsRefused, line_at, token_place, rule_place};
 
 use sdl_ast::Block;
-use sdl_compile::{Resolved, RuleFault, compile, resolve, set_law};
+use sdl_compile::{Resolved, compile, resolve, set_law};
 use sdl_lex::{LexFault, Token, line_of, tokens};
+use sdl_sound::RuleFault;
 use sdl_tree::{ParseFault, parse};
 use std::alloc::Global;
 use std::fmt;

@@ -4,9 +4,9 @@
 
 use crate::calls::Stopped;
 use crate::run::number;
-use actor_book::Offer;
-use actor_headline::{Event, Limits};
+use actor_book::{Limits, Offer};
 use arrayvec::ArrayVec;
+use link_whole::Event;
 use std::alloc::{AllocError, Global};
 use std::str::SplitWhitespace;
 use turn_code::{SignalNumber, Value};

@@ -1,7 +1,7 @@
 //! The answers to events, one a line; equal answers in a row are counted.
 
 use actor_book::{Begun, Cause, Emitted, Lost, Report};
-use actor_headline::Reply;
+use link_whole::Reply;
 use std::alloc::{AllocError, Global};
 use turn_code::{End, Place, Trigger, Value};
 

@@ -6,12 +6,13 @@ use crate::rounds::clock::now;
 use crate::run::number;
 use crate::texts::{accepted, text_of};
 use actor_book::{ActorName, Book, Limits, number_of};
-use link_standard::{Verified, load};
+use link_whole::load;
 use std::alloc::{AllocError, Global};
 use std::rt::Runtime;
 use std::sync::Wait;
 use std::thread::Threads;
 use std::time::Duration;
+use turn_check::Verified;
 use turn_code::{InstanceNumber, Party, ProcessNumber, SignalNumber};
 use turn_pool::{Closed, Gate, JobName, PoolFault, serve};
 

@@ -2,12 +2,12 @@
 
 use actor_book::Refusal;
 use arrayvec::ArrayVec;
-use link_standard::Verified;
 use std::rt::Clock;
 use std::sync::Wait;
 use std::sync::ledger::Ledger;
 use std::thread;
 use std::time::{Duration, Instant};
+use turn_check::Verified;
 use turn_code::{SignalNumber, Sort, Value};
 use turn_pool::{Client, Pool, PoolRefusal, Seat};
 

@@ -9,11 +9,11 @@ use crate::rounds::rows::{ROWS, Row};
 use crate::rounds::sets::{Set, load_set};
 use crate::rounds::straight::run_straight;
 use crate::rounds::turns::By;
-use link_standard::Verified;
 use std::alloc::Global;
 use std::rt::{Clock, Runtime};
 use std::sync::Wait;
 use std::thread::Threads;
+use turn_check::Verified;
 
 /// The number of books of the profile that are opened in a round.
 const OPENINGS: u32 = 100;

@@ -6,10 +6,10 @@ use crate::rounds::clock::{now, since};
 use crate::rounds::pool_rounds::drive;
 use crate::rounds::turns::{By, Maker};
 use actor_book::{Book, Limits, rest};
-use link_standard::Verified;
 use std::alloc::{AllocError, Global};
 use std::rt::Clock;
 use std::time::Duration;
+use turn_check::Verified;
 use turn_code::{SignalNumber, Value};
 use turn_machine::{Job, run};
 

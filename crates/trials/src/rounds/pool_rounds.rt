@@ -5,13 +5,13 @@ use crate::rounds::books::{Task, book_of, with_book};
 use crate::rounds::client::{LINKS, REBASES, Starts, signal_of};
 use crate::rounds::clock::{now, since};
 use actor_book::{Book, rest};
-use link_standard::Verified;
 use pool_soak::{Open, agree};
 use std::alloc::{AllocError, Global};
 use std::rt::Runtime;
 use std::sync::Wait;
 use std::thread::Threads;
 use std::time::Duration;
+use turn_check::Verified;
 use turn_pool::serve;
 
 /// The number of rounds if none is given.

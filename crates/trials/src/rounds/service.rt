@@ -3,7 +3,10 @@
 use crate::calls::{Stopped, hear, next_report, pass, put, speak, take, tell, terminal};
 use crate::rounds::traffic::{Traffic, WINDOW, head, message};
 use bit_line::Stuffer;
-use link_standard::{Command, Mode, Report, Terminal};
+use link_processes::Command;
+use link_transceiver::Report;
+use link_whole::Terminal;
+use resend_store::Mode;
 use std::alloc::Global;
 use su_octets::Unit;
 

@@ -3,11 +3,11 @@
 use crate::calls::Stopped;
 use crate::rounds::clock::{now, since};
 use crate::sets::{standard_set, why_stopped};
-use link_standard::Verified;
 use std::alloc::Global;
 use std::rt::Clock;
 use std::time::Duration;
 use trials_groups::FullSet;
+use turn_check::Verified;
 
 /// The results of a round, and its times.
 #[derive(Clone, Copy)]

@@ -2,8 +2,10 @@
 
 use crate::calls::Stopped;
 use crate::texts::accepted;
-use link_standard::{Verified, load, standard};
+use link_whole::load;
+use mtp2_text::standard;
 use std::alloc::{AllocError, Global};
+use turn_check::Verified;
 
 /// The text of the counter.
 const COUNTER: &str = "BLOCK B; SIGNAL Up(Integer); SIGNALROUTE r FROM ENV TO P WITH Up;

@@ -7,8 +7,8 @@ use crate::calls::Stopped;
 use crate::rounds::books::{Measured, RUNS};
 use crate::rounds::clock::{now, since};
 use arrayvec::ArrayVec;
-use link_standard::Verified;
 use std::rt::Clock;
+use turn_check::Verified;
 use turn_code::{Address, Input, Party, Place, ProcessNumber, StateNumber, Value};
 use turn_machine::{Received, fits, new_machine, run_in};
 

@@ -3,7 +3,7 @@ ghost use Rattle.std.specs.Prelude.{◌≡◌, ◌≤◌, length};
 
 use crate::message::message_of;
 use bit_line::Stuffer;
-use link_standard::Msu;
+use resend_store::Msu;
 use std::alloc::{AllocError, Global};
 use su_octets::{Head, Unit};
 

@@ -1,5 +1,5 @@
 use Rattle.std.proofs.Common.{rules, map}
-use Rattle.sdl_tables.specs.Views.{block_of, process_of}
+use Rattle.sdl_ast.specs.Views.{block_of, process_of}
 use Rattle.draw_text.proofs.Diagrams.{drawn}
 use Rattle.draw_text.proofs.block_diagram.draw_block.Goals as goal
 

@@ -1,6 +1,6 @@
 use Rattle.std.proofs.Common.{◌≡◌, ◌++◌, drop}
 use Rattle.std.specs.List.{flat_map}
-use Rattle.sdl_tables.specs.Views.{block_of}
+use Rattle.sdl_ast.specs.Views.{block_of}
 use Rattle.draw_text.specs.BlockEdges.{signal_text}
 use Rattle.draw_text.proofs.block_edges.push_signals.Given as goal
 

@@ -1,7 +1,7 @@
 use Rattle.std.proofs.Common.{◌≡◌, drop, fold, map}
 use Rattle.std.specs.List.{flat_map}
 use Rattle.sdl_tables.specs.Names.{add_name}
-use Rattle.sdl_tables.specs.Views.{path_of}
+use Rattle.sdl_ast.specs.Views.{path_of}
 use Rattle.draw_text.specs.BlockEdges.{path_signals}
 use Rattle.draw_text.proofs.parties.add_route.Given as goal
 

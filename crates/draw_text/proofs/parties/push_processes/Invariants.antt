@@ -1,7 +1,7 @@
 use Rattle.std.proofs.Common.{◌≡◌, ◌++◌, drop, map}
 use Rattle.std.specs.List.{flat_map}
-use Rattle.sdl_tables.specs.Views.{process_of}
-use Rattle.sdl_tables.specs.sdl_ast_types.tree.Party.TheVariants.{Process}
+use Rattle.sdl_ast.specs.Views.{process_of}
+use Rattle.sdl_ast.specs.declared.tree.Party.TheVariants.{Process}
 use Rattle.draw_text.proofs.parties.push_processes.Given as goal
 
 abbrev pub invariant-loop-process : goal.invariant-loop-process

@@ -1,6 +1,6 @@
 use Rattle.std.proofs.Common.{◌≡◌, ◌++◌, drop, map}
 use Rattle.std.specs.List.{flat_map}
-use Rattle.sdl_tables.specs.Views.{block_of, process_of, clause_of}
+use Rattle.sdl_ast.specs.Views.{block_of, process_of, clause_of}
 use Rattle.draw_text.specs.Parts.{part_of}
 use Rattle.draw_text.specs.Pieces.{clause_parts}
 use Rattle.draw_text.proofs.pieces.push_clauses.Given as goal

@@ -1,7 +1,7 @@
 use Rattle.std.proofs.Common.{◌≡◌, ◌++◌, drop, map}
 use Rattle.std.specs.List.{flat_map}
 use Rattle.std.specs.Prelude.{codes}
-use Rattle.sdl_tables.specs.Views.{block_of, process_of, stimulus_of}
+use Rattle.sdl_ast.specs.Views.{block_of, process_of, stimulus_of}
 use Rattle.draw_text.specs.Statements.{stimulus_text}
 use Rattle.draw_text.proofs.statements.push_more_stimuli.Given as goal
 

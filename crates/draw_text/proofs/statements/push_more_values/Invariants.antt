@@ -1,7 +1,7 @@
 use Rattle.std.proofs.Common.{◌≡◌, ◌++◌, drop, map}
 use Rattle.std.specs.List.{flat_map}
 use Rattle.std.specs.Prelude.{codes}
-use Rattle.sdl_tables.specs.Views.{process_of, tree_of}
+use Rattle.sdl_ast.specs.Views.{process_of, tree_of}
 use Rattle.draw_text.specs.Statements.{value_text}
 use Rattle.draw_text.proofs.statements.push_more_values.Given as goal
 

@@ -1,6 +1,6 @@
 use Rattle.std.proofs.Common.{◌≡◌, ◌++◌, drop, map}
-use Rattle.sdl_tables.specs.sdl_ast_types.tree.Decision.{out-Decision}
-use Rattle.sdl_tables.specs.Views.{block_of, process_of, text_of, choice_of, statements_before, answers_before, end_text, else_choice}
+use Rattle.sdl_ast.specs.declared.tree.Decision.{out-Decision}
+use Rattle.sdl_ast.specs.Views.{block_of, process_of, text_of, choice_of, statements_before, answers_before, end_text, else_choice}
 use Rattle.draw_text.specs.Parts.{part_of, text_parts, choice_parts}
 use Rattle.draw_text.proofs.transitions.+flow.Given as goal
 

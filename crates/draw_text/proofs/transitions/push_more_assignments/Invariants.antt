@@ -1,7 +1,7 @@
 use Rattle.std.proofs.Common.{◌≡◌, ◌++◌, drop, map}
 use Rattle.std.specs.List.{flat_map}
 use Rattle.std.specs.Prelude.{codes}
-use Rattle.sdl_tables.specs.Views.{process_of, assignment_of}
+use Rattle.sdl_ast.specs.Views.{process_of, assignment_of}
 use Rattle.draw_text.specs.Statements.{assignment_text}
 use Rattle.draw_text.proofs.transitions.push_more_assignments.Given as goal
 

@@ -1,5 +1,5 @@
 use Rattle.std.proofs.Common.{◌≡◌, ◌++◌, drop, map}
-use Rattle.sdl_tables.specs.Views.{block_of, process_of, sending_of}
+use Rattle.sdl_ast.specs.Views.{block_of, process_of, sending_of}
 use Rattle.draw_text.specs.Parts.{part_of, sending_part}
 use Rattle.draw_text.proofs.transitions.push_output.Given as goal
 

@@ -1,6 +1,6 @@
 use Rattle.std.proofs.Common.{rules, ap, sym, ◌∙◌, slice_set}
 use Rattle.std.proofs.lemmas.List.Edits.{map_over_more}
-use Rattle.link_term.specs.Machine.{is_low}
+use Rattle.link_processes.specs.Machine.{is_low}
 use Rattle.link_group.specs.declared.link.Link.{Link}
 use Rattle.link_group.specs.Ticking.{roomy}
 use Rattle.link_group.proofs.Passing.{lacks_room}

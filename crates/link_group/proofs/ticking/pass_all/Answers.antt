@@ -1,6 +1,6 @@
 use Rattle.std.proofs.Common.{rules, arith, ap, sym, ◌∙◌, slice_set}
 use Rattle.std.proofs.lemmas.List.Edits.{map_over_more}
-use Rattle.link_term.specs.Machine.{is_low, tick_refusal}
+use Rattle.link_processes.specs.Machine.{is_low, tick_refusal}
 use Rattle.link_group.specs.declared.link.Link.{Link}
 use Rattle.link_group.specs.Ticking.{passed, due_at}
 use Rattle.link_group.proofs.Passing.{due_none, due_more, due_last, room_here, may_here, stands_here}

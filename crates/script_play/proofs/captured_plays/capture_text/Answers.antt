@@ -1,7 +1,7 @@
 use Rattle.std.proofs.Common.{◌≡◌, ◌∙◌, ◌+◌, ◌==◌, List, ℕ, ap, sym, subst, rules}
 use Rattle.std.specs.Prelude.{IsTrue, IsUtf8, count_by, take}
 use Rattle.plain_text.specs.Reading.{LONGEST}
-use Rattle.script_seen.specs.GroupScripts.{plain_play_script, play_script_of}
+use Rattle.script_links.specs.GroupScripts.{plain_play_script, play_script_of}
 use Rattle.script_play.specs.Played.{no_text, bad_line, no_script, no_terminal}
 use Rattle.script_play.proofs.Refusals.{too_long, no_script_in}
 use Rattle.script_play.proofs.Texts.{not_held, not_missed}

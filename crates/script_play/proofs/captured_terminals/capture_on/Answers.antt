@@ -1,7 +1,7 @@
 use Rattle.std.proofs.Common.{Bool, List, map, subst}
 use Rattle.script_links.specs.TermScripts.{plain_term_said, asks_told}
 use Rattle.script_links.specs.declared.script.TermSaid.{TermSaid}
-use Rattle.script_seen.specs.Term.{Term}
+use Rattle.link_term.specs.Term.{Term}
 use Rattle.script_seen.specs.TermRuns.{IsTermWritten, IsTermFailed}
 use Rattle.script_seen.proofs.TracedRuns.{term_written, term_failed}
 use Rattle.script_play.specs.Captured.{IsCaptured, IsCapturedInPart}

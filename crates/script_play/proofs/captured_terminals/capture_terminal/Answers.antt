@@ -1,5 +1,5 @@
 use Rattle.std.proofs.Common.{subst}
-use Rattle.script_links.specs.resend_store_types.messages.RoundLimits.{RoundLimits}
+use Rattle.resend_store.specs.declared.messages.RoundLimits.{RoundLimits}
 use Rattle.script_seen.specs.TermRuns.{IsNewWithin}
 use Rattle.script_play.proofs.captured_terminals.capture_terminal.Goals as goal
 

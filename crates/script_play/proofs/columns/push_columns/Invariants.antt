@@ -1,6 +1,6 @@
 -- The columns of the processes so far are written.
 use Rattle.std.proofs.Common.{take}
-use Rattle.script_seen.specs.Names.{actors_of}
+use Rattle.actor_machine.specs.Names.{actors_of}
 use Rattle.script_play.specs.Charted.{HasMore}
 use Rattle.script_play.proofs.Charting.{chosen}
 use Rattle.script_play.proofs.columns.push_columns.Given as goal

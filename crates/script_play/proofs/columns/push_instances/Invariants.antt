@@ -1,7 +1,7 @@
 -- The columns of the instances so far are written.
 use Rattle.std.proofs.Common.{take}
 use Rattle.turn_check.specs.Named.{instances_at}
-use Rattle.script_seen.specs.Names.{instances_from}
+use Rattle.actor_machine.specs.Names.{instances_from}
 use Rattle.script_play.specs.Charted.{HasMore}
 use Rattle.script_play.proofs.Charting.{chosen}
 use Rattle.script_play.proofs.columns.push_instances.Given as goal

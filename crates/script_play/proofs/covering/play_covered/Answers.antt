@@ -1,11 +1,11 @@
 use Rattle.std.proofs.Common.{◌≡◌, ℕ, List, Option, Some}
 use Rattle.std.specs.Prelude.{IfSome}
 use Rattle.script_check.specs.Checked.{given, own_word, IsAccepted}
-use Rattle.script_check.specs.Own.{text_of}
-use Rattle.script_check.specs.mtp2_text_types.own.OwnSet.{OwnSet}
+use Rattle.mtp2_text.specs.Own.{text_of}
+use Rattle.mtp2_text.specs.declared.own.OwnSet.{OwnSet}
 use Rattle.script_check.specs.declared.sets.SetWord.{SetWord}
 use Rattle.script_check.proofs.Own.{of_text}
-use Rattle.script_seen.specs.resend_store_types.messages.RoundLimits.{RoundLimits}
+use Rattle.resend_store.specs.declared.messages.RoundLimits.{RoundLimits}
 use Rattle.script_play.specs.Played.{IsOnSet, IsRefused}
 use Rattle.script_play.specs.Seen.{IsTextCovered, IsTextCoveredInPart}
 use Rattle.script_play.proofs.covering.play_covered.Goals as goal

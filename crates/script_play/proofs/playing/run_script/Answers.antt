@@ -1,6 +1,6 @@
 use Rattle.std.proofs.Common.{Bool, sym, subst}
 use Rattle.script_lines.specs.Lines.{lines_of}
-use Rattle.script_seen.specs.GroupScripts.{plain_play_script}
+use Rattle.script_links.specs.GroupScripts.{plain_play_script}
 use Rattle.script_play.specs.Played.{IsObeyedAs, IsMissedAs}
 use Rattle.script_play.proofs.playing.run_script.Goals as goal
 

@@ -2,7 +2,7 @@
 use Rattle.std.proofs.Common.{◌≡◌, None, map, take}
 use Rattle.script_lines.specs.Lines.{plain_line}
 use Rattle.script_lines.specs.Scripts.{plain_said}
-use Rattle.script_group.specs.Played.{last_of}
+use Rattle.script_ends.specs.Played.{last_of}
 use Rattle.script_seen.specs.Kinds.{BookShowing}
 use Rattle.script_seen.proofs.books.show_each.Given as goal
 

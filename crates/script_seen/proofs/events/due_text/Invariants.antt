@@ -2,7 +2,7 @@
 use Rattle.std.proofs.Common.{◌≡◌, ◌++◌, drop, map}
 use Rattle.std.specs.List.{flat_map}
 use Rattle.actor_machine.specs.Ledger.{state_of}
-use Rattle.script_group.specs.Lines.{line_of}
+use Rattle.plain_text.specs.Lines.{line_of}
 use Rattle.script_seen.specs.Told.{due_line}
 use Rattle.script_seen.proofs.events.due_text.Given as goal
 

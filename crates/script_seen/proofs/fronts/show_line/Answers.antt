@@ -1,7 +1,7 @@
 use Rattle.std.proofs.Common.{ℕ, List, ◌++◌, codes, map, ap, subst, ◌∙◌, arith}
 use Rattle.std.specs.Io.KnownBytes.{Appends}
 use Rattle.script_lines.specs.Lines.{texts, plain_line}
-use Rattle.script_group.specs.Lines.{line_of}
+use Rattle.plain_text.specs.Lines.{line_of}
 use Rattle.script_seen.specs.Shown.{parted}
 use Rattle.script_seen.proofs.Showings.{found_in}
 use Rattle.script_seen.proofs.fronts.show_line.Goals as goal

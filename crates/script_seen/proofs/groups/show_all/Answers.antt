@@ -1,7 +1,7 @@
 use Rattle.std.proofs.Common.{List, map, ap, subst, ◌∙◌}
 use Rattle.script_lines.specs.Lines.{PlainLine, plain_line}
 use Rattle.script_links.specs.GroupScripts.{plain_group_said}
-use Rattle.script_group.specs.GroupRuns.{playing_of}
+use Rattle.script_ends.specs.GroupRuns.{playing_of}
 use Rattle.script_seen.specs.Kinds.{IsGroupShown, IsGroupShownMissed}
 use Rattle.script_seen.proofs.groups.show_all.Goals as goal
 

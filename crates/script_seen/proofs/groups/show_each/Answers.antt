@@ -1,7 +1,7 @@
 use Rattle.std.proofs.Common.{map}
 use Rattle.script_lines.specs.Lines.{plain_line}
 use Rattle.script_links.specs.GroupScripts.{plain_group_said}
-use Rattle.script_group.specs.GroupRuns.{playing_of}
+use Rattle.script_ends.specs.GroupRuns.{playing_of}
 use Rattle.script_seen.proofs.ShownRuns.{group_starts, group_one_more, group_shown, group_missed}
 use Rattle.script_seen.proofs.groups.show_each.Goals as goal
 

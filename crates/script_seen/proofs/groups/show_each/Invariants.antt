@@ -2,7 +2,7 @@
 use Rattle.std.proofs.Common.{◌≡◌, None, map, take}
 use Rattle.script_lines.specs.Lines.{plain_line}
 use Rattle.script_links.specs.GroupScripts.{plain_group_said}
-use Rattle.script_group.specs.GroupRuns.{playing_of, last_of}
+use Rattle.script_ends.specs.GroupRuns.{playing_of, last_of}
 use Rattle.script_seen.specs.Kinds.{GroupShowing}
 use Rattle.script_seen.proofs.groups.show_each.Given as goal
 

@@ -2,8 +2,8 @@ use Rattle.std.proofs.Common.{List, map, ap, subst, ◌∙◌}
 use Rattle.script_lines.specs.Lines.{lines_of}
 use Rattle.script_links.specs.GroupScripts.{plain_group_said}
 use Rattle.script_links.specs.declared.group_script.GroupSaid.{GroupSaid}
-use Rattle.script_group.specs.GroupAnswers.{Playing}
-use Rattle.script_group.specs.GroupRuns.{begun, playing_of}
+use Rattle.script_ends.specs.GroupAnswers.{Playing}
+use Rattle.script_ends.specs.GroupRuns.{begun, playing_of}
 use Rattle.script_seen.specs.Kinds.{IsGroupShown, IsGroupShownMissed}
 use Rattle.script_seen.proofs.groups.show_group.Goals as goal
 

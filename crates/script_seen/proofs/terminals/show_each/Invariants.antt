@@ -2,7 +2,7 @@
 use Rattle.std.proofs.Common.{◌≡◌, None, map, take}
 use Rattle.script_lines.specs.Lines.{plain_line}
 use Rattle.script_links.specs.TermScripts.{plain_term_said}
-use Rattle.script_group.specs.TermRuns.{last_of}
+use Rattle.script_ends.specs.TermRuns.{last_of}
 use Rattle.script_seen.specs.Kinds.{TermShowing}
 use Rattle.script_seen.proofs.terminals.show_each.Given as goal
 

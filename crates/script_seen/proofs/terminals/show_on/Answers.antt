@@ -1,5 +1,5 @@
 use Rattle.std.proofs.Common.{List, map, subst}
-use Rattle.script_group.specs.Term.{Term}
+use Rattle.script_ends.specs.Term.{Term}
 use Rattle.script_lines.specs.Lines.{lines_of}
 use Rattle.script_links.specs.TermScripts.{plain_term_said}
 use Rattle.script_links.specs.declared.script.TermSaid.{TermSaid}

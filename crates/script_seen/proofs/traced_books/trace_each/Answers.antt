@@ -1,7 +1,7 @@
 use Rattle.std.proofs.Common.{map, ◌∙◌}
 use Rattle.script_lines.specs.Lines.{plain_line}
 use Rattle.script_lines.specs.Scripts.{plain_said}
-use Rattle.script_group.specs.Played.{last_of}
+use Rattle.script_ends.specs.Played.{last_of}
 use Rattle.script_seen.proofs.TracedRuns.{book_going_begins, book_goes_on, book_gone, book_missed_at, book_misses_at, book_traced_all, book_traced_part}
 use Rattle.script_seen.proofs.traced_books.trace_each.Goals as goal
 

@@ -2,7 +2,7 @@
 use Rattle.std.proofs.Common.{map, take}
 use Rattle.script_lines.specs.Lines.{plain_line}
 use Rattle.script_lines.specs.Scripts.{plain_said}
-use Rattle.script_group.specs.Played.{last_of}
+use Rattle.script_ends.specs.Played.{last_of}
 use Rattle.script_seen.proofs.TracedRuns.{BookGoing}
 use Rattle.script_seen.proofs.traced_books.trace_each.Given as goal
 

@@ -3,7 +3,7 @@ use Rattle.actor_machine.specs.Ledger.{Ledger}
 use Rattle.script_lines.specs.Lines.{PlainLine, plain_line, lines_of}
 use Rattle.script_lines.specs.Scripts.{plain_said}
 use Rattle.script_lines.specs.declared.script.Said.{Said}
-use Rattle.script_group.specs.Played.{first_book, IsWritten, IsMissed}
+use Rattle.script_ends.specs.Played.{first_book, IsWritten, IsMissed}
 use Rattle.script_seen.specs.TracedKinds.{IsAtStart, IsBookTraced, IsBookTracedInPart}
 use Rattle.script_seen.proofs.traced_books.trace_link.Goals as goal
 

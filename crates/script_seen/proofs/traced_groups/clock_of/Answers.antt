@@ -1,4 +1,4 @@
-use Rattle.script_group.specs.GroupRuns.{playing_of}
+use Rattle.script_ends.specs.GroupRuns.{playing_of}
 use Rattle.script_seen.proofs.SetTraces.{clock_first, clock_nowhere}
 use Rattle.script_seen.proofs.traced_groups.clock_of.Goals as goal
 

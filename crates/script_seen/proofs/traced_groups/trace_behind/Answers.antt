@@ -2,7 +2,7 @@ use Rattle.std.proofs.Common.{List, ℕ, map, subst}
 use Rattle.std.specs.Io.KnownBytes.{Appends}
 use Rattle.script_lines.specs.Lines.{plain_line}
 use Rattle.script_links.specs.GroupScripts.{plain_group_said}
-use Rattle.script_group.specs.GroupRuns.{playing_of, last_of}
+use Rattle.script_ends.specs.GroupRuns.{playing_of, last_of}
 use Rattle.script_seen.proofs.SetTraces.{told_behind}
 use Rattle.script_seen.proofs.traced_groups.trace_behind.Goals as goal
 

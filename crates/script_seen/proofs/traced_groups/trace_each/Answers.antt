@@ -1,7 +1,7 @@
 use Rattle.std.proofs.Common.{map}
 use Rattle.script_lines.specs.Lines.{plain_line}
 use Rattle.script_links.specs.GroupScripts.{plain_group_said}
-use Rattle.script_group.specs.GroupRuns.{playing_of, last_of}
+use Rattle.script_ends.specs.GroupRuns.{playing_of, last_of}
 use Rattle.script_seen.proofs.SetTraces.{set_begins, set_goes_on, set_gone, set_written, set_traced_all, set_missed_at, set_traced_part}
 use Rattle.script_seen.proofs.traced_groups.trace_each.Goals as goal
 

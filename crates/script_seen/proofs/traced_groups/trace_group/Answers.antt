@@ -1,8 +1,8 @@
 use Rattle.std.proofs.Common.{map, ap, subst, sym, ◌∙◌}
 use Rattle.script_lines.specs.Lines.{lines_of}
 use Rattle.script_links.specs.GroupScripts.{plain_group_said}
-use Rattle.script_group.specs.GroupAnswers.{Playing}
-use Rattle.script_group.specs.GroupRuns.{begun, IsGroupWritten, IsGroupMissed}
+use Rattle.script_ends.specs.GroupAnswers.{Playing}
+use Rattle.script_ends.specs.GroupRuns.{begun, IsGroupWritten, IsGroupMissed}
 use Rattle.script_seen.specs.TracedGroups.{AreNewLinks, IsGroupTraced, IsGroupTracedInPart}
 use Rattle.script_seen.proofs.SetTraces.{new_links}
 use Rattle.script_seen.proofs.traced_groups.trace_group.Goals as goal

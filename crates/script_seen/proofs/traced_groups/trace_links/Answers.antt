@@ -1,8 +1,8 @@
 use Rattle.std.proofs.Common.{◌≡◌, ◌<◌, ◌≤◌, length, rules, ◌∙◌}
 use Rattle.std.proofs.lemmas.List.{length-map}
 use Rattle.std.proofs.lemmas.Option.{slice_get-get_or}
-use Rattle.script_group.specs.GroupRuns.{playing_of}
-use Rattle.script_group.specs.Reading.{book_of}
+use Rattle.script_ends.specs.GroupRuns.{playing_of}
+use Rattle.link_group.specs.Reading.{book_of}
 use Rattle.script_seen.specs.TracedGroups.{books_of}
 use Rattle.script_seen.proofs.LinkTraces.{no_link, one_link, all_links}
 use Rattle.script_seen.proofs.traced_groups.trace_links.Goals as goal

@@ -1,7 +1,7 @@
 -- The links so far are traced.
 use Rattle.std.proofs.Common.{Bool, List}
 use Rattle.turn_code.specs.declared.draft.Draft.{Draft}
-use Rattle.script_group.specs.GroupRuns.{playing_of}
+use Rattle.script_ends.specs.GroupRuns.{playing_of}
 use Rattle.script_seen.specs.TracedGroups.{Reached, books_of}
 use Rattle.script_seen.specs.TracingGroups.{AreAtLinks}
 use Rattle.script_seen.proofs.LinkTraces.{LinksTraced}

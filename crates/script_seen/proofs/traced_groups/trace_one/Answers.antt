@@ -1,4 +1,4 @@
-use Rattle.script_group.specs.GroupRuns.{playing_of}
+use Rattle.script_ends.specs.GroupRuns.{playing_of}
 use Rattle.script_seen.specs.TracedGroups.{books_of}
 use Rattle.script_seen.proofs.SetTraces.{book_there, followed_one}
 use Rattle.script_seen.proofs.traced_groups.trace_one.Goals as goal

@@ -2,7 +2,7 @@ use Rattle.std.proofs.Common.{List, map, ap, sym, subst, ◌∙◌}
 use Rattle.script_lines.specs.Lines.{PlainLine, plain_line, lines_of}
 use Rattle.script_links.specs.GroupScripts.{plain_group_said}
 use Rattle.script_links.specs.declared.group_script.GroupSaid.{GroupSaid}
-use Rattle.script_group.specs.GroupRuns.{playing_of, IsGroupWritten, IsGroupMissed}
+use Rattle.script_ends.specs.GroupRuns.{playing_of, IsGroupWritten, IsGroupMissed}
 use Rattle.script_seen.specs.TracedGroups.{reached_at, books_of, IsGroupTraced, IsGroupTracedInPart}
 use Rattle.script_seen.specs.TracingGroups.{AreAtLinks}
 use Rattle.script_seen.specs.declared.tracing.Tracer.{Tracer}

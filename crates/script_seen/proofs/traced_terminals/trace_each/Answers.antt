@@ -1,7 +1,7 @@
 use Rattle.std.proofs.Common.{map, ◌∙◌}
 use Rattle.script_lines.specs.Lines.{plain_line}
 use Rattle.script_links.specs.TermScripts.{plain_term_said}
-use Rattle.script_group.specs.TermRuns.{last_of}
+use Rattle.script_ends.specs.TermRuns.{last_of}
 use Rattle.script_seen.proofs.TracedRuns.{term_going_begins, term_goes_on, term_gone, term_missed_at, term_misses_at, term_traced_all, term_traced_part}
 use Rattle.script_seen.proofs.traced_terminals.trace_each.Goals as goal
 

@@ -2,7 +2,7 @@
 use Rattle.std.proofs.Common.{map, take}
 use Rattle.script_lines.specs.Lines.{plain_line}
 use Rattle.script_links.specs.TermScripts.{plain_term_said}
-use Rattle.script_group.specs.TermRuns.{last_of}
+use Rattle.script_ends.specs.TermRuns.{last_of}
 use Rattle.script_seen.proofs.TracedRuns.{TermGoing}
 use Rattle.script_seen.proofs.traced_terminals.trace_each.Given as goal
 

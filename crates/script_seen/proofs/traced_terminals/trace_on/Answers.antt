@@ -1,10 +1,10 @@
 use Rattle.std.proofs.Common.{Bool, List, map, sym, ap, subst, ◌∙◌}
 use Rattle.actor_machine.specs.Ledger.{Ledger}
-use Rattle.script_group.specs.Term.{Term}
+use Rattle.script_ends.specs.Term.{Term}
 use Rattle.script_lines.specs.Lines.{PlainLine, plain_line, lines_of}
 use Rattle.script_links.specs.TermScripts.{plain_term_said, asks_told}
 use Rattle.script_links.specs.declared.script.TermSaid.{TermSaid}
-use Rattle.script_group.specs.TermRuns.{IsTermWritten, IsTermFailed}
+use Rattle.script_ends.specs.TermRuns.{IsTermWritten, IsTermFailed}
 use Rattle.script_seen.specs.TracedKinds.{book_in, IsAtStart, IsTermTraced, IsTermTracedInPart}
 use Rattle.script_seen.proofs.TracedRuns.{term_written, term_failed}
 use Rattle.script_seen.proofs.traced_terminals.trace_on.Goals as goal

@@ -1,6 +1,6 @@
 use Rattle.std.proofs.Common.{subst}
 use Rattle.script_links.specs.resend_store_types.messages.RoundLimits.{RoundLimits}
-use Rattle.script_group.specs.TermRuns.{IsNewWithin}
+use Rattle.script_ends.specs.TermRuns.{IsNewWithin}
 use Rattle.script_seen.proofs.traced_terminals.trace_terminal.Goals as goal
 
 pub returns-in-Ok-clause-held : goal.returns-in-Ok-clause-held

@@ -1,6 +1,6 @@
 use Rattle.std.proofs.Common.{map}
 use Rattle.script_lines.specs.Scripts.{plain_said}
-use Rattle.script_group.specs.Played.{last_of}
+use Rattle.script_ends.specs.Played.{last_of}
 use Rattle.script_seen.proofs.TracedRuns.{book_missed_at, book_misses_at}
 use Rattle.script_seen.proofs.WatchedRuns.{book_going_begins, book_goes_on, book_gone, book_kept, book_watched_all, book_watched_part}
 use Rattle.script_seen.proofs.watched_books.watch_each.Goals as goal

@@ -1,7 +1,7 @@
 -- The commands so far were obeyed, and the watcher was notified.
 use Rattle.std.proofs.Common.{map, take}
 use Rattle.script_lines.specs.Scripts.{plain_said}
-use Rattle.script_group.specs.Played.{last_of}
+use Rattle.script_ends.specs.Played.{last_of}
 use Rattle.script_seen.proofs.WatchedRuns.{BookGoing}
 use Rattle.script_seen.proofs.watched_books.watch_each.Given as goal
 

@@ -3,7 +3,7 @@ use Rattle.turn_code.specs.declared.draft.Draft.{Draft}
 use Rattle.actor_machine.specs.Ledger.{Ledger}
 use Rattle.script_lines.specs.Scripts.{plain_said}
 use Rattle.script_lines.specs.declared.script.Said.{Said}
-use Rattle.script_group.specs.Played.{first_book, IsWritten, IsMissed}
+use Rattle.script_ends.specs.Played.{first_book, IsWritten, IsMissed}
 use Rattle.script_seen.specs.TracedKinds.{IsAtStart}
 use Rattle.script_seen.specs.WatchedKinds.{IsBookWatched, IsBookWatchedInPart}
 use Rattle.script_seen.proofs.WatchedRuns.{opened_set}

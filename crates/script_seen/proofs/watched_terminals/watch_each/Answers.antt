@@ -1,6 +1,6 @@
 use Rattle.std.proofs.Common.{map}
 use Rattle.script_links.specs.TermScripts.{plain_term_said}
-use Rattle.script_group.specs.TermRuns.{last_of}
+use Rattle.script_ends.specs.TermRuns.{last_of}
 use Rattle.script_seen.specs.TracedKinds.{book_in}
 use Rattle.script_seen.proofs.TracedRuns.{term_missed_at, term_misses_at}
 use Rattle.script_seen.proofs.WatchedRuns.{term_going_begins, term_goes_on, term_gone, term_kept, term_watched_all, term_watched_part}

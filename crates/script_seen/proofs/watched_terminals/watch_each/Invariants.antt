@@ -1,7 +1,7 @@
 -- The commands so far were obeyed, and the watcher was notified.
 use Rattle.std.proofs.Common.{map, take}
 use Rattle.script_links.specs.TermScripts.{plain_term_said}
-use Rattle.script_group.specs.TermRuns.{last_of}
+use Rattle.script_ends.specs.TermRuns.{last_of}
 use Rattle.script_seen.specs.TracedKinds.{book_in}
 use Rattle.script_seen.proofs.WatchedRuns.{TermGoing}
 use Rattle.script_seen.proofs.watched_terminals.watch_each.Given as goal

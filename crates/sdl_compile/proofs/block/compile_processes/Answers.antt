@@ -4,7 +4,7 @@ use Rattle.sdl_ast.specs.Views.{block_of, process_of}
 use Rattle.sdl_tables.specs.Names.{processes_of}
 use Rattle.sdl_sound.specs.Settled.{AreSettled}
 use Rattle.sdl_sound.specs.Orders.{IsOrder}
-use Rattle.sdl_compile.specs.Measures.{AreMeasures}
+use Rattle.sdl_emit.specs.Measures.{AreMeasures}
 use Rattle.sdl_meaning.specs.Act.{scope_of}
 use Rattle.sdl_compile.specs.Drafts.{IsReadyProcess, MatchesProcess, IsProcessOf}
 use Rattle.sdl_compile.proofs.Zips.{zip_more}

@@ -1,4 +1,4 @@
-use Rattle.sdl_compile.specs.Scopes.{scope_in, piece_in}
+use Rattle.sdl_emit.specs.Scopes.{scope_in, piece_in}
 use Rattle.sdl_compile.proofs.Pieces.{means}
 use Rattle.sdl_meaning.proofs.Counted.{size_is}
 use Rattle.sdl_compile.proofs.piece.compile_transition.Goals as goal

@@ -1,13 +1,13 @@
 use Rattle.std.proofs.Common.{length, ap, ◌∙◌, subst, arith, List, [], ℕ}
 use Rattle.std.specs.List.{sum_by}
-use Rattle.sdl_compile.specs.Scopes.{scope_in, piece_in}
+use Rattle.sdl_emit.specs.Scopes.{scope_in, piece_in}
 use Rattle.sdl_meaning.specs.Code.{size_at, piece_code}
 use Rattle.turn_code.specs.Rules.{greatest, depths}
 use Rattle.sdl_compile.specs.Facts.{shapes_from, piece_sets}
 use Rattle.sdl_meaning.specs.Declarations.{drafted_signals}
 use Rattle.sdl_compile.specs.Settings.{count_from, effects_from}
-use Rattle.sdl_facts.specs.declared.counts.Counted.TheVariants.{Instructions, Effects}
-use Rattle.sdl_facts.specs.PlaceCounts.{weight, AreCounts}
+use Rattle.sdl_compile.specs.declared.counts.Counted.TheVariants.{Instructions, Effects}
+use Rattle.sdl_compile.specs.PlaceCounts.{weight, AreCounts}
 use Rattle.sdl_meaning.proofs.Counted.{size_is, size_fits}
 use Rattle.sdl_compile.proofs.Making.{placed_within, sets_length, is_deep, made}
 use Rattle.sdl_compile.proofs.piece.make_piece.Goals as goal

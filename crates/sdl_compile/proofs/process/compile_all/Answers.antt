@@ -11,7 +11,7 @@ use Rattle.sdl_tables.specs.Rows.{row_names}
 use Rattle.sdl_sound.specs.Standing.{taken_in}
 use Rattle.std.specs.Borrow.{Bor}
 use Rattle.sdl_ast.specs.declared.tree.InputPart.{InputPart}
-use Rattle.sdl_compile.specs.Scopes.{scope_in}
+use Rattle.sdl_emit.specs.Scopes.{scope_in}
 use Rattle.sdl_compile.specs.Drafts.{AllReady, AllTriggers, SavesAll, AreInputsOf}
 use Rattle.sdl_compile.proofs.Zips.{paired}
 use Rattle.sdl_compile.proofs.process.compile_all.Goals as goal

@@ -2,7 +2,7 @@ use Rattle.std.proofs.Common.{◌≡◌, [], None, sym, ap, subst}
 use Rattle.sdl_ast.specs.declared.tree.Process.{Process}
 use Rattle.sdl_ast.specs.Views.{process_of, text_of}
 use Rattle.sdl_sound.specs.Longest.{Piece, start_piece}
-use Rattle.sdl_compile.specs.Scopes.{scope_in}
+use Rattle.sdl_emit.specs.Scopes.{scope_in}
 use Rattle.sdl_meaning.specs.Named.{AnswersAll}
 use Rattle.sdl_compile.specs.Drafts.{Means}
 use Rattle.sdl_compile.proofs.process.compile_start.Goals as goal

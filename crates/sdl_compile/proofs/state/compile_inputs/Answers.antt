@@ -2,7 +2,7 @@ use Rattle.std.proofs.Common.{take, sym, subst}
 use Rattle.std.specs.List.{AllZip, flat_map}
 use Rattle.sdl_sound.specs.Standing.{taken_by}
 use Rattle.sdl_sound.proofs.Spread.{flat_more}
-use Rattle.sdl_compile.specs.Scopes.{scope_in}
+use Rattle.sdl_emit.specs.Scopes.{scope_in}
 use Rattle.sdl_compile.specs.Drafts.{IsInputOf}
 use Rattle.sdl_compile.proofs.Zips.{ready_within}
 use Rattle.sdl_compile.proofs.state.compile_inputs.Goals as goal

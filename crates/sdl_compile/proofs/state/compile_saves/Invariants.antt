@@ -1,5 +1,5 @@
 use Rattle.std.proofs.Common.{◌≡◌, map, take, drop}
-use Rattle.sdl_compile.specs.Scopes.{scope_in}
+use Rattle.sdl_emit.specs.Scopes.{scope_in}
 use Rattle.sdl_meaning.specs.Declarations.{trigger_of}
 use Rattle.sdl_compile.specs.Drafts.{AreTriggers}
 use Rattle.sdl_compile.proofs.state.compile_saves.Given as goal

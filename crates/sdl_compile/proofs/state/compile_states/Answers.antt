@@ -9,7 +9,7 @@ use Rattle.sdl_ast.specs.declared.tree.InputPart.{InputPart}
 use Rattle.sdl_tables.specs.Names.{states_of}
 use Rattle.sdl_tables.specs.Rows.{row_names}
 use Rattle.sdl_sound.specs.Standing.{taken_by, taken_in}
-use Rattle.sdl_compile.specs.Scopes.{scope_in}
+use Rattle.sdl_emit.specs.Scopes.{scope_in}
 use Rattle.sdl_compile.specs.Drafts.{IsNamedAs, SavesAll, AreInputsOf, AreTriggers}
 use Rattle.sdl_compile.proofs.Zips.{zip_more, zip_some, all_ready_more, sets_more, triggers_at}
 use Rattle.sdl_compile.proofs.state.compile_states.Goals as goal

@@ -4,7 +4,7 @@ use Rattle.sdl_ast.specs.Views.{process_of}
 use Rattle.sdl_tables.specs.Names.{states_of}
 use Rattle.sdl_tables.specs.Rows.{row_names}
 use Rattle.sdl_sound.specs.Standing.{taken_in}
-use Rattle.sdl_compile.specs.Scopes.{scope_in}
+use Rattle.sdl_emit.specs.Scopes.{scope_in}
 use Rattle.sdl_compile.specs.Drafts.{AllReady, IsNamedAs, SavesAll, AreInputsOf, sets_of}
 use Rattle.sdl_compile.proofs.state.compile_states.Given as goal
 

@@ -1,7 +1,7 @@
 use Rattle.std.proofs.Common.{List, ◌++◌, ◌+◌, ◌∙◌, map, take, ap, sym, subst, append-nil, take_all}
 use Rattle.std.specs.List.{AllZip}
 use Rattle.turn_code.specs.declared.draft.DraftInput.{DraftInput}
-use Rattle.sdl_compile.specs.Scopes.{scope_in, input_by}
+use Rattle.sdl_emit.specs.Scopes.{scope_in, input_by}
 use Rattle.sdl_compile.specs.Drafts.{IsInputOf, AreReady}
 use Rattle.sdl_compile.proofs.Zips.{ready_at, stimuli_taken}
 use Rattle.sdl_compile.proofs.state.push_stimuli.Goals as goal

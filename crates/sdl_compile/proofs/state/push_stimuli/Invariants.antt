@@ -1,7 +1,7 @@
 use Rattle.std.proofs.Common.{List, ◌++◌, map, take}
 use Rattle.std.specs.List.{AllZip}
 use Rattle.sdl_tables.specs.Names.{Input}
-use Rattle.sdl_compile.specs.Scopes.{scope_in, input_by}
+use Rattle.sdl_emit.specs.Scopes.{scope_in, input_by}
 use Rattle.sdl_compile.specs.Drafts.{IsInputOf}
 use Rattle.sdl_compile.proofs.state.push_stimuli.Given as goal
 

@@ -1,6 +1,6 @@
 use Rattle.std.proofs.Common.{◌≡◌, ◌++◌, map, drop}
 use Rattle.sdl_ast.specs.Views.{tree_of}
-use Rattle.sdl_names.specs.Scopes.{scope_in}
+use Rattle.sdl_emit.specs.Scopes.{scope_in}
 use Rattle.sdl_meaning.specs.Named.{NamedTrees}
 use Rattle.sdl_meaning.specs.Code.{trees_code}
 use Rattle.sdl_emit.proofs.emit.emit_parameters.Given as goal

@@ -1,5 +1,5 @@
 use Rattle.std.proofs.Common.{◌≡◌, ◌++◌, drop}
-use Rattle.sdl_names.specs.Scopes.{scope_in}
+use Rattle.sdl_emit.specs.Scopes.{scope_in}
 use Rattle.sdl_meaning.specs.Named.{NamedPlaces}
 use Rattle.sdl_meaning.specs.Code.{places_code}
 use Rattle.sdl_emit.proofs.emit.emit_places.Given as goal

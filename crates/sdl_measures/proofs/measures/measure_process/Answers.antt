@@ -7,7 +7,7 @@ use Rattle.sdl_ast.specs.Plain.{PlainConnection}
 use Rattle.sdl_ast.specs.Views.{connection_of, process_of}
 use Rattle.sdl_measures.specs.Counting.{IsMeasured}
 use Rattle.sdl_measures.specs.declared.measures.Measure.{Measure}
-use Rattle.sdl_joins.proofs.Connectors.{distinct_connectors}
+use Rattle.sdl_measures.proofs.Connectors.{distinct_connectors}
 use Rattle.sdl_measures.proofs.Joined.{measured_more, all_measured}
 use Rattle.sdl_measures.proofs.measures.measure_process.Goals as goal
 

@@ -1,6 +1,6 @@
 use Rattle.std.proofs.Common.{rules, ◌≡◌, pos, w32, SFits, to_z-of_z, ap, ◌∙◌}
 use Rattle.turn_code.specs.declared.value.Value.TheVariants.{Int}
-use Rattle.turn_check.specs.Bare.{bare_of, pushed}
+use Rattle.turn_code.specs.Bare.{bare_of, pushed}
 use Rattle.trials_texts.proofs.Putting.{put_one}
 use Rattle.trials_texts.proofs.wording.+put_all.Goals as goal
 

@@ -1,4 +1,4 @@
-use Rattle.turn_check.specs.Bare.{bare_of}
+use Rattle.turn_code.specs.Bare.{bare_of}
 use Rattle.turn_machine.specs.Wording.{IsKeptTo}
 use Rattle.trials_texts.proofs.wording.keep_all.Given as goal
 

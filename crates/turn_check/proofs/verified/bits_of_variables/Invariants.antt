@@ -1,7 +1,7 @@
 use Rattle.std.proofs.Common.{◌≡◌, ℕ, ◌<◌, length, Some}
 use Rattle.std.specs.Prelude.{slice_get}
 use Rattle.turn_code.specs.declared.draft.DraftProcess.{DraftProcess}
-use Rattle.turn_words.specs.Sorts.{sort_bits, sorts_of}
+use Rattle.turn_code.specs.Sorts.{sort_bits, sorts_of}
 use Rattle.turn_check.proofs.verified.bits_of_variables.Given as goal
 
 abbrev pub invariant-loop-number : goal.invariant-loop-number

@@ -1,6 +1,6 @@
 use Rattle.std.proofs.Common.{◌≡◌, List, Option, length, take}
 use Rattle.turn_code.specs.declared.value.Value.{Value}
-use Rattle.turn_check.specs.Bare.{bare_of}
+use Rattle.turn_code.specs.Bare.{bare_of}
 use Rattle.turn_machine.specs.Wording.{AreVariables}
 use Rattle.turn_machine.proofs.values.set_variables.Given as goal
 

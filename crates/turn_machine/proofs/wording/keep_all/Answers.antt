@@ -1,4 +1,4 @@
-use Rattle.turn_check.specs.Bare.{bare_of}
+use Rattle.turn_code.specs.Bare.{bare_of}
 use Rattle.turn_machine.proofs.Worded.{kept_to_none, kept_to_next}
 use Rattle.turn_machine.proofs.wording.keep_all.Goals as goal
 

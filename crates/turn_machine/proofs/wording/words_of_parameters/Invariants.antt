@@ -1,7 +1,7 @@
 use Rattle.std.proofs.Common.{◌≡◌, ℕ, ◌<◌, length, Some}
 use Rattle.std.specs.Prelude.{slice_get}
 use Rattle.turn_code.specs.declared.value.Value.{Value}
-use Rattle.turn_check.specs.Meant.{word_of}
+use Rattle.turn_code.specs.Meant.{word_of}
 use Rattle.turn_machine.proofs.wording.words_of_parameters.Given as goal
 
 abbrev pub invariant-loop-place : goal.invariant-loop-place

@@ -2,7 +2,7 @@ use Rattle.std.proofs.Common.{refl, ap, ◌∙◌}
 use Rattle.std.specs.List.{flat_map}
 use Rattle.actor_machine.specs.Ledger.{state_of}
 use Rattle.actor_machine.specs.declared.event.Event.TheVariants as event
-use Rattle.script_group.specs.Lines.{line_of}
+use Rattle.plain_text.specs.Lines.{line_of}
 use Rattle.script_seen.proofs.Steps.{skip_keeps, quiet_step}
 use Rattle.script_seen.proofs.Tellings.{told_skip}
 use Rattle.script_seen.proofs.tracing.Tracer.skip.Goals as goal

@@ -1,7 +1,7 @@
 use Rattle.std.proofs.Common.{rules, ◌≡◌, Some, ap, ◌∙◌, sym, subst}
 use Rattle.std.specs.Prelude.{slice_get, slice_index_or}
 use Rattle.turn_code.specs.declared.draft.Draft.{Draft}
-use Rattle.turn_words.specs.Sorts.{AreSortsOf}
+use Rattle.turn_code.specs.Sorts.{AreSortsOf}
 use Rattle.turn_check.proofs.Sorting.{sorted_at}
 use Rattle.turn_check.proofs.verified.Verified.sorts.Goals as goal
 

@@ -1,5 +1,0 @@
-use Rattle.line_play.specs.SetDesks.{AreNewWires}
-use Rattle.line_play.proofs.set_desk.wires.Given as goal
-
-abbrev pub invariant-loop-link : goal.invariant-loop-link
-invariant-loop-link l = AreNewWires l._link l.wires.items

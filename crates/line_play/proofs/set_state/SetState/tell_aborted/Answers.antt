@@ -1,9 +1,0 @@
-use Rattle.std.proofs.Common.{refl}
-use Rattle.line_play.specs.SetShowing.{ABORTED}
-use Rattle.line_play.proofs.SetTelling.{told_as, count_line}
-use Rattle.line_play.proofs.set_state.SetState.tell_aborted.Goals as goal
-
-pub returns : goal.returns
-returns g c =
-    told_as c.say_text.result _ _ _ _ _ _ refl
-    (count_line ABORTED ABORTED _ c.args.link _ _ refl c.aborted-count.ensures c.in_ok-format.ensures.ok) c.say_text.ensures

@@ -1,0 +1,253 @@
+//! A round of a link set on its lines.
+ghost use Rattle.std.specs.Prelude.{◌≡◌, ◌<◌, [], length, replicate, IfOk, OnOk};
+ghost use Rattle.line_tending.specs.Rounds.{Tends, Ticks};
+ghost use Rattle.line_tending.specs.LinkLines.{Hears, Passes, SILENT};
+ghost use Rattle.line_play.specs.LineTraffic.{Grows, given, front_of, silence_for};
+ghost use Rattle.line_play.specs.SetRounds.{Made, PassesOn, Carries, CarriesAt, CarriesAll};
+
+use crate::set::lines::{LineNews, Lines};
+use crate::set::state::{failed, say_of};
+use line_filter::Reports;
+use line_tending::{LineChange, LinkLine, TendedSet, miss_line};
+use std::alloc::Global;
+use std::io;
+
+/// A line of a set: its link, and how many octets of 1s are sent when it opens and after each 1,000 rounds of silence.
+#[derive(Clone, Copy)]
+pub(crate) struct SetLine {
+    pub link: usize,
+    pub ahead: usize,
+}
+
+/// Passes the octets received on a line to its link. `out` is replaced by the octets to send.
+fn hear(
+    tender: &mut TendedSet,
+    wire: &mut LinkLine,
+    line: SetLine,
+    came: &[u8],
+    out: &mut Vec<u8>,
+) -> io::Result<LineChange>
+    ensures { IfOk result (λ passed. Passes line.link line.ahead came.now tender.old wire.old [] passed tender.new wire.new out.new.items) }
+{
+    out.clear();
+    match wire.pass(tender, line.link, line.ahead, came, out) {
+        Ok(passed) => Ok(passed),
+        Err(error) => Err(failed(error)),
+    }
+}
+
+/// Sends octets on a line, if there are any.
+fn give_out<L: Lines>(lines: &mut L, link: usize, out: &[u8])
+    ensures { Grows (L.traffic lines.old) (L.traffic lines.new) (given link out.now) }
+{
+    if out.is_empty() {
+        return;
+    }
+    lines.give(link, out);
+}
+
+/// Passes the octets received on a line to its link, and sends the octets due.
+fn pass<L: Lines, P: Reports>(
+    alloc: Global,
+    tender: &mut TendedSet,
+    wire: &mut LinkLine,
+    lines: &mut L,
+    line: SetLine,
+    came: &[u8],
+    out: &mut Vec<u8>,
+    reports: &mut P,
+) -> io::Result<()>
+    ensures { OnOk result (Made (λ bytes traffic. PassesOn line.link line.ahead came.now tender.old wire.old bytes traffic tender.new wire.new)
+        (P.stand reports.old) (P.stand reports.new) (L.traffic lines.old) (L.traffic lines.new)) }
+{
+    let link = line.link;
+    let passed = hear(tender, wire, line, came, out)?;
+    give_out(lines, link, out.as_slice());
+    match passed {
+        LineChange::Same => Ok(()),
+        LineChange::Silent => {
+            say_of(
+                alloc,
+                tender,
+                format!(in alloc; "{link} line silent")?,
+                reports,
+            )
+        }
+        LineChange::Back => say_of(
+            alloc,
+            tender,
+            format!(in alloc; "{link} line back")?,
+            reports,
+        ),
+    }
+}
+
+/// Makes a round of a line that isn't open: its link receives 1s.
+fn miss(tender: &mut TendedSet, link: usize) -> io::Result<()>
+    ensures { OnOk result (Hears link tender.old SILENT tender.new) }
+{
+    match miss_line(tender, link) {
+        Ok(()) => Ok(()),
+        Err(error) => Err(failed(error)),
+    }
+}
+
+/// Sends the octets of 1s with which a line opens.
+fn go_ahead<L: Lines>(lines: &mut L, line: SetLine)
+    ensures { Grows (L.traffic lines.old) (L.traffic lines.new) (replicate line.ahead (silence_for line.link)) }
+{
+    for _octet in 0..line.ahead {
+        lines.give(line.link, &[255]);
+    }
+}
+
+/// The first `count` octets of a slice; none if there are fewer.
+fn front(octets: &[u8], count: usize) -> &[u8]
+    ensures { result.now ≡ front_of count octets.now }
+{
+    if count > octets.len() {
+        return &[];
+    }
+    let first = &octets[..count];
+    first
+}
+
+/// Makes a round of a line.
+fn carry<L: Lines, P: Reports>(
+    alloc: Global,
+    tender: &mut TendedSet,
+    wire: &mut LinkLine,
+    lines: &mut L,
+    line: SetLine,
+    part: &mut [u8],
+    out: &mut Vec<u8>,
+    reports: &mut P,
+) -> io::Result<()>
+    ensures { OnOk result (Made (λ bytes traffic. Carries line.link line.ahead tender.old wire.old bytes traffic tender.new wire.new)
+        (P.stand reports.old) (P.stand reports.new) (L.traffic lines.old) (L.traffic lines.new)) }
+{
+    let link = line.link;
+    match lines.take(link, part) {
+        LineNews::Octets(count) => {
+            let came = front(part, count);
+            pass(alloc, tender, wire, lines, line, came, out, reports)
+        }
+        LineNews::Closed => miss(tender, link),
+        LineNews::Ended => say_of(
+            alloc,
+            tender,
+            format!(in alloc; "{link} line ended")?,
+            reports,
+        ),
+        LineNews::Failed => say_of(
+            alloc,
+            tender,
+            format!(in alloc; "{link} line failed")?,
+            reports,
+        ),
+        LineNews::Opened => {
+            go_ahead(lines, line);
+            say_of(
+                alloc,
+                tender,
+                format!(in alloc; "{link} line open")?,
+                reports,
+            )
+        }
+    }
+}
+
+/// Makes a round of the line at a place.
+fn carry_at<L: Lines, P: Reports>(
+    alloc: Global,
+    tender: &mut TendedSet,
+    wires: &mut [LinkLine],
+    lines: &mut L,
+    line: SetLine,
+    part: &mut [u8],
+    out: &mut Vec<u8>,
+    reports: &mut P,
+) -> io::Result<()>
+    requires { line.link < length wires.old }
+    ensures { OnOk result (Made (λ bytes traffic. CarriesAt line.link line.ahead tender.old wires.old bytes traffic tender.new wires.new)
+        (P.stand reports.old) (P.stand reports.new) (L.traffic lines.old) (L.traffic lines.new)) }
+{
+    let link = line.link;
+    carry(
+        alloc,
+        tender,
+        &mut wires[link],
+        lines,
+        line,
+        part,
+        out,
+        reports,
+    )
+}
+
+/// Makes a round of all lines.
+fn carry_all<L: Lines, P: Reports>(
+    alloc: Global,
+    tender: &mut TendedSet,
+    wires: &mut [LinkLine],
+    lines: &mut L,
+    ahead: usize,
+    part: &mut [u8],
+    out: &mut Vec<u8>,
+    reports: &mut P,
+) -> io::Result<()>
+    ensures { OnOk result (Made (λ bytes traffic. CarriesAll ahead tender.old wires.old (length wires.old) bytes traffic tender.new wires.new)
+        (P.stand reports.old) (P.stand reports.new) (L.traffic lines.old) (L.traffic lines.new)) }
+{
+    for link in 0..wires.len() {
+        let line = SetLine { link, ahead };
+        carry_at(alloc, tender, wires, lines, line, part, out, reports)?;
+    }
+    Ok(())
+}
+
+/// Makes a round of all lines of a link set.
+pub(crate) fn carry_lines<L: Lines, P: Reports>(
+    alloc: Global,
+    tender: &mut TendedSet,
+    wires: &mut Vec<LinkLine>,
+    lines: &mut L,
+    ahead: usize,
+    part: &mut [u8],
+    out: &mut Vec<u8>,
+    reports: &mut P,
+) -> io::Result<()>
+    ensures { OnOk result (Made (λ bytes traffic. CarriesAll ahead tender.old wires.old.items (length wires.old.items) bytes traffic tender.new wires.new.items)
+        (P.stand reports.old) (P.stand reports.new) (L.traffic lines.old) (L.traffic lines.new)) }
+{
+    carry_all(
+        alloc,
+        tender,
+        wires.as_mut_slice(),
+        lines,
+        ahead,
+        part,
+        out,
+        reports,
+    )
+}
+
+/// Lets a tick pass.
+pub(crate) fn tick(tender: &mut TendedSet) -> io::Result<()>
+    ensures { OnOk result (Ticks tender.old tender.new) }
+{
+    match tender.tick() {
+        Ok(()) => Ok(()),
+        Err(error) => Err(failed(error)),
+    }
+}
+
+/// Does the tending of the links.
+pub(crate) fn tend(tender: &mut TendedSet) -> io::Result<()>
+    ensures { OnOk result (Tends tender.old tender.new) }
+{
+    match tender.tend() {
+        Ok(()) => Ok(()),
+        Err(error) => Err(failed(error)),
+    }
+}

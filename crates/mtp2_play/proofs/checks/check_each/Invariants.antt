@@ -1,5 +1,0 @@
-use Rattle.std.proofs.Common.{◌≡◌, ◌⊎◌}
-use Rattle.mtp2_play.proofs.checks.check_each.Given as goal
-
-abbrev pub invariant-loop-set : goal.invariant-loop-set
-invariant-loop-set g l = (l.status ≡ 0) ⊎ (l.status ≡ 2) ⊎ (l.status ≡ 4)

@@ -1,5 +1,0 @@
-use Rattle.mtp2_play.proofs.Known.{spoken}
-use Rattle.mtp2_play.proofs.lines.line_text.Goals as goal
-
-pub returns : goal.returns
-returns g c = spoken _ _ _ _ _ _ c.line_on.ensures

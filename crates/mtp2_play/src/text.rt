@@ -1,0 +1,7 @@
+//! The commands on process texts: `check`, `diff`, `draw`, `text`; and what sets are called.
+
+pub mod check;
+pub mod diff;
+pub mod draw;
+pub mod print;
+pub mod sets;

@@ -1,6 +1,0 @@
-mod CallAnswers
-mod GroupRuns
-mod RetrievalAnswers
-mod LineAnswers
-mod Openings
-mod ShownAnswers

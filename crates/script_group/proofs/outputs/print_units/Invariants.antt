@@ -1,9 +1,0 @@
--- The units printed so far.
-use Rattle.script_terminal.specs.Played.{last_in}
-use Rattle.script_group.proofs.GroupRuns.{HasGoneSoFar}
-use Rattle.script_group.proofs.outputs.print_units.Given as goal
-
-abbrev pub invariant-loop-gone : goal.invariant-loop-gone
-invariant-loop-gone g l =
-    HasGoneSoFar l.link l.gone (g.W.Write.contents l.initial.writer) (g.W.Write.contents l.writer) (last_in l.initial.printer) (last_in l.printer)
-    l.initial.group l.group

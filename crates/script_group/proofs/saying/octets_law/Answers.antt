@@ -1,5 +1,0 @@
-use Rattle.script_group.proofs.CallAnswers.{octets_fit}
-use Rattle.script_group.proofs.saying.octets_law.Goals as goal
-
-pub returns : goal.returns
-returns c = octets_fit c.args.octets.now (λ i. (c.type_inv.octets i).fits)

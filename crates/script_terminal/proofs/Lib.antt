@@ -1,3 +1,0 @@
-pub mod TermAnswers
-pub mod TermRuns
-mod UnitLaws

@@ -1,6 +1,0 @@
--- The repetitions so far.
-use Rattle.script_terminal.specs.TermAnswers.{TakesTimes}
-use Rattle.script_terminal.proofs.hearing.take_times.Given as goal
-
-abbrev pub invariant-loop-taken : goal.invariant-loop-taken
-invariant-loop-taken l = TakesTimes l.keeps l.octets l.taken l.initial.terminal l.terminal

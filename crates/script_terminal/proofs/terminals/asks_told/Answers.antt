@@ -1,6 +1,0 @@
-use Rattle.std.proofs.Common.{◌∙◌}
-use Rattle.script_terminal.proofs.TermRuns.{any_told}
-use Rattle.script_terminal.proofs.terminals.asks_told.Goals as goal
-
-pub returns : goal.returns
-returns c = c.has_told.ensures ∙ any_told c.args.commands.now

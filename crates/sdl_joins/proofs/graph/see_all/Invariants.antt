@@ -1,6 +1,0 @@
-use Rattle.std.proofs.Common.{take}
-use Rattle.sdl_joins.specs.Searched.{Finds}
-use Rattle.sdl_joins.proofs.graph.see_all.Given as goal
-
-abbrev pub invariant-loop-node : goal.invariant-loop-node
-invariant-loop-node l = Finds (take l.node-index l.nodes) l.initial.marks.items l.initial.found.items l.marks.items l.found.items

@@ -1,6 +1,0 @@
-use Rattle.sdl_ast.specs.Views.{process_of}
-use Rattle.sdl_joins.proofs.Connectors.{distinct_connectors}
-use Rattle.sdl_joins.proofs.joins.find_links.Goals as goal
-
-pub returns-clause-distinct : goal.returns-clause-distinct
-returns-clause-distinct c = distinct_connectors (process_of c.args.process.now) c.process.ensures.distinct

@@ -1,3 +1,0 @@
-pub mod JoinLists
-pub mod Links
-pub mod Searched

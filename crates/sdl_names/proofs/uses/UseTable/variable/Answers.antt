@@ -1,6 +1,0 @@
-use Rattle.std.proofs.Common.{subst}
-use Rattle.sdl_names.specs.Uses.{IsUse}
-use Rattle.sdl_names.proofs.uses.UseTable.variable.Goals as goal
-
-pub returns-in-Some-Variable : goal.returns-in-Some-Variable
-returns-in-Some-Variable c = λ s h. (subst (IsUse s c.args.id.now.name) c.in-Some-Variable.field-0-is (c.in-Some-Variable.ensures s h)).0

@@ -1,6 +1,0 @@
-use Rattle.std.proofs.Common.{◌≡◌, false, take}
-use Rattle.sdl_statements.specs.Distinct.{has_sender}
-use Rattle.sdl_statements.proofs.distinct.has_sender.Given as goal
-
-abbrev pub invariant-loop-one : goal.invariant-loop-one
-invariant-loop-one l = has_sender (take l.one-index l.senders) l.sender ≡ false

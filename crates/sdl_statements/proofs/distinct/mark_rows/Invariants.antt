@@ -1,6 +1,0 @@
-use Rattle.std.proofs.Common.{◌≡◌, map, take}
-use Rattle.sdl_statements.specs.declared.distinct.MarkedRow.{MarkedRow}
-use Rattle.sdl_statements.proofs.distinct.mark_rows.Given as goal
-
-abbrev pub invariant-loop-row : goal.invariant-loop-row
-invariant-loop-row l = map (λ (m : MarkedRow). m.row.now) l.marked.items ≡ take l.row-index l.rows

@@ -1,7 +1,0 @@
-use Rattle.std.proofs.Common.{◌≡◌, map, take}
-use Rattle.sdl_statements.specs.Distinct.{has_sender}
-use Rattle.sdl_statements.specs.declared.distinct.MarkedRow.{MarkedRow}
-use Rattle.sdl_statements.proofs.distinct.rows_with.Given as goal
-
-abbrev pub invariant-loop-row : goal.invariant-loop-row
-invariant-loop-row l = l.marks.items ≡ map (λ (m : MarkedRow). has_sender m.row.now.items l.sender) (take l.row-index l.rows)

@@ -1,6 +1,0 @@
-pub mod Asked
-pub mod Backs
-pub mod Distinct
-pub mod Reached
-pub mod SenderTables
-pub mod Sources

@@ -1,6 +1,0 @@
-use Rattle.std.proofs.Common.{arith}
-use Rattle.set_tending.proofs.Fields.{label_within}
-use Rattle.set_tending.proofs.ends.Ends.label.Goals as goal
-
-pub returns : goal.returns
-returns c = label_within c.args.self c.args.link c.label_octets.result c.label_octets.ensures

@@ -1,5 +1,0 @@
-use Rattle.set_tending.proofs.Acting.{adds_abandon}
-use Rattle.set_tending.proofs.tender.Tender.abandon.Goals as goal
-
-pub returns : goal.returns
-returns c = rw (← c.self.view_is) (adds_abandon _ _ c.args.link c.abandon.result c.abandon.ensures.fault c.abandon.ensures.ok c.abandon.ensures.err)

@@ -1,5 +1,0 @@
-use Rattle.set_tending.proofs.Acting.{adds_admit}
-use Rattle.set_tending.proofs.tender.Tender.admit.Goals as goal
-
-pub returns : goal.returns
-returns c = rw (← c.self.view_is) (adds_admit _ _ c.args.link c.args.way c.admit.result c.admit.ensures.ok c.admit.ensures.err)

@@ -1,5 +1,0 @@
-use Rattle.set_tending.proofs.Acting.{adds_divert}
-use Rattle.set_tending.proofs.tender.Tender.divert.Goals as goal
-
-pub returns : goal.returns
-returns c = rw (← c.self.view_is) (adds_divert _ _ c.args.link c.divert.ensures.set)

@@ -1,5 +1,0 @@
-use Rattle.set_tending.proofs.Acting.{adds_failure}
-use Rattle.set_tending.proofs.tender.Tender.fail.Goals as goal
-
-pub returns : goal.returns
-returns c = rw (← c.self.view_is) (adds_failure _ _ c.args.link c.fail.result c.fail.ensures.fault c.fail.ensures.ok c.fail.ensures.err)

@@ -1,7 +1,0 @@
-use Rattle.set_tending.proofs.tender.Tender.heed.Goals as goal
-
-pub returns-in-Message : goal.returns-in-Message
-returns-in-Message c = rw c.in-Message.is c.heed_message.ensures
-
-pub returns-in-Status : goal.returns-in-Status
-returns-in-Status c = rw c.in-Status.is c.heed_status.ensures

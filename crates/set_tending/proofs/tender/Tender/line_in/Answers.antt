@@ -1,5 +1,0 @@
-use Rattle.set_tending.proofs.Acting.{adds_octets}
-use Rattle.set_tending.proofs.tender.Tender.line_in.Goals as goal
-
-pub returns-clause-adds : goal.returns-clause-adds
-returns-clause-adds c = rw (← c.self.view_is) (adds_octets _ _ c.args.link c.args.octets.now c.line_in.result c.line_in.ensures.ok c.line_in.ensures.err)

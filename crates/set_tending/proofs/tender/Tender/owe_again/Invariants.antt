@@ -1,5 +1,0 @@
-use Rattle.std.proofs.Common.{◌≡◌}
-use Rattle.set_tending.proofs.tender.Tender.owe_again.Given as goal
-
-abbrev pub invariant-loop-about : goal.invariant-loop-about
-invariant-loop-about l = l.self ≡ l.initial.self

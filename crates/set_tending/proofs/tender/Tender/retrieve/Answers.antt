@@ -1,5 +1,0 @@
-use Rattle.set_tending.proofs.Acting.{adds_retrieve}
-use Rattle.set_tending.proofs.tender.Tender.retrieve.Goals as goal
-
-pub returns : goal.returns
-returns c = rw (← c.self.view_is) (adds_retrieve _ _ c.args.link c.retrieve.result c.retrieve.ensures.fault c.retrieve.ensures.ok c.retrieve.ensures.err)

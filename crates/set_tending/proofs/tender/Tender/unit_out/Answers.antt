@@ -1,5 +1,0 @@
-use Rattle.set_tending.proofs.Acting.{adds_unit}
-use Rattle.set_tending.proofs.tender.Tender.unit_out.Goals as goal
-
-pub returns-clause-adds : goal.returns-clause-adds
-returns-clause-adds c = rw (← c.self.view_is) (adds_unit _ _ c.args.link c.unit_out.result c.unit_out.ensures.ok c.unit_out.ensures.err)

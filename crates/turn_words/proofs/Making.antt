@@ -1,4 +1,0 @@
--- Imports for proofs on effects that are made of words.
-use Rattle.std.proofs.Common.{[]}
-use Rattle.turn_code.specs.declared.effect.Effect.TheVariants as effect
-use Rattle.turn_words.specs.declared.after.Given.TheVariants as gives
