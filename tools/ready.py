@@ -6,7 +6,8 @@ there any more, an index (tools/index) that isn't theirs, pictures (tools/pictur
 of specs that are too wide to be read, too many ways down crates.txt, crates whose edits in edits/ were last tried ten
 landings ago (edits/README.md), functions and lines of the tools that are too long or too wide, or more long files and
 functions in the crates than there were (tools/looks/counts.py), a README.md of more than 170 lines, links and commands
-of the pages that lead nowhere, and more of the English that is to go than there was (tools/looks/pages.py). A few
+of the pages that lead nowhere, more of the English that is to go than there was (tools/looks/pages.py), and what a
+crate hands on that its neighbour only hands on, or more than 150 lines that hand on (tools/looks/handed.py). A few
 seconds; to be run before a commit that is to land. Beside that it notes which crates' edits are to be tried by
 tools/edits, since their contracts changed, and whether the landing is recorded: neither is a fault.
 
@@ -29,7 +30,7 @@ import traceback
 from tools import crate_pages
 from tools.building.kit import by_hand, kit, refusals
 from tools.doc_names import lacking
-from tools.looks import counts, edit_sums, pages
+from tools.looks import counts, edit_sums, handed, pages
 
 ROOT = pathlib.Path(__file__).resolve().parent.parent
 
@@ -187,7 +188,8 @@ def main(words):
     crates = rt.rtlib.crates_below(str(root))
     found = [line for crate in crates for line in stops(rt, crate, crates) + edits(rt, crate, root)]
     asked = (texts, productions, lacking, crate_pages.lacking, index, pictures, edit_sums.too_old)
-    found += [line for it in (*asked, counts.of_tools, counts.more_than_today, pages.lacking) for line in it(root)]
+    asked += (counts.of_tools, counts.more_than_today, pages.lacking, handed.lacking)
+    found += [line for it in asked for line in it(root)]
     found += strays(root, crates) + astray(root, crates) + ways_down(crates) + wide(crates)
     if due := edit_sums.untried(root):
         print(f"note: edits to be tried, since contracts changed (tools/edits CRATE): {' '.join(due)}")

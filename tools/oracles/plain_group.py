@@ -58,7 +58,7 @@ def selection_of(message):
 
 
 def is_bound(message, own, peer):
-    """Whether a message, from its service information octet on, belongs to its link alone and goes from one point to
+    """Whether a message, from its service information octet on, belongs only to its link and goes from one point to
     the other."""
     if len(message) < 6 or label_of(message[1:])[:2] != (peer, own):
         return False

@@ -311,7 +311,7 @@ def paused(room, _):
             break
         line.drain.got = b""
         time.sleep(0.001)
-    yield "300 reports behind a pause each", fault or (f"status {line.ends()}" if line.ends() else None)
+    yield "300 reports, each after a pause", fault or (f"status {line.ends()}" if line.ends() else None)
     line.closes()
 
 

@@ -295,7 +295,7 @@ def quitting(room):
             if (said, passed) == (([b"ok quit"], b"") if over else ([], b"\xff" * 8))
             else f"{said}, {len(passed)} octets"
         )
-        yield f"a quit {between} milliseconds behind an order that waits", fault
+        yield f"a quit {between} milliseconds after an order that waits", fault
 
 
 def same(room):
@@ -569,7 +569,7 @@ def failing(room):
         )
     yield "a full device", None if done.returncode == 4 else f"status {done.returncode}"
     yield "reports to a full device", untold(room, b"")
-    yield "the same, and one behind the write that failed", untold(room, b"emergency\n")
+    yield "a report that fails, and one after the write that failed", untold(room, b"emergency\n")
 
 
 def untold(room, more):
