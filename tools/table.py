@@ -1,7 +1,7 @@
 """Writes the input and the required output of the program trials: crates/trials/stdin and stdout. Its trials are, with
 their lines, in examples/heard.txt, ports.txt, wheels.txt, events.txt, pools.txt and rounds.txt, and in
 examples/links/runs.txt, reports.txt, pairs.txt, tended.txt, rounds.txt and calls.txt. Likewise the streams of
-examples/m3ua/frames.txt for the program trials_m3ua.
+examples/m3ua/frames.txt and the lives of gateways of examples/m3ua/gateway.txt for the program trials_m3ua.
 
 usage: tools/table [--check]     with --check it writes nothing, and ends with status 1 if the files differ
 
@@ -44,8 +44,11 @@ def trials():
 
 
 def streams():
-    """A stream of M3UA with the lines of its messages."""
-    return [(stream, lines) for _, stream, lines in examples.parted("m3ua/frames.txt")]
+    """A stream of M3UA with the lines of its messages, and the life of a gateway, written as one line."""
+    found = [(stream, lines) for _, stream, lines in examples.parted("m3ua/frames.txt")]
+    for _, life, lines in examples.parted("m3ua/gateway.txt"):
+        found.append(("gateway " + " ".join(examples.copied(life).split()), lines))
+    return found
 
 
 def main(words):

@@ -156,38 +156,79 @@ def items(stream):
 
 
 class Gateway:
-    """One ASP in one AS (4.3). What a call answers is a list of what is sent: names of messages, with a code or a state
-    where they have one."""
+    """One ASP in one AS (4.3), its messages both ways, and the octets that are sent. Each call returns the lines that
+    are printed for it."""
 
-    def __init__(self, context=0):
-        self.context, self.asp, self.server = context, "DOWN", "DOWN"
-        self.taken, self.refused, self.kept, self.lost = [], 0, [], 0
+    def __init__(self):
+        self.context, self.destinations, self.reached = 0, [], False
+        self.asp, self.server = "DOWN", "DOWN"
+        self.waiting, self.kept, self.lost, self.refused = [], [], 0, 0
+
+    def send(self, name, body=b""):
+        return sent(encoded(name, body))
+
+    def error(self, code, body=b""):
+        return self.send("ERR", number(CODE, code) + body)
 
     def serves(self, state):
         """The AS comes to a state: an ASP that isn't down is told of it (4.3.4.5)."""
         changed, self.server = self.server != state, state
-        return [("NTFY", state)] if changed and self.asp != "DOWN" else []
+        return self.notify() if changed and self.asp != "DOWN" else []
+
+    def notify(self):
+        info = {"INACTIVE": 2, "ACTIVE": 3, "PENDING": 4}[self.server]
+        return self.send("NTFY", number(STATUS, 1 << 16 | info) + number(CONTEXT, self.context))
 
     def unexpected(self, data=False):
         self.refused += data
-        return [("ERR", 0x06)]
+        return self.error(0x06) + ["refused"] * data
 
     def ours(self, found):
         value = first(found, CONTEXT)
         return value is None or value == struct.pack(">I", self.context)
 
+    def echoed(self, found):
+        """Our routing context, where the message has one."""
+        return b"" if first(found, CONTEXT) is None else number(CONTEXT, self.context)
+
+    def not_ours(self, found):
+        return self.error(0x19, parameter(CONTEXT, first(found, CONTEXT)))
+
+    def availability(self, affected):
+        """DAVA or DUNA of a point code (3.4.1, 3.4.2)."""
+        there = self.reached and struct.unpack(">I", affected)[0] in self.destinations
+        return self.send("DAVA" if there else "DUNA", number(CONTEXT, self.context) + parameter(AFFECTED, affected))
+
+    def all_destinations(self):
+        return [line for code in self.destinations for line in self.availability(struct.pack(">I", code))]
+
+    def data_for(self, msu):
+        opc, dpc, si, ni, mp, sls, user = protocol_of(msu)
+        value = struct.pack(">IIBBBB", opc, dpc, si, ni, mp, sls) + user
+        return self.send("DATA", number(CONTEXT, self.context) + parameter(PROTOCOL, value))
+
+    def down(self):
+        """The ASP is down from now on: one that was active leaves its AS pending (4.3.2)."""
+        self.asp = "DOWN"
+        self.server = {"ACTIVE": "PENDING", "INACTIVE": "DOWN"}.get(self.server, self.server)
+
     def ended(self):
         """The stream ends (4.2.3): no ASP can serve."""
-        self.asp = "DOWN"
-        self.serves({"ACTIVE": "PENDING", "INACTIVE": "DOWN"}.get(self.server, self.server))
+        self.down()
         return []
 
     def expired(self):
         """T(r) runs out (4.3.2)."""
         if self.server != "PENDING":
             return []
+        lines = [f"lost {len(self.kept)}"]
         self.lost, self.kept = self.lost + len(self.kept), []
-        return ["lose"] + self.serves("DOWN" if self.asp == "DOWN" else "INACTIVE")
+        return lines + self.serves("DOWN" if self.asp == "DOWN" else "INACTIVE")
+
+    def changed(self, reached):
+        """The destinations are reached, or not: an active ASP is told of each (4.5.1)."""
+        self.reached = reached
+        return self.all_destinations() if self.asp == "ACTIVE" else []
 
     def octets(self, octets):
         """A message of the stream."""
@@ -195,61 +236,131 @@ class Gateway:
             name, found = decoded(octets)
         except Fault as fault:
             # an ERR, however it is spoilt, is answered by none (3.8.1)
-            return [] if len(octets) >= 4 and tuple(octets[2:4]) == (0, 0) else [("ERR", fault.args[0])]
-        down = self.asp == "DOWN"
+            return [] if len(octets) >= 4 and tuple(octets[2:4]) == (0, 0) else self.error(fault.args[0])
         if name == "ERR":
             return []
         if name == "BEAT":
-            return ["BEAT ACK"]
+            data = first(found, HEARTBEAT)
+            return self.send("BEAT ACK", b"" if data is None else parameter(HEARTBEAT, data))
         if name == "ASPUP":
-            was, self.asp = self.asp, "INACTIVE"
-            if was == "ACTIVE":
-                return ["ASPUP ACK", ("ERR", 0x06)] + self.serves("PENDING")
-            if was == "INACTIVE":
-                return ["ASPUP ACK"]
-            if self.server == "DOWN":
-                self.server = "INACTIVE"
-            return ["ASPUP ACK", ("NTFY", self.server)]
+            return self.up()
         if name == "ASPDN":
-            self.asp = "DOWN"
-            self.serves({"ACTIVE": "PENDING", "INACTIVE": "DOWN"}.get(self.server, self.server))
-            return ["ASPDN ACK"]
+            self.down()
+            return self.send("ASPDN ACK")
         if name == "DATA":
             return self.data(found)
-        if down or name not in ("ASPAC", "ASPIA", "DAUD", "REG REQ", "SCON"):
+        if self.asp == "DOWN" or name not in ("ASPAC", "ASPIA", "DAUD", "REG REQ", "SCON"):
             return self.unexpected()
         if name in ("ASPAC", "ASPIA"):
             return self.traffic(name, found)
-        return {"DAUD": ["audited"], "REG REQ": ["REG RSP"], "SCON": []}[name]
+        if name == "DAUD":
+            value = first(found, AFFECTED)
+            return [line for at in range(0, len(value), 4) for line in self.availability(value[at : at + 4])]
+        return self.register(found) if name == "REG REQ" else []
+
+    def up(self):
+        was, self.asp = self.asp, "INACTIVE"
+        lines = self.send("ASPUP ACK")
+        if was == "ACTIVE":
+            return lines + self.error(0x06) + self.serves("PENDING")
+        if was == "INACTIVE":
+            return lines
+        if self.server == "DOWN":
+            self.server = "INACTIVE"
+        return lines + self.notify()
+
+    def register(self, found):
+        """The routing context that there is, for the first routing key (3.6.2)."""
+        try:
+            identifier = first(parameters(first(found, KEY)), LOCAL) or bytes(4)
+        except Fault:
+            identifier = bytes(4)
+        value = parameter(LOCAL, identifier) + number(0x212, 0) + number(CONTEXT, self.context)
+        return self.send("REG RSP", parameter(REGISTRATION, value))
 
     def traffic(self, name, found):
         if not self.ours(found):
-            return [("ERR", 0x19)]
+            return self.not_ours(found)
         if name == "ASPIA":
             was, self.asp = self.asp, "INACTIVE"
-            return ["ASPIA ACK"] + (self.serves("PENDING") if was == "ACTIVE" else [])
+            return self.send("ASPIA ACK", self.echoed(found)) + (self.serves("PENDING") if was == "ACTIVE" else [])
         mode = first(found, MODE)
         if mode is not None and struct.unpack(">I", mode)[0] not in (1, 2, 3):
-            return [("ERR", 0x05)]
+            return self.error(0x05)
+        lines = self.send("ASPAC ACK", (b"" if mode is None else parameter(MODE, mode)) + self.echoed(found))
         if self.asp == "ACTIVE":
-            return ["ASPAC ACK"]
-        waited, self.asp = self.server == "PENDING", "ACTIVE"
-        return ["ASPAC ACK"] + self.serves("ACTIVE") + ["destinations"] + (["release"] if waited else [])
+            return lines
+        self.asp = "ACTIVE"
+        lines += self.serves("ACTIVE") + self.all_destinations()
+        kept, self.kept = self.kept, []
+        return lines + [line for msu in kept for line in self.data_for(msu)]
 
     def data(self, found):
         if self.asp == "DOWN":
             return self.unexpected(True)
         if not self.ours(found):
             self.refused += 1
-            return [("ERR", 0x19)]
+            return self.not_ours(found) + ["refused"]
         if self.asp != "ACTIVE":
             return self.unexpected(True)
         msu = message(protocol(first(found, PROTOCOL)))
         if msu is None or msu[0] & 15 < 3:
             self.refused += 1
-            return [("ERR", 0x12)]
-        self.taken.append(msu)
-        return ["take"]
+            return self.error(0x12) + ["refused"]
+        self.waiting.append(msu)
+        return ["waits " + msu.hex().upper()]
+
+    def delivered(self, msu):
+        """The set delivers a message."""
+        if len(msu) >= 5 and self.server == "ACTIVE":
+            return self.data_for(msu)
+        if len(msu) >= 5 and self.server == "PENDING" and len(self.kept) < 256:
+            self.kept.append(msu)
+            return ["kept"]
+        self.lost += 1
+        return ["lost 1"]
+
+    def first_waiting(self, selection, word):
+        """The first message of a selection that waits: the set takes it, or refuses it for good (`drop`)."""
+        at = next((at for at, msu in enumerate(self.waiting) if protocol_of(msu)[5] == selection), None)
+        if at is None:
+            return ["none"]
+        self.refused += word == "drop"
+        told = {"first": "first ", "take": "took ", "drop": "dropped "}[word] + self.waiting[at].hex().upper()
+        if word != "first":
+            self.waiting.pop(at)
+        return [told]
+
+    def shown(self):
+        numbers = f"kept {len(self.kept)} lost {self.lost} waiting {len(self.waiting)} refused {self.refused}"
+        return [f"ASP-{self.asp} AS-{self.server} {numbers}"]
+
+
+def life(words):
+    """What is printed for the life of a gateway: words with their arguments."""
+    gateway, stream = Gateway(), b""
+    for word, given in zip(words[::2], words[1::2]):
+        if word == "context":
+            gateway.context = int(given)
+        elif word == "destination":
+            gateway.destinations.append(int(given))
+        elif word == "reach":
+            yield from gateway.changed(given == "on")
+        elif word == "m3ua":
+            before, stream = len(list(items(stream))), stream + bytes.fromhex(given)
+            for kind, octets in list(items(stream))[before:]:
+                yield from (("asp " if at == 0 else "") + line for at, line in enumerate(told(kind, octets)))
+                yield from gateway.ended() if kind == "broken" else gateway.octets(octets)
+                stream = b"" if kind == "broken" else stream
+        elif word == "set":
+            yield from gateway.delivered(bytes.fromhex(given))
+        elif word in ("first", "take", "drop"):
+            yield from gateway.first_waiting(int(given), word)
+        elif word == "happens" and given in ("end", "expire"):
+            stream = b"" if given == "end" else stream
+            yield from gateway.ended() if given == "end" else gateway.expired()
+        elif word == "show":
+            yield from gateway.shown()
 
 
 # ---- as the program trials_m3ua prints them
@@ -294,12 +405,24 @@ def told(kind, octets):
     return lines
 
 
+def sent(octets):
+    """The lines for a message that the gateway sends."""
+    lines = told("message", octets)
+    return ["gateway " + lines[0]] + lines[1:] + ["  " + octets.hex().upper()]
+
+
+def printed(line):
+    """The lines for a line of what trials_m3ua reads: the pieces of a stream, or the life of a gateway."""
+    words = line.split()
+    if words[:1] == ["gateway"]:
+        return list(life(words[1:]))
+    stream = b"".join(bytes.fromhex(word) for word in words)
+    return [said for kind, octets in items(stream) for said in told(kind, octets)]
+
+
 def main():
     for line in sys.stdin.read().splitlines():
-        pieces = [bytes.fromhex(word) for word in line.split()]
-        for kind, octets in items(b"".join(pieces)):
-            print("\n".join(told(kind, octets)))
-        print("--")
+        print("\n".join(printed(line) + ["--"]))
 
 
 if __name__ == "__main__":

@@ -1,8 +1,9 @@
-"""Compares the program trials_m3ua with tools/oracles/plain_m3ua, on streams of tampered messages in pieces: octets
-changed, left out, doubled and put between, lengths that are wrong, messages cut off.
+"""Compares the program trials_m3ua with tools/oracles/plain_m3ua, on streams of tampered messages in pieces (octets
+changed, left out, doubled and put between, lengths that are wrong, messages cut off) and on lives of gateways over such
+streams.
 
-usage: tools/oracles/random_m3ua PROGRAM [COUNT [SEED]]     PROGRAM is trials_m3ua as it was built; 2,000 streams where
-nothing is said; ends with status 1 if one differs"""
+usage: tools/oracles/random_m3ua PROGRAM [COUNT [SEED]]     PROGRAM is trials_m3ua as it was built; COUNT streams and
+COUNT lives, 2,000 where nothing is said; ends with status 1 if one differs"""
 import subprocess
 import sys
 
@@ -65,22 +66,91 @@ def stream(dice):
     return pieces or [octets]
 
 
+# what an ASP says in a life, by how often
+SAID = ["ASPUP"] * 4 + ["ASPAC"] * 5 + ["DATA"] * 8 + ["ASPIA", "ASPDN", "BEAT", "DAUD", "REG REQ", "SCON", "ERR"]
+
+
+def said(dice, context):
+    """A message of an ASP that mostly does what it should, whose routing context is mostly this one."""
+    name = dice.choice(SAID) if dice.random() < 0.9 else dice.choice(list(plain.NUMBERS))
+    tags = [tag for tag in plain.MANDATORY.get(name, []) if dice.random() < 0.98]
+    tags += [plain.CONTEXT] * (dice.random() < 0.6) + [plain.MODE] * (name == "ASPAC" and dice.random() < 0.4)
+    tags += [dice.choice(plain.SHOWN)] * (dice.random() < 0.1)
+    body = b""
+    for tag in tags:
+        if tag == plain.CONTEXT and dice.random() < 0.8:
+            body += plain.number(tag, context)
+        elif tag == plain.MODE and dice.random() < 0.8:
+            body += plain.number(tag, dice.randrange(1, 4))
+        elif tag == plain.KEY and dice.random() < 0.8:
+            body += plain.parameter(tag, plain.number(plain.LOCAL, dice.randrange(1 << 32)))
+        elif tag == plain.PROTOCOL and dice.random() < 0.7:
+            label = bytes([0, 0, 0, 1, 0, 0, 0, 2, dice.choice([2, 3, 5]), dice.randrange(4), dice.randrange(4)])
+            body += plain.parameter(tag, label + bytes([dice.randrange(3)]) + dice.randbytes(dice.randrange(9)))
+        elif tag == plain.AFFECTED and dice.random() < 0.8:
+            body += plain.parameter(tag, bytes([0, 0, 0, dice.randrange(4)]) * dice.randrange(1, 4))
+        else:
+            body += plain.parameter(tag, value(dice, tag))
+    octets = plain.encoded(name, body)
+    return tampered(dice, octets) if dice.random() < 0.3 else octets
+
+
+def msu(dice):
+    """An MTP message that the set delivers, some without a label."""
+    return dice.randbytes(dice.choice([1, 3, 4, 5, 6, 9, 30, 273]))
+
+
+def life(dice):
+    """The words of a gateway's life."""
+    context = dice.choice([0, 5, 0xFFFFFFF0 % 10**9])
+    words = ["gateway", "context", str(context)]
+    for code in range(dice.randrange(4)):
+        words += ["destination", str(code)]
+    if dice.random() < 0.8:
+        begun = plain.encoded("ASPUP") + plain.encoded("ASPAC", plain.number(plain.CONTEXT, context))
+        words += ["m3ua", begun.hex().upper()]
+    for _ in range(dice.randrange(5, 60)):
+        chance = dice.random()
+        if chance < 0.6:
+            octets = b"".join(said(dice, context) for _ in range(dice.choice([1, 1, 1, 2, 3])))
+            cut = dice.randrange(1, len(octets)) if dice.random() < 0.1 else len(octets)
+            words += [word for piece in (octets[:cut], octets[cut:]) if piece for word in ("m3ua", piece.hex().upper())]
+        elif chance < 0.75:
+            words += ["set", msu(dice).hex().upper()]
+        elif chance < 0.9:
+            words += [dice.choice(["first", "take", "take", "drop"]), str(dice.randrange(4))]
+        elif chance < 0.95:
+            words += ["reach", dice.choice(["on", "off"])]
+        else:
+            words += ["happens", dice.choice(["end", "expire"])]
+    return words + ["show", "all"]
+
+
+def differing(program, lines):
+    """How many lines are printed that the oracle prints, and how many of the given lines differ."""
+    given = "".join(line + "\n" for line in lines).encode()
+    run = subprocess.run([program], input=given, capture_output=True, check=True)
+    answers = run.stdout.decode().split("--\n")
+    wrong, heard = 0, 0
+    for number, line in enumerate(lines):
+        wanted = plain.printed(line)
+        heard += len(wanted)
+        if "".join(f"{it}\n" for it in wanted) != answers[number]:
+            wrong += 1
+            print(f"{number}: {line}\n{answers[number]}wanted\n" + "\n".join(wanted))
+    return heard, wrong
+
+
 def main(words):
     program, count, seed = words[0], int((words[1:] or [2000])[0]), int((words[2:] or [1])[0])
-    streams = [stream(dice(seed, number)) for number in range(count)]
-    given = "".join(" ".join(piece.hex().upper() for piece in pieces) + "\n" for pieces in streams)
-    run = subprocess.run([program], input=given.encode(), capture_output=True, check=True)
-    printed = run.stdout.decode().split("--\n")
-    wrong, heard = 0, 0
-    for number, pieces in enumerate(streams):
-        lines = [line for kind, octets in plain.items(b"".join(pieces)) for line in plain.told(kind, octets)]
-        heard += len(lines)
-        if "".join(f"{line}\n" for line in lines) != printed[number]:
-            wrong += 1
-            octets = " ".join(piece.hex() for piece in pieces)
-            print(f"stream {number}: {octets}\n{printed[number]}wanted\n" + "\n".join(lines))
-    print(f"{count} streams, {heard} lines, {wrong} differ")
-    return 1 if wrong else 0
+    streams = [" ".join(it.hex().upper() for it in stream(dice(seed, number))) for number in range(count)]
+    lives = [" ".join(life(dice(f"{seed} life", number))) for number in range(count)]
+    differ = 0
+    for name, lines in (("streams", streams), ("lives", lives)):
+        heard, wrong = differing(program, lines)
+        differ += wrong
+        print(f"{count} {name}, {heard} lines, {wrong} differ")
+    return 1 if differ else 0
 
 
 if __name__ == "__main__":

@@ -1,14 +1,27 @@
-//! `trials_m3ua` shows M3UA streams, one for each line of standard input: pieces in hexadecimal, separated by spaces.
-//! It prints the items and a line `--`. An item is a message (name, parameter values by tag), `refused` with the error
-//! code, `too long`, or `broken`. DATA has a second line: its protocol data and the octets of the MTP message.
+//! `trials_m3ua` shows M3UA streams and the lives of gateways, one for each line of standard input, then a line `--`. A
+//! stream is pieces in hexadecimal, separated by spaces. Its items are a message (name, parameter values by tag),
+//! `refused` with the error code, `too long`, or `broken`. DATA has a second line: its protocol data and the octets of
+//! the MTP message. A line that begins with `gateway` is a life: words, each with one argument. It shows what the ASP
+//! sends after `asp`, what the gateway sends after `gateway` with its octets, and what becomes of messages.
 #![tactic(auto)]
 
+mod life;
 mod reading;
 mod shown;
 
-use crate::reading::show_stream;
+use crate::reading::{show_life, show_stream};
+use std::alloc::{AllocError, Global};
 use std::io::{self, BufReader, ErrorKind, Read};
 use std::str;
+
+/// Shows a line: a life, or a stream.
+fn show_line(alloc: Global, text: &mut String, line: &str) -> Result<(), AllocError> {
+    if line.as_bytes().starts_with(b"gateway") {
+        show_life(alloc, text, line)
+    } else {
+        show_stream(alloc, text, line)
+    }
+}
 
 fn main(rt: HostRuntime) -> io::Result<()> {
     let mut bytes = Vec::new(rt.alloc());
@@ -18,7 +31,7 @@ fn main(rt: HostRuntime) -> io::Result<()> {
     };
     for line in table.lines() {
         let mut text = String::new(rt.alloc());
-        if show_stream(rt.alloc(), &mut text, line).is_err() {
+        if show_line(rt.alloc(), &mut text, line).is_err() {
             return Err(io::Error::from(ErrorKind::OutOfMemory));
         }
         rt.print(text)?;

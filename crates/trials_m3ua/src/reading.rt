@@ -1,5 +1,6 @@
 //! Reads a line of pieces.
 
+use crate::life::{Life, Verb, verb_of};
 use crate::shown::show;
 use m3ua_frames::Deframer;
 use std::alloc::{AllocError, Global};
@@ -15,7 +16,7 @@ fn digit(c: u8) -> u8 {
 }
 
 /// The octets that a word of hexadecimal digits encodes.
-fn octets_of(alloc: Global, word: &str) -> Result<Vec<u8>, AllocError> {
+pub fn octets_of(alloc: Global, word: &str) -> Result<Vec<u8>, AllocError> {
     let mut octets = Vec::new(alloc);
     for pair in word.as_bytes().chunks(2) {
         if let [high, low] = pair {
@@ -23,6 +24,15 @@ fn octets_of(alloc: Global, word: &str) -> Result<Vec<u8>, AllocError> {
         }
     }
     Ok(octets)
+}
+
+/// The number that a word of decimal digits encodes, its last nine digits.
+pub fn number_of(word: &str) -> u32 {
+    let mut number: u32 = 0;
+    for c in word.as_bytes() {
+        number = number % 100_000_000 * 10 + digit(*c) as u32;
+    }
+    number
 }
 
 /// Shows the items that a piece completes.
@@ -42,6 +52,22 @@ pub fn show_stream(alloc: Global, text: &mut String, line: &str) -> Result<(), A
     for word in line.split_whitespace() {
         let piece = octets_of(alloc, word)?;
         show_piece(text, &mut deframer, piece.as_slice())?;
+    }
+    text.push_str("--\n")
+}
+
+/// Shows the life of a gateway: after the first word, words with one argument each.
+pub fn show_life(alloc: Global, text: &mut String, line: &str) -> Result<(), AllocError> {
+    let mut life = Life::new(alloc)?;
+    let mut verb = Verb::Nothing;
+    for word in line.split_whitespace() {
+        match verb {
+            Verb::Nothing => verb = verb_of(word),
+            _ => {
+                life.word(alloc, text, verb, word)?;
+                verb = Verb::Nothing;
+            }
+        }
     }
     text.push_str("--\n")
 }

@@ -1,6 +1,8 @@
 //! The printed form of items.
 
 use m3ua_frames::{Frame, Heard, Kind, ProtocolData, decode, find, message_of, protocol_data, tag};
+use m3ua_gateway::{Asp, Gateway, Server};
+use resend_store::Msu;
 use std::alloc::AllocError;
 
 /// The tags whose values are shown.
@@ -143,4 +145,70 @@ pub fn show(text: &mut String, heard: Heard, octets: &[u8]) -> Result<(), AllocE
         Heard::TooLong => text.push_str("too long\n"),
         Heard::Broken => text.push_str("broken\n"),
     }
+}
+
+/// Shows an item of the ASP.
+pub fn show_heard(text: &mut String, heard: Heard, octets: &[u8]) -> Result<(), AllocError> {
+    text.push_str("asp ")?;
+    show(text, heard, octets)
+}
+
+/// Shows a message that the gateway sends, and its octets.
+pub fn show_sent(text: &mut String, octets: &[u8]) -> Result<(), AllocError> {
+    text.push_str("gateway ")?;
+    write_decoded(text, octets)?;
+    text.push_str("  ")?;
+    write_octets(text, octets)?;
+    text.push_str("\n")
+}
+
+/// Shows what becomes of a message: a word, and its octets.
+pub fn show_message(
+    text: &mut String,
+    word: &str,
+    message: Option<&Msu>,
+) -> Result<(), AllocError> {
+    match message {
+        None => text.push_str("none\n"),
+        Some(msu) => {
+            let sio = msu.sio;
+            text.push_str(word)?;
+            write!(text, "{sio:02X}")?;
+            write_octets(text, msu.sif.as_slice())?;
+            text.push_str("\n")
+        }
+    }
+}
+
+/// The name of a state of the ASP (RFC 4666, 4.3.1).
+fn asp_name(asp: Asp) -> &'static str {
+    match asp {
+        Asp::Down => "ASP-DOWN",
+        Asp::Inactive => "ASP-INACTIVE",
+        Asp::Active => "ASP-ACTIVE",
+    }
+}
+
+/// The name of a state of the AS (RFC 4666, 4.3.2).
+fn server_name(server: Server) -> &'static str {
+    match server {
+        Server::Down => "AS-DOWN",
+        Server::Inactive => "AS-INACTIVE",
+        Server::Active => "AS-ACTIVE",
+        Server::Pending => "AS-PENDING",
+    }
+}
+
+/// Shows the state of a gateway, and how many messages it holds, lost and refused.
+pub fn show_state(text: &mut String, gateway: &Gateway) -> Result<(), AllocError> {
+    let (asp, server) = (gateway.state().asp(), gateway.state().server());
+    let (kept, lost) = (gateway.kept(), gateway.lost());
+    let (waiting, refused) = (gateway.waiting(), gateway.refused());
+    text.push_str(asp_name(asp))?;
+    text.push_str(" ")?;
+    text.push_str(server_name(server))?;
+    writeln!(
+        text,
+        " kept {kept} lost {lost} waiting {waiting} refused {refused}"
+    )
 }

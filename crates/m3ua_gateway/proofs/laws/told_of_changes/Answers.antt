@@ -1,0 +1,5 @@
+use Rattle.m3ua_gateway.proofs.TableLaws as lemmas
+use Rattle.m3ua_gateway.proofs.laws.told_of_changes.Goals as goal
+
+pub returns : goal.returns
+returns c = lemmas.told_of_changes
