@@ -4,6 +4,7 @@ mod Calm
 pub mod Doing
 mod Fields
 mod Filling
+mod Giving
 pub mod Lives
 mod Passing
 mod Printing

@@ -169,6 +169,10 @@ is_emergency_by another_serves Calm = false
 abbrev pub is_emergency : Bool → LinkDuty → Bool
 is_emergency another_serves c = is_emergency_by another_serves c.urgency
 
+-- An emergency has to be declared for its start: it starts as one, and none was declared.
+abbrev pub lacks_emergency : Bool → LinkDuty → Bool
+lacks_emergency another_serves c = not c.urgent && is_emergency another_serves c
+
 -- Its declared emergency ends once another link carries messages, unless it was ordered.
 abbrev pub is_eased_by : Bool → Bool → Urgency → Bool
 is_eased_by another_carries urgent Open = urgent && another_carries

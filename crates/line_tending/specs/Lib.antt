@@ -2,6 +2,7 @@ pub mod Calling
 pub mod Came
 pub mod Cares
 pub mod Ends
+pub mod Giving
 pub mod LinkLines
 pub mod Lives
 pub mod Rounds

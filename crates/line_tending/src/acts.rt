@@ -1,8 +1,9 @@
 //! The acts on the set: each is one call of the set, or none.
-ghost use Rattle.std.specs.Prelude.{◌≡◌, [], OnOk, OnErr};
-ghost use Rattle.link_group.specs.Lines.{ByCommand};
+ghost use Rattle.std.specs.Prelude.{◌≡◌, [], false, IfOk, IfErr, OnOk, OnErr};
+ghost use Rattle.link_group.specs.Lines.{ByCommand, IsCommandError};
 ghost use Rattle.link_group.specs.OneLink.{fault_of};
 ghost use Rattle.link_group.specs.Placing.{rebalance_fault, rebalanced};
+ghost use Rattle.line_tending.specs.Giving.{IsGiven, IsLeft, IsOther};
 ghost use Rattle.line_tending.specs.Rounds.{Adds, Acts};
 ghost use Rattle.line_tending.specs.Telling.{report_in};
 
@@ -32,6 +33,17 @@ fn answer_in(reply: &Option<Sif>) -> Option<Kind> {
     match reply {
         Some(sif) => kind_in(sif.as_slice()),
         None => None,
+    }
+}
+
+/// The result of a command that wasn't obeyed: `false`, unless memory ran out.
+fn refused(error: CommandError) -> Result<bool, TendError>
+    ensures no { IfOk result (λ took. took ≡ false) }
+    ensures other { OnOk result (IsOther error) }
+{
+    match error {
+        CommandError::NoLink | CommandError::Waiting | CommandError::Refused(_) => Ok(false),
+        CommandError::NoMemory => Err(TendError::NoMemory),
     }
 }
 
@@ -72,6 +84,7 @@ impl TendedSet {
     fn order(&mut self, link: usize, command: Command) -> Result<(), CommandError>
         ensures adds { Adds self.old self.new }
         ensures ok { OnOk result (ByCommand command link self.old.set self.new.set) }
+        ensures err { IfErr result (IsCommandError command link self.old.set self.new.set) }
     {
         match self.set.command(link, command) {
             Ok(()) => Ok(()),
@@ -83,15 +96,19 @@ impl TendedSet {
     pub(crate) fn give(&mut self, link: usize, command: Command) -> Result<(), CommandError>
         ensures adds { Adds self.old self.new }
         ensures ok { OnOk result (ByCommand command link self.old.set self.new.set) }
+        ensures err { IfErr result (IsLeft (IsCommandError command link self.old.set self.new.set)) }
     {
         let before = self.set.unsure();
-        self.order(link, command)?;
-        self.tell_unsure(link, before)
+        match self.order(link, command) {
+            Ok(()) => self.tell_unsure(link, before),
+            Err(error) => Err(error),
+        }
     }
 
     /// Reports how many more messages are unsure than before, if any. Then nothing is owed about the link any more.
     fn tell_unsure(&mut self, link: usize, before: u64) -> Result<(), CommandError>
-        ensures { self.new ≡ self.old }
+        ensures same { self.new ≡ self.old }
+        ensures memory { IfErr result (λ error. error ≡ CommandError.NoMemory) }
     {
         let count = self.set.unsure().saturating_sub(before);
         if count == 0 {
@@ -106,14 +123,12 @@ impl TendedSet {
 
     /// Gives a command to a link. Returns whether it took it.
     pub(crate) fn command(&mut self, link: usize, command: Command) -> Result<bool, TendError>
-        ensures { Adds self.old self.new }
+        ensures adds { Adds self.old self.new }
+        ensures given { IfOk result (IsGiven (ByCommand command link self.old.set self.new.set) (IsCommandError command link self.old.set self.new.set)) }
     {
         match self.give(link, command) {
             Ok(()) => Ok(true),
-            Err(CommandError::NoMemory) => Err(TendError::NoMemory),
-            Err(CommandError::NoLink | CommandError::Waiting | CommandError::Refused(_)) => {
-                Ok(false)
-            }
+            Err(error) => refused(error),
         }
     }
 

@@ -1,10 +1,12 @@
 //! Reading the reports of links.
-ghost use Rattle.std.specs.Prelude.{◌≡◌, ◌∷◌, [], OnOk, IfSome, IsNone};
+ghost use Rattle.std.specs.Prelude.{◌≡◌, ◌∷◌, [], true, OnOk, IfSome, IsNone};
+ghost use Rattle.link_group.specs.Lines.{ByCommand, IsCommandError};
+ghost use Rattle.line_tending.specs.Giving.{WasGiven};
 ghost use Rattle.line_tending.specs.Rounds.{Acts, Adds, AddsHeeded, HandsOut, HeedsEach, ToldAll};
 ghost use Rattle.line_tending.specs.Telling.{report_told, message_told, status_told};
 
 use crate::came::Came;
-use crate::link_duty::Testing;
+use crate::link_duty::{LinkDuty, Testing};
 use crate::tended_set::{TendError, TendedSet};
 use crate::told::Told;
 use group_changeover::{Hearing, Kind};
@@ -143,7 +145,10 @@ impl TendedSet {
                 self.tell_report(Told::Message(link, msu))
             }
             Came::Answer(about) => self.hear_answer(link, about, &msu),
-            Came::Own => self.hear_itself(link),
+            Came::Own => {
+                let care = self.care(link);
+                self.hear_itself(link, care)
+            }
         }
     }
 
@@ -223,10 +228,10 @@ impl TendedSet {
     }
 
     /// Handles a message that this end sent by a link and received on it. The link is stopped until an order starts it.
-    fn hear_itself(&mut self, link: usize) -> Result<(), TendError>
-        ensures { OnOk result (Adds self.old self.new) }
+    fn hear_itself(&mut self, link: usize, care: LinkDuty) -> Result<(), TendError>
+        ensures adds { OnOk result (Adds self.old self.new) }
+        ensures stops { OnOk result (care.wanted ≡ true → WasGiven (ByCommand Command.Stop link self.old.set self.new.set) (IsCommandError Command.Stop link self.old.set self.new.set)) }
     {
-        let care = self.care(link);
         if !care.wanted {
             return Ok(());
         }

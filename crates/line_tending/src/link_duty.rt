@@ -1,6 +1,6 @@
 //! The state that is kept of each link.
 ghost use Rattle.std.specs.Prelude.{◌≡◌, Some};
-ghost use Rattle.line_tending.specs.Cares.{is_order, waits, new_care, risen, fallen, desired, let_be, changing, stopped, handed_out, tested, numbered, owing, left_on, is_over, owed_by, owed_on, given_up, begun, waited, is_coming, is_due, is_emergency, is_eased, urged, is_numbered, may_say, spoken};
+ghost use Rattle.line_tending.specs.Cares.{is_order, waits, new_care, risen, fallen, desired, let_be, changing, stopped, handed_out, tested, numbered, owing, left_on, is_over, owed_by, owed_on, given_up, begun, waited, is_coming, is_due, is_emergency, lacks_emergency, is_eased, urged, is_numbered, may_say, spoken};
 
 use group_changeover::Kind;
 use link_group::Command;
@@ -382,6 +382,13 @@ impl LinkDuty {
             Urgency::Emergency => true,
             Urgency::Calm => false,
         }
+    }
+
+    /// Whether an emergency has to be declared for its start: it starts as one, and none was declared.
+    pub fn lacks_emergency(self, another_serves: bool) -> bool
+        ensures { result ≡ lacks_emergency another_serves self }
+    {
+        !self.urgent && self.is_emergency(another_serves)
     }
 
     /// Whether its declared emergency ends: once another link carries messages, unless it was ordered.

@@ -1,9 +1,10 @@
 //! The line of a link of a set.
-ghost use Rattle.std.specs.Prelude.{◌≡◌, ◌++◌, ◌∷◌, [], IfOk, OnOk};
+ghost use Rattle.std.specs.Prelude.{◌≡◌, ◌<◌, ◌≤◌, ◌++◌, ◌∷◌, [], length, Err, IfOk, OnOk};
 ghost use Rattle.line_tending.specs.Rounds.{Adds};
 ghost use Rattle.line_tending.specs.LinkLines.{GivesNext, Speaks, HearsPart, Hears, SILENT as HEARD, Waits, Passes, IsNewWire};
 
 use crate::tended_set::{TendError, TendedSet};
+use group_changeover::LineError;
 use line_filter::Voice;
 
 /// The rounds without octets after which a line counts as silent.
@@ -39,9 +40,12 @@ fn hear_part<'a>(
     link: usize,
     octets: &'a [u8],
 ) -> Result<&'a [u8], TendError>
-    ensures { IfOk result (λ left. HearsPart link tender.old octets.now left.now tender.new) }
+    ensures heard { IfOk result (λ left. HearsPart link tender.old octets.now left.now tender.new) }
+    ensures nowhere { length tender.old.set.links ≤ link → result ≡ Err TendError.NoLink }
 {
-    let taken = tender.line_in(link, octets);
+    let Ok(taken) = tender.line_in(link, octets) else {
+        return Err(TendError::NoLink);
+    };
     if taken == 0 {
         return Err(TendError::NoMemory);
     }
@@ -55,8 +59,12 @@ fn hear_part<'a>(
 
 /// Has a link hear all octets.
 fn hear(tender: &mut TendedSet, link: usize, octets: &[u8]) -> Result<(), TendError>
-    ensures { OnOk result (Hears link tender.old octets.now tender.new) }
+    ensures heard { OnOk result (Hears link tender.old octets.now tender.new) }
+    ensures nowhere { length tender.old.set.links ≤ link → result ≡ Err TendError.NoLink }
 {
+    if link >= tender.count() {
+        return Err(TendError::NoLink);
+    }
     let mut rest = octets;
     for _part in 0..octets.len() {
         if rest.is_empty() {
@@ -98,6 +106,7 @@ impl LinkLine {
         ensures gives { IfOk result (λ octet. GivesNext link tender.old self.old.voice octet tender.new self.new.voice) }
         ensures adds { Adds tender.old tender.new }
         ensures quiet { self.new.quiet ≡ self.old.quiet }
+        ensures nowhere { length tender.old.set.links ≤ link → result ≡ Err TendError.NoLink }
     {
         match tender.unit_out(link) {
             Ok(Some(unit)) => {
@@ -107,7 +116,8 @@ impl LinkLine {
                 Ok(self.voice.begin(&unit))
             }
             Ok(None) => Ok(self.voice.fall_silent()),
-            Err(_) => Err(TendError::NoMemory),
+            Err(LineError::NoLink) => Err(TendError::NoLink),
+            Err(LineError::NoMemory) => Err(TendError::NoMemory),
         }
     }
 
@@ -175,7 +185,7 @@ impl LinkLine {
     ///
     /// # Errors
     ///
-    /// If memory runs out.
+    /// If memory runs out, or the set has no such link.
     pub fn pass(
         &mut self,
         tender: &mut TendedSet,
@@ -184,7 +194,8 @@ impl LinkLine {
         came: &[u8],
         out: &mut Vec<u8>,
     ) -> Result<LineChange, TendError>
-        ensures { IfOk result (λ passed. Passes link ahead came.now tender.old self.old out.old.items passed tender.new self.new out.new.items) }
+        ensures passes { IfOk result (λ passed. Passes link ahead came.now tender.old self.old out.old.items passed tender.new self.new out.new.items) }
+        ensures nowhere { 0 < length came.now → length tender.old.set.links ≤ link → result ≡ Err TendError.NoLink }
     {
         if came.is_empty() {
             return self.wait(tender, link, ahead, out);
@@ -205,9 +216,10 @@ impl LinkLine {
 ///
 /// # Errors
 ///
-/// If memory runs out.
+/// If memory runs out, or the set has no such link.
 pub fn miss_line(tender: &mut TendedSet, link: usize) -> Result<(), TendError>
-    ensures { OnOk result (Hears link tender.old HEARD tender.new) }
+    ensures heard { OnOk result (Hears link tender.old HEARD tender.new) }
+    ensures nowhere { length tender.old.set.links ≤ link → result ≡ Err TendError.NoLink }
 {
     hear(tender, link, &SILENT)
 }

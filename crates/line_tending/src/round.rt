@@ -1,37 +1,47 @@
 //! A round of the set.
-ghost use Rattle.std.specs.Prelude.{◌≡◌, ◌<◌, length, IfOk, OnOk, OnErr};
+ghost use Rattle.std.specs.Prelude.{◌≡◌, ◌↔◌, ◌≤◌, length, Err, IfOk, OnOk, OnErr};
 ghost use Rattle.link_group.specs.Doing.{Listened, Sent};
 ghost use Rattle.link_group.specs.Lines.{ByLink};
 ghost use Rattle.line_tending.specs.Rounds.{Adds, Tends, Ticks};
 
 use crate::tended_set::{TendError, TendedSet};
+use group_changeover::{LineError, LinkError};
 use link_group::CallError;
-use std::alloc::AllocError;
 use su_octets::Unit;
 
 impl TendedSet {
     /// Takes octets received on a link's line. Returns how many were taken, until room or memory runs out.
-    pub fn line_in(&mut self, link: usize, octets: &[u8]) -> usize
+    ///
+    /// # Errors
+    ///
+    /// If the set has no such link; nothing changes then.
+    pub fn line_in(&mut self, link: usize, octets: &[u8]) -> Result<usize, LinkError>
         ensures adds { Adds self.old self.new }
-        ensures heard { link < length self.old.set.links → ByLink (Listened octets.now result) link self.old.set self.new.set }
-        ensures taken { 0 < result → ByLink (Listened octets.now result) link self.old.set self.new.set }
+        ensures ok { IfOk result (λ taken. ByLink (Listened octets.now taken) link self.old.set self.new.set) }
+        ensures fault { (result ≡ Err LinkError.NoLink) ↔ (length self.old.set.links ≤ link) }
+        ensures err { OnErr result (self.new ≡ self.old) }
     {
         match self.set.line_in(link, octets) {
-            Ok(taken) => taken,
-            Err(_) => 0,
+            Ok(taken) => Ok(taken),
+            Err(error) => Err(error),
         }
     }
 
     /// The next unit to send on a link, if there is one.
-    pub fn unit_out(&mut self, link: usize) -> Result<Option<Unit>, AllocError>
+    ///
+    /// # Errors
+    ///
+    /// If the set has no such link, or memory runs out; nothing changes then.
+    pub fn unit_out(&mut self, link: usize) -> Result<Option<Unit>, LineError>
         ensures adds { Adds self.old self.new }
         ensures ok { IfOk result (λ unit. ByLink (Sent unit) link self.old.set self.new.set) }
+        ensures fault { (result ≡ Err LineError.NoLink) ↔ (length self.old.set.links ≤ link) }
         ensures same { self.new ≡ record self.old { set = self.new.set } }
         ensures err { OnErr result (self.new ≡ self.old) }
     {
         match self.set.unit_out(link) {
             Ok(unit) => Ok(unit),
-            Err(_) => Err(AllocError),
+            Err(error) => Err(error),
         }
     }
 

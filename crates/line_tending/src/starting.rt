@@ -1,8 +1,11 @@
 //! Starting links.
-ghost use Rattle.std.specs.Prelude.{◌≡◌, OnOk};
+ghost use Rattle.std.specs.Prelude.{◌≡◌, true, false, IfOk, OnOk};
+ghost use Rattle.link_group.specs.Lines.{ByCommand, IsCommandError};
+ghost use Rattle.line_tending.specs.Cares.{lacks_emergency};
+ghost use Rattle.line_tending.specs.Giving.{WasGiven, StartsAs};
 ghost use Rattle.line_tending.specs.Rounds.{Adds};
 
-use crate::link_duty::PATIENCE;
+use crate::link_duty::{LinkDuty, PATIENCE};
 use crate::tended_set::{TendError, TendedSet};
 use crate::told::Told;
 use arrayvec::ArrayVec;
@@ -58,11 +61,12 @@ impl TendedSet {
     }
 
     /// Declares an emergency for a link that is coming into service, if it is one and none was declared.
-    fn urge(&mut self, link: usize) -> Result<(), TendError>
-        ensures { OnOk result (Adds self.old self.new) }
+    fn urge(&mut self, link: usize, care: LinkDuty, another_serves: bool) -> Result<(), TendError>
+        ensures adds { OnOk result (Adds self.old self.new) }
+        ensures urges { OnOk result (lacks_emergency another_serves care ≡ true → WasGiven (ByCommand Command.Emergency link self.old.set self.new.set) (IsCommandError Command.Emergency link self.old.set self.new.set)) }
+        ensures rests { OnOk result (lacks_emergency another_serves care ≡ false → self.new ≡ self.old) }
     {
-        let care = self.care(link);
-        if care.urgent || !care.is_emergency(self.another_serves(link)) {
+        if !care.lacks_emergency(another_serves) {
             return Ok(());
         }
         let urgent = self.command(link, Command::Emergency)?;
@@ -90,15 +94,21 @@ impl TendedSet {
         if !care.started || care.serves {
             return Ok(());
         }
-        self.urge(link)?;
+        self.urge(link, care, self.another_serves(link))?;
         self.ease(link)
     }
 
     /// Gives a link Start, with an emergency if it is one. Returns whether it took it.
-    fn begin_start(&mut self, link: usize) -> Result<bool, TendError>
-        ensures { OnOk result (Adds self.old self.new) }
+    fn begin_start(
+        &mut self,
+        link: usize,
+        care: LinkDuty,
+        another_serves: bool,
+    ) -> Result<bool, TendError>
+        ensures adds { OnOk result (Adds self.old self.new) }
+        ensures starts { IfOk result (StartsAs care another_serves link self.old.set self.new.set) }
     {
-        self.urge(link)?;
+        self.urge(link, care, another_serves)?;
         self.command(link, Command::Start)
     }
 
@@ -114,7 +124,8 @@ impl TendedSet {
             return Ok(());
         }
         self.leave_stuck(link)?;
-        if !self.begin_start(link)? {
+        let care = self.care(link);
+        if !self.begin_start(link, care, self.another_serves(link))? {
             return Ok(());
         }
         let care = self.care(link).begun();

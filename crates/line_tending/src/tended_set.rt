@@ -29,6 +29,9 @@ pub enum TendError {
     /// A terminal refuses a tick.
     #[error("no tick passes")]
     NoTick,
+    /// The set has no such link.
+    #[error("no such link")]
+    NoLink,
 }
 
 impl From<AllocError> for TendError {
@@ -165,7 +168,7 @@ impl TendedSet {
     }
 
     /// The number of links of the set.
-    fn count(&self) -> usize
+    pub(crate) fn count(&self) -> usize
         ensures { result ≡ length self.now.set.links }
     {
         self.set.len()

@@ -20,6 +20,7 @@ use Rattle.script_book.specs.Lines.{line_of}
 use Rattle.script_ends.specs.TermAnswers.{unit_line}
 use Rattle.script_ends.specs.TermRuns.{HasPrinted}
 use Rattle.script_ends.proofs.TermRuns.{printed_none, printed_one, printed_both}
+use Rattle.script_ends.proofs.LineAnswers.{stays_there}
 use Rattle.script_ends.specs.GroupAnswers.{Playing, NO_LINK, GoOut, none_goes, silent, one_goes, Outputs, Answers, Obeys}
 use Rattle.script_ends.specs.GroupAnswers as answers
 use Rattle.script_ends.specs.GroupRuns.{Goes, begins, prints, holds, IsGroupRun, HasGone, HasGoneOut, HasGivenOut, IsGroupMissedBy, IsGroupMissed}
@@ -60,6 +61,10 @@ one_more_by l k old now next last mid after c d e (Some x) some sent printed so_
           out_same l (k + suc n) (k + 1 + n) c f _ _ number (sym (append_assoc so_far.lines (unit_text x ∷ []) more))
           (so_far.others (suc n) (unit_text x ∷ more) f (one_goes n d e f x more sent out));
     }
+
+-- The link is there after its unit went out.
+pub there_gone : (l : ℕ) (old new last next : Option (List ℕ)) (c d : LinkSet) (went : Bool) → HasGone went l old new last next c d → l < length d.links
+there_gone l old new last next c d went gone = stays_there (Sent gone.unit) l c d gone.sent
 
 pub one_more_gone : (l k : ℕ) (old now next last mid after : Option (List ℕ)) (c d e : LinkSet) (went : Bool) → went ≡ true
     → HasGone went l now next mid after d e → HasGoneSoFar l k old now last mid c d → HasGoneSoFar l (k + 1) old next last after c e

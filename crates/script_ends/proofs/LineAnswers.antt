@@ -43,6 +43,10 @@ link_behind did l c d by_link =
     ap (λ (x : LinkSet). slice_get x.links l) by_link.set
     ∙ (ap (λ ks. slice_get ks l) (seen_links l (record c { links = by_link.links })) ∙ change_there asked by_link.links l by_link.at.after there)
 
+-- The link is there after the call.
+pub stays_there : (did : Link → Link → Type 0) (l : ℕ) (c d : LinkSet) → ByLink did l c d → l < length d.links
+stays_there did l c d by_link = slice_get_within d.links l (asked by_link.at.after) (link_behind did l c d by_link)
+
 -- Updating a link after a call leaves its reports unchanged.
 asked_case : (k : Link) (b : Bool) → reports (asked_of (if b then leaves_out (unbegun k) else unbegun k)).terminal.processes.transceiver ≡ reports k.terminal.processes.transceiver
 asked_case k true = refl
@@ -78,6 +82,17 @@ one_given l c m d false is (was_none by_link) others = absurd (let e : false ≡
 pub none_given : (l : ℕ) (c d : LinkSet) (one : Bool) → one ≡ false → HasReported l c d one → GivesReports l c d
 none_given l c d true is (was_one r by_link) = absurd (let e : true ≡ false = is in cc)
 none_given l c d false is (was_none by_link) = answers.last_given c d by_link
+
+pub there_reported : (l : ℕ) (c d : LinkSet) (one : Bool) → HasReported l c d one → l < length d.links
+there_reported l c d true (was_one r by_link) = stays_there (Reported (Some r)) l c d by_link
+there_reported l c d false (was_none by_link) = stays_there (Reported None) l c d by_link
+
+there_given : (l : ℕ) (c d : LinkSet) → GivesReports l c d → l < length d.links
+there_given l c d (answers.last_given _ _ by_link) = stays_there (Reported None) l c d by_link
+there_given l c d (answers.one_given _ m _ r by_link others) = there_given l m d others
+
+pub there_taken : (l n : ℕ) (xs : List ℕ) (c d : LinkSet) → TakesPart l xs n c d → l < length d.links
+there_taken l n xs c d takes = there_given l takes.between d takes.reports
 
 -- ---- octets of the line
 

@@ -4,47 +4,51 @@ ghost use Rattle.script_ends.specs.GroupAnswers.{HasReported, GivesReports, Take
 
 use crate::saying::{done, no_link};
 use crate::unit_line::line_of_unit;
-use group_changeover::LinkError;
 use link_group::Group;
 use std::alloc::{AllocError, Global};
 
 /// Takes the next report of a link out. Returns whether there was one.
-fn drop_report(group: &mut Group, link: usize) -> Result<bool, LinkError>
-    ensures { IfOk result (HasReported link group.old group.new) }
+fn drop_report(group: &mut Group, link: usize) -> bool
+    requires { link < length group.old.links }
+    ensures { HasReported link group.old group.new result }
 {
-    match group.report(link) {
-        Ok(report) => Ok(report.is_some()),
-        Err(error) => Err(error),
-    }
+    let Ok(report) = group.report(link) else {
+        unreachable!()
+    };
+    report.is_some()
 }
 
 /// Takes all reports of a link out, since a script doesn't print them.
-fn drop_reports(group: &mut Group, link: usize) -> Result<(), LinkError>
-    ensures { OnOk result (GivesReports link group.old group.new) }
+fn drop_reports(group: &mut Group, link: usize)
+    requires { link < length group.old.links }
+    ensures { GivesReports link group.old group.new }
 {
     'reports: loop {
-        if !drop_report(group, link)? {
-            return Ok(());
+        if !drop_report(group, link) {
+            return;
         }
     }
 }
 
-/// Has a link hear a part of the line octets, then takes all its reports out. Returns the number of octets heard. A
-/// link that doesn't exist would count as out of memory, but never occurs.
+/// Has a link hear part of the line octets, then takes all its reports out. Returns the number of octets heard. If the
+/// link can hear none of them, it is out of memory.
 fn take_part(group: &mut Group, link: usize, octets: &[u8]) -> Result<usize, AllocError>
+    requires { link < length group.old.links }
     ensures { IfOk result (λ taken. TakesPart link octets.now taken group.old group.new) }
 {
     let Ok(taken) = group.line_in(link, octets) else {
-        return Err(AllocError);
+        unreachable!()
     };
-    if taken == 0 || drop_reports(group, link).is_err() {
+    if taken == 0 {
         return Err(AllocError);
     }
+    drop_reports(group, link);
     Ok(taken)
 }
 
 /// Has a link hear all octets of the line.
 fn listen(group: &mut Group, link: usize, octets: &[u8]) -> Result<(), AllocError>
+    requires { link < length group.old.links }
     ensures { OnOk result (Listens link group.old octets.now group.new) }
 {
     let mut from = 0;

@@ -7,19 +7,22 @@ ghost use Rattle.script_ends.specs.GroupAnswers.{NO_LINK};
 ghost use Rattle.script_ends.specs.GroupRuns.{HasGone, HasGivenOut, HasGoneOut};
 
 use crate::saying::no_link;
+use group_changeover::LineError;
 use link_group::Group;
 use script_book::{Printer, text_line};
 use std::alloc::{AllocError, Global};
 use std::io::{self, Write};
 use su_octets::Unit;
 
-/// The next unit to send. A link that doesn't exist would count as out of memory, but never occurs.
+/// The next unit to send.
 fn next_unit(group: &mut Group, link: usize) -> Result<Option<Unit>, AllocError>
+    requires { link < length group.old.links }
     ensures { IfOk result (λ unit. ByLink (Sent unit) link group.old group.new) }
 {
     match group.unit_out(link) {
         Ok(unit) => Ok(unit),
-        Err(_) => Err(AllocError),
+        Err(LineError::NoMemory) => Err(AllocError),
+        Err(LineError::NoLink) => unreachable!(),
     }
 }
 
@@ -31,6 +34,7 @@ fn print_unit<W: Write>(
     printer: &mut Printer,
     writer: &mut W,
 ) -> io::Result<bool>
+    requires { link < length group.old.links }
     ensures { IfOk result (λ on. HasGone on link (W.contents writer.old) (W.contents writer.new) (last_in printer.old) (last_in printer.new) group.old group.new) }
 {
     let unit = next_unit(group, link)?;
@@ -57,6 +61,7 @@ fn print_units<W: Write>(
     printer: &mut Printer,
     writer: &mut W,
 ) -> io::Result<()>
+    requires { link < length group.old.links }
     ensures { OnOk result (HasGoneOut link units (W.contents writer.old) (W.contents writer.new) (last_in printer.old) (last_in printer.new) group.old group.new) }
 {
     for gone in 0..units {

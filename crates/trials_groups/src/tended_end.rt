@@ -33,7 +33,7 @@ pub struct TendedEnd {
 fn stopped_by(error: TendError) -> Stopped {
     match error {
         TendError::NoMemory => Stopped::NoMemory,
-        TendError::NoTick => Stopped::Refused,
+        TendError::NoTick | TendError::NoLink => Stopped::Refused,
     }
 }
 

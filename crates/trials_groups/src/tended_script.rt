@@ -43,7 +43,7 @@ struct Ties {
 fn stopped_by(error: TendError) -> Stopped {
     match error {
         TendError::NoMemory => Stopped::NoMemory,
-        TendError::NoTick => Stopped::Refused,
+        TendError::NoTick | TendError::NoLink => Stopped::Refused,
     }
 }
 

@@ -29,6 +29,7 @@ pub(crate) fn failed(error: TendError) -> io::Error {
     match error {
         TendError::NoMemory => io::Error::from(ErrorKind::OutOfMemory),
         TendError::NoTick => io::Error::from(ErrorKind::Other),
+        TendError::NoLink => io::Error::from(ErrorKind::NotFound),
     }
 }
 

@@ -1,13 +1,12 @@
-use Rattle.std.proofs.Common.{arith}
 use Rattle.line_tending.proofs.Speaking.{all_behind}
 use Rattle.line_tending.proofs.link_line.hear_part.Goals as goal
 
-pub returns : goal.returns
-returns c = record {
-  taken = c.line_in-taken.result;
-  middle = c.line_in-taken.new.self;
-  listens = c.line_in-taken.ensures.taken (omega arith);
-  adds = c.line_in-taken.ensures.adds;
+pub returns-clause-heard : goal.returns-clause-heard
+returns-clause-heard c = record {
+  taken = c.in-Ok.taken;
+  middle = c.line_in.new.self;
+  listens = c.in-Ok.ensures.ok;
+  adds = c.in-Ok.ensures.adds;
   heeds = c.in_ok-heed_link.ensures.adds;
-  left_is = all_behind c.args.octets.now c.line_in-taken.result;
+  left_is = all_behind c.args.octets.now c.in-Ok.taken;
 }

@@ -1,11 +1,15 @@
-use Rattle.script_ends.proofs.LineAnswers.{none_given, one_given, fewer_after}
+use Rattle.script_ends.proofs.LineAnswers.{none_given, one_given, fewer_after, there_reported}
 use Rattle.script_ends.proofs.lines.drop_reports.Goals as goal
 
-pub returns-then-not-branch : goal.returns-then-not-branch
-returns-then-not-branch c = c.reports.invariant _ (none_given c.args.link _ _ _ c.if-not-branch.true c.in_ok-drop_report.ensures)
+pub returns-then-not-drop_report : goal.returns-then-not-drop_report
+returns-then-not-drop_report c =
+    c.reports.invariant.gives _ (none_given c.args.link _ _ _ c.if-not-drop_report.true c.drop_report.ensures)
 
 pub reports-smaller : goal.reports-smaller
-reports-smaller c = fewer_after c.args.link _ _ _ c.if-not-branch.false c.in_ok-drop_report.ensures
+reports-smaller c = fewer_after c.args.link _ _ _ c.if-not-drop_report.false c.drop_report.ensures
 
 pub reports-preserved : goal.reports-preserved
-reports-preserved c d others = c.reports.invariant d (one_given c.args.link _ _ _ _ c.if-not-branch.false c.in_ok-drop_report.ensures others)
+reports-preserved c = record {
+  gives = λ d others. c.reports.invariant.gives d (one_given c.args.link _ _ _ _ c.if-not-drop_report.false c.drop_report.ensures others);
+  there = there_reported c.args.link _ _ _ c.drop_report.ensures;
+}

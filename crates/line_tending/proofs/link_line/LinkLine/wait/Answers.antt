@@ -13,13 +13,13 @@ returns-then-self-lt-PATIENCE-clause-waits c = waits_on _ _ _ _ _ _ (omega arith
 
 pub returns-then-self-ne0-clause-waits : goal.returns-then-self-ne0-clause-waits
 returns-then-self-ne0-clause-waits c =
-    waits_between _ _ _ _ _ _ _ (omega arith) (omega arith) (λ whole. absurd (omega (arith, whole))) c.in_ok-hear.ensures
+    waits_between _ _ _ _ _ _ _ (omega arith) (omega arith) (λ whole. absurd (omega (arith, whole))) c.in_ok-hear.ensures.heard
 
 pub returns-then-self-eq-PATIENCE-clause-waits : goal.returns-then-self-eq-PATIENCE-clause-waits
 returns-then-self-eq-PATIENCE-clause-waits c =
-    waits_first _ _ _ _ _ _ _ _ (omega arith) (omega arith) (silent_all _ _ _ c.loop-octet._octet c.loop-octet.invariant (omega arith) (omega arith)) c.in_ok-hear.ensures
+    waits_first _ _ _ _ _ _ _ _ (omega arith) (omega arith) (silent_all _ _ _ c.loop-octet._octet c.loop-octet.invariant (omega arith) (omega arith)) c.in_ok-hear.ensures.heard
 
 pub returns-else-self-eq-PATIENCE-clause-waits : goal.returns-else-self-eq-PATIENCE-clause-waits
 returns-else-self-eq-PATIENCE-clause-waits c =
     waits_anew _ _ _ _ _ _ _ _ (omega arith) (omega arith) (omega arith) (λ first. absurd (omega (arith, first)))
-    (silent_all _ _ _ c.loop-octet._octet c.loop-octet.invariant (omega arith) (omega arith)) c.in_ok-hear.ensures
+    (silent_all _ _ _ c.loop-octet._octet c.loop-octet.invariant (omega arith) (omega arith)) c.in_ok-hear.ensures.heard

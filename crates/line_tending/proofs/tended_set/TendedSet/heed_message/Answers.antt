@@ -42,7 +42,7 @@ returns-in-Own c =
     acts_quiet c.args.self.now c.hear_itself.new.self _
     (unheard c.args.self.now.plan c.args.link c.args.msu Own (sym c.in-Own.is ∙ (c.came.ensures ∙ ap (λ (t : Tended). came t.plan.ends c.args.msu) c.self.view_is)) refl)
     adds)
-    c.hear_itself.ensures
+    c.hear_itself.ensures.adds
 
 pub returns-in-Answer : goal.returns-in-Answer
 returns-in-Answer c =

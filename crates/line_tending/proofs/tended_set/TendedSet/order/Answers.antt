@@ -10,3 +10,9 @@ returns-clause-ok c = elim c.match-command.branch [
   | in-Ok w ↦ rw (w.result-is, ← c.self.view_is) w.in-Ok.ensures.ok
   | in-Err w ↦ rw w.result-is tt
 ]
+
+pub returns-clause-err : goal.returns-clause-err
+returns-clause-err c = elim c.match-command.branch [
+  | in-Ok w ↦ rw w.result-is tt
+  | in-Err w ↦ rw (w.result-is, ← c.self.view_is) w.in-Err.ensures.err
+]
