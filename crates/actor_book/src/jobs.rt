@@ -10,7 +10,7 @@ ghost use Rattle.actor_machine.specs.declared.actor.Actor.{Actor as PlainActor};
 use actor_machine::{Actor, Given, Standing};
 use turn_check::Verified;
 use turn_code::{Place, ProcessNumber};
-use turn_machine::{Job, Received, Work, is_turn, runs_piece};
+use turn_machine::{Job, Received, TurnHead, Work, is_turn, runs_piece};
 
 /// The job of a turn.
 fn job_with(set: &Verified, number: u16, process: ProcessNumber, place: Place, given: &Given) -> Job
@@ -18,13 +18,16 @@ fn job_with(set: &Verified, number: u16, process: ProcessNumber, place: Place, g
     ensures { Some result ≡ turn_with number process place given.now (transition_at set.now process.0 place given.now.number) }
 {
     let input = given.input.copy();
-    Job::new(
-        set,
-        number,
-        given.turn,
+    let head = TurnHead {
+        actor: number,
+        turn: given.turn,
         process,
         place,
-        given.number,
+        input_number: given.number,
+    };
+    Job::new(
+        set,
+        head,
         input.variables,
         Received {
             parameters: input.parameters,

@@ -19,10 +19,11 @@ use crate::book::Book;
 use crate::steps::{name_in, note, number_in};
 use actor_machine::laws::{fits_law, keeps_law, out_law, set_law, state_law, text_law};
 use actor_machine::{Actor, Event, Given, Refusal, Report, Standing};
+use actor_state::NumberedActor;
 use turn_check::Verified;
 use turn_code::laws::effects_law;
 use turn_code::{Place, ProcessNumber};
-use turn_machine::{Ended, Room};
+use turn_machine::{Ended, Room, TurnHead};
 
 /// Why no turn begins into a room. Then neither the room nor the book changes.
 #[derive(Clone, Copy, PartialEq, Eq, Debug)]
@@ -58,15 +59,14 @@ fn put_with(
     requires fits { Fits set.now process.0 place given.now.number given.now.input }
     ensures { LiesOut (turn_with number process place given.now (transition_at set.now process.0 place given.now.number)) room.new }
 {
-    room.begin(
-        set,
-        number,
-        given.turn,
+    let head = TurnHead {
+        actor: number,
+        turn: given.turn,
         process,
         place,
-        given.number,
-        &given.input,
-    );
+        input_number: given.number,
+    };
+    room.begin(set, head, &given.input);
 }
 
 /// Makes the job of an actor that has a turn out in a room.
@@ -224,8 +224,7 @@ impl Book {
         let name = name_in(&self.link, actor);
         let report = self.link.finish(
             &self.set,
-            number,
-            name,
+            NumberedActor { number, name },
             ended.end,
             ended.machine.variables.as_slice(),
             ended.machine.effects.as_slice(),

@@ -14,7 +14,7 @@ ghost use Rattle.plain_laws.specs.Limits.{MOST_ACTORS, MOST_EFFECTS, MOST_VARIAB
 use crate::book::Book;
 use actor_machine::laws::{fits_law, keeps_law, out_law, state_law};
 use actor_machine::{ActorName, Emitted, Event, Offer, Report};
-use actor_state::LinkActors;
+use actor_state::{LinkActors, NumberedActor};
 use turn_code::laws::{effects_law, run_law};
 use turn_code::{SignalNumber, Trigger, Value};
 use turn_machine::{Done, Job};
@@ -164,8 +164,7 @@ impl Book {
         let name = name_in(&self.link, actor);
         let report = self.link.finish(
             &self.set,
-            number,
-            name,
+            NumberedActor { number, name },
             done.end(),
             variables_after(done),
             done.effects(),

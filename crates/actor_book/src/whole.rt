@@ -17,6 +17,7 @@ use crate::book::Book;
 use crate::steps::{name_in, note, number_in};
 use actor_machine::laws::{fits_law, keeps_law, out_law, set_law, state_law, text_law};
 use actor_machine::{Actor, Event, Given, Refusal, Report, Standing};
+use actor_state::NumberedActor;
 use turn_check::Verified;
 use turn_code::laws::effects_law;
 use turn_code::{End, Machine, Place, ProcessNumber};
@@ -128,8 +129,7 @@ impl Book {
         let name = name_in(&self.link, actor);
         let report = self.link.finish(
             &self.set,
-            number,
-            name,
+            NumberedActor { number, name },
             end,
             self.machine.variables.as_slice(),
             self.machine.effects.as_slice(),

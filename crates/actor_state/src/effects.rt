@@ -18,6 +18,13 @@ use tick_wheel::{Timer, Wheel};
 use turn_check::Verified;
 use turn_code::{Address, Effect, End, Party, Sending, TimerNumber, Value, copied_values};
 
+/// An actor by its number and its name.
+#[derive(Clone, Copy)]
+pub struct NumberedActor {
+    pub number: u8,
+    pub name: ActorName,
+}
+
 impl LinkActors {
     /// Carries out one effect of the turn of the actor with this number and name. Returns why an output is lost.
     fn lay(&mut self, set: &Verified, actor: u8, name: ActorName, effect: &Effect) -> Option<Cause>
@@ -115,13 +122,12 @@ impl LinkActors {
         lost
     }
 
-    /// Ends a turn of the actor with this number and name, with this end, these variables and effects, and `count`
+    /// Ends a turn of an actor, with this end, these variables and effects, and `count`
     /// instructions. The variables are set first; then the effects take place one after another, and then the end.
     pub fn finish(
         &mut self,
         set: &Verified,
-        actor: u8,
-        name: ActorName,
+        actor: NumberedActor,
         end: End,
         variables: &[Option<Value>],
         effects: &[Effect],
@@ -129,17 +135,18 @@ impl LinkActors {
     ) -> Report
         requires variables { length variables.now ≤ MOST_VARIABLES }
         requires names { names_in self.old.actors ≡ actors_of set.now.processes }
-        requires actor { actor < MOST_ACTORS }
+        requires actor { actor.number < MOST_ACTORS }
         requires timers { HaveTimers effects.now }
         requires few { length effects.now ≤ MOST_EFFECTS }
         requires finishes { self.old.finishes < MOST_TURNS_BEGUN }
         requires instructions { self.old.instructions + count < 2 ^ 64 }
-        ensures link { self.new ≡ finished actor name (outcome_with end variables.now effects.now count) self.old }
-        ensures report { result ≡ report_of actor name (outcome_with end variables.now effects.now count) self.old }
+        ensures link { self.new ≡ finished actor.number actor.name (outcome_with end variables.now effects.now count) self.old }
+        ensures report { result ≡ report_of actor.number actor.name (outcome_with end variables.now effects.now count) self.old }
     {
-        self.start(actor, variables, count);
-        let lost = self.lay_all(set, actor, name, effects);
-        self.end(actor, end);
+        let NumberedActor { number, name } = actor;
+        self.start(number, variables, count);
+        let lost = self.lay_all(set, number, name, effects);
+        self.end(number, end);
         Report { end, count, lost }
     }
 

@@ -14,5 +14,6 @@ mod ring;
 mod scratch;
 mod turn;
 
+pub use effects::NumberedActor;
 pub use link_actors::LinkActors;
 pub use refusal::with_room;

@@ -1,4 +1,3 @@
 mod AlikeRuns
 mod Moving
-mod Sameness
 mod Tests

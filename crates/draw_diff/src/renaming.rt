@@ -1,5 +1,6 @@
 //! Code of one set, renamed to the numbers of another.
 ghost use Rattle.std.specs.Prelude.{◌≡◌};
+ghost use Rattle.turn_code.specs.declared.instruction.Instruction.TheVariants.{Load, Store, Next};
 ghost use Rattle.draw_diff.specs.Names.{moved_signal, moved_state, moved_timer, moved_variable};
 ghost use Rattle.draw_diff.specs.Renaming.{renamed_party, renamed_receiver, sent_to, renamed, is_renamed, are_renamed};
 
@@ -53,19 +54,43 @@ fn renamed_output(
     }
 }
 
+/// The instruction that loads a variable, in the other set's numbers; none if its name is missing there.
+fn renamed_load(pair: &Pair<'_>, number: VariableNumber) -> Option<Instruction>
+    ensures { result ≡ renamed pair.now (Load number) }
+{
+    match moved_variable(pair, number) {
+        Some(moved) => Some(Instruction::Load(VariableNumber(moved))),
+        None => None,
+    }
+}
+
+/// The instruction that stores into a variable, in the other set's numbers; none if its name is missing there.
+fn renamed_store(pair: &Pair<'_>, number: VariableNumber) -> Option<Instruction>
+    ensures { result ≡ renamed pair.now (Store number) }
+{
+    match moved_variable(pair, number) {
+        Some(moved) => Some(Instruction::Store(VariableNumber(moved))),
+        None => None,
+    }
+}
+
+/// The instruction that names the next state, in the other set's numbers; none if its name is missing there.
+fn renamed_next(pair: &Pair<'_>, number: StateNumber) -> Option<Instruction>
+    ensures { result ≡ renamed pair.now (Next number) }
+{
+    match moved_state(pair, number) {
+        Some(moved) => Some(Instruction::Next(StateNumber(moved))),
+        None => None,
+    }
+}
+
 /// An instruction in the other set's numbers; none if a name is missing there.
 fn renamed(pair: &Pair<'_>, instruction: &Instruction) -> Option<Instruction>
     ensures { result ≡ renamed pair.now instruction.now }
 {
     match instruction {
-        Instruction::Load(number) => match moved_variable(pair, *number) {
-            Some(moved) => Some(Instruction::Load(VariableNumber(moved))),
-            None => None,
-        },
-        Instruction::Store(number) => match moved_variable(pair, *number) {
-            Some(moved) => Some(Instruction::Store(VariableNumber(moved))),
-            None => None,
-        },
+        Instruction::Load(number) => renamed_load(pair, *number),
+        Instruction::Store(number) => renamed_store(pair, *number),
         Instruction::Output(signal, receiver, count) => {
             renamed_output(pair, *signal, *receiver, *count)
         }
@@ -77,10 +102,7 @@ fn renamed(pair: &Pair<'_>, instruction: &Instruction) -> Option<Instruction>
             Some(moved) => Some(Instruction::Reset(TimerNumber(moved))),
             None => None,
         },
-        Instruction::Next(number) => match moved_state(pair, *number) {
-            Some(moved) => Some(Instruction::Next(StateNumber(moved))),
-            None => None,
-        },
+        Instruction::Next(number) => renamed_next(pair, *number),
         Instruction::Int(_) => Some(*instruction),
         Instruction::Bool(_) => Some(*instruction),
         Instruction::Param(_) => Some(*instruction),

@@ -6,6 +6,7 @@ mod apart;
 mod below;
 mod drawing;
 mod frames;
+mod joins;
 mod labels;
 mod layout;
 mod measures;

@@ -3,17 +3,10 @@ ghost use Rattle.std.specs.Prelude.{◌∷◌, All, List, ℕ, IfOk, OnOk};
 ghost use Rattle.draw_sets.specs.Noting.{AreAdded, AreNoted, AreWritten, IsBegun, IsBelow, IsInLine};
 
 use crate::below::{push_below, push_name};
+use crate::joins::{connection, is_marked, mark, no_marks, reached, same, titled};
 use crate::rows::{Row, Section, sections_of};
 use draw_text::push_bytes;
 use std::alloc::{AllocError, Global};
-
-/// The number of connections through which a JOIN is followed.
-const FOLLOWED: usize = 16;
-
-/// Whether two names differ at most in the case of letters.
-fn same(one: &[u8], other: &[u8]) -> bool {
-    one.eq_ignore_ascii_case(other)
-}
 
 /// The number of equal statements at the beginning.
 fn alike(one: &[Row], other: &[Row]) -> usize {
@@ -83,106 +76,6 @@ fn push_changes(
     let last = alike_at_end(olds, news).min(least);
     push_rows(alloc, text, b"- ", olds, first, last)?;
     push_rows(alloc, text, b"+ ", news, first, last)
-}
-
-/// Whether a name is one of these.
-fn is_among(names: &[Vec<u8>], name: &[u8]) -> bool {
-    for other in names {
-        if same(other, name) {
-            return true;
-        }
-    }
-    false
-}
-
-/// The transition with a title.
-fn titled<'a>(sections: &'a [Section], title: &[u8]) -> Option<&'a Section> {
-    for section in sections {
-        if is_among(&section.titles, title) {
-            return Some(section);
-        }
-    }
-    None
-}
-
-/// Whether a section is the connection of a process with a name.
-fn is_connection(section: &Section, process: &[u8], name: &[u8]) -> bool {
-    !name.is_empty() && same(&section.connection, name) && same(&section.process, process)
-}
-
-/// The connection of a process with a name.
-fn connection<'a>(sections: &'a [Section], process: &[u8], name: &[u8]) -> Option<&'a Section> {
-    for section in sections {
-        if is_connection(section, process, name) {
-            return Some(section);
-        }
-    }
-    None
-}
-
-/// Whether one of these statements jumps to a connection.
-fn joins(rows: &[Row], name: &[u8]) -> bool {
-    for row in rows {
-        if !row.joined.is_empty() && same(&row.joined, name) {
-            return true;
-        }
-    }
-    false
-}
-
-/// A mark for each section, none of them set.
-fn no_marks(alloc: Global, sections: &[Section]) -> Result<Vec<bool>, AllocError> {
-    let mut marks = Vec::new(alloc);
-    for _ in sections {
-        marks.push(false)?;
-    }
-    Ok(marks)
-}
-
-/// Sets a mark.
-fn mark(marks: &mut Vec<bool>, index: usize) {
-    if let Some(mark) = marks.get_mut(index) {
-        *mark = true;
-    }
-}
-
-/// Whether a mark is set.
-fn is_marked(marks: &[bool], index: usize) -> bool {
-    match marks.get(index) {
-        Some(mark) => *mark,
-        None => false,
-    }
-}
-
-/// Marks the connections of a process to which some statements jump.
-fn mark_joined(marks: &mut Vec<bool>, sections: &[Section], process: &[u8], rows: &[Row]) {
-    for (index, section) in sections.iter().enumerate() {
-        if !section.connection.is_empty()
-            && same(&section.process, process)
-            && joins(rows, &section.connection)
-        {
-            mark(marks, index);
-        }
-    }
-}
-
-/// Marks the connections to which the marked connections jump.
-fn mark_more(marks: &mut Vec<bool>, sections: &[Section], process: &[u8]) {
-    for (index, section) in sections.iter().enumerate() {
-        if is_marked(marks, index) {
-            mark_joined(marks, sections, process, &section.rows);
-        }
-    }
-}
-
-/// The connections that a transition reaches.
-fn reached(alloc: Global, sections: &[Section], from: &Section) -> Result<Vec<bool>, AllocError> {
-    let mut marks = no_marks(alloc, sections)?;
-    mark_joined(&mut marks, sections, &from.process, &from.rows);
-    for _ in 0..FOLLOWED {
-        mark_more(&mut marks, sections, &from.process);
-    }
-    Ok(marks)
 }
 
 /// Whether the connection of this name in the other text has other statements.

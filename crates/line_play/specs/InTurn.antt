@@ -5,7 +5,7 @@ use Rattle.std.specs.Prelude.{◌≡◌, ℕ, List, [], ◌∷◌, ◌++◌, map
 use Rattle.link_transceiver.specs.declared.signals.Report.{Report}
 use Rattle.link_transceiver.specs.declared.signals.Report.TheVariants.{Message, Status}
 use Rattle.link_transceiver.specs.TransceiverState.{TransceiverState}
-use Rattle.script_ends.specs.Term.{Term, term_with_transceiver}
+use Rattle.script_ends.specs.Term.{Term, transceiver_of, term_with_transceiver}
 use Rattle.script_ends.specs.Told.{report_text}
 use Rattle.line_play.specs.declared.link.end.LinkEnd.{LinkEnd}
 use Rattle.line_play.specs.declared.link.turns.Turn.{Turn}
@@ -25,15 +25,19 @@ abbrev pub in_turn : Option Report → TransceiverState → List Report
 in_turn None h = ordered (map Message h.messages) (map Status h.statuses)
 in_turn (Some held) h = last_behind held (map Message h.messages) (map Status h.statuses)
 
+-- no message was handed out by the terminal and not reported yet
+abbrev pub HoldsNone : LinkEnd → Type 0
+HoldsNone l = l.held ≡ None
+
 abbrev pub waiting : LinkEnd → List Report
-waiting l = in_turn l.held l.terminal.processes.transceiver
+waiting l = in_turn l.held (transceiver_of l.terminal)
 
 -- the transceiver state without messages and statuses to hand out
 abbrev pub with_none_left : TransceiverState → TransceiverState
 with_none_left h = record h { messages = []; statuses = [] }
 
 abbrev pub without_reports : Term → Term
-without_reports t = term_with_transceiver t (with_none_left t.processes.transceiver)
+without_reports t = term_with_transceiver t (with_none_left (transceiver_of t))
 
 -- the first report is taken and the others are left; none is taken if there are none
 abbrev pub IsFirst : Option Report → List Report → List Report → Type 0

@@ -11,7 +11,7 @@ use Rattle.link_group.specs.Lines.{ByCommand}
 use Rattle.link_group.specs.Links.{read_at}
 use Rattle.link_group.specs.Placing.{rebalance_fault, rebalanced}
 use Rattle.link_group.specs.Reading.{book_of, terminal_of}
-use Rattle.line_tending.specs.Tended.{Tended}
+use Rattle.line_tending.specs.Tended.{Tended, link_count}
 use Rattle.line_tending.specs.group_changeover_types.errors.RebalanceError.{RebalanceError}
 use Rattle.link_group.specs.declared.commanding.CommandError.{CommandError}
 use Rattle.line_play.specs.declared.set.measures.Since.{Since}
@@ -31,6 +31,10 @@ pub record Stood : Type 0 where
   -- the measurements of its links when their counts were last reset
   pub since : List Since
 
+-- the millisecond: the number of rounds so far
+abbrev pub millisecond_of : SetState → ℕ
+millisecond_of s = s.tender.ticks
+
 abbrev pub stood : SetState → Stood
 stood s = record { tender = s.tender; focus = s.focus; since = s.since.items }
 
@@ -41,11 +45,11 @@ first_of All = 0
 
 abbrev pub last_of : Focus → Tended → ℕ
 last_of (OneLink l) t = min (2 ^ 64 - 1) (l + 1)
-last_of All t = t.plan.links
+last_of All t = link_count t
 
 -- there is no such link
 abbrev pub IsNoLink : Focus → Tended → Type 0
-IsNoLink (OneLink l) t = t.plan.links ≤ l
+IsNoLink (OneLink l) t = link_count t ≤ l
 IsNoLink All t = ⊥
 
 -- ---- what an order changes

@@ -9,7 +9,7 @@ use Rattle.line_filter.specs.Orders.{told}
 use Rattle.link_group.specs.Links.{read_at}
 use Rattle.link_group.specs.Reading.{held_count, sent_count}
 use Rattle.line_tending.specs.Sharing.{link_of, selections}
-use Rattle.line_tending.specs.Tended.{Tended}
+use Rattle.line_tending.specs.Tended.{Tended, link_count}
 use Rattle.line_tending.specs.Texts.{told_text}
 use Rattle.line_tending.specs.declared.told.Told.TheVariants.{Shared}
 use Rattle.line_play.specs.declared.set.orders.Focus.{Focus}
@@ -120,7 +120,7 @@ Shows measures whom p bytes = ShowsLinks measures whom p bytes
 Shows resetting whom p bytes = ShowsLinks resetting whom p bytes
 Shows (send octets) whom p bytes = ShowsLinks (send octets) whom p bytes
 Shows table whom p bytes = bytes ≡ told p.tender.ticks (table_text p.tender)
-Shows held whom p bytes = ShowsHeld p.tender p.tender.plan.links bytes
+Shows held whom p bytes = ShowsHeld p.tender (link_count p.tender) bytes
 Shows unsure whom p bytes = bytes ≡ told p.tender.ticks (unsure_text p.tender)
 Shows rebalance whom p bytes = ShowsLinks rebalance whom p bytes
 

@@ -16,6 +16,10 @@ pub record Tended : Type 0 where
   -- of links.
   pub reports : List Told
 
+-- the number of its links
+abbrev pub link_count : Tended → ℕ
+link_count t = t.plan.links
+
 -- Nothing was reported, and no tick has passed. The set is the given one, except for calls of it.
 pub record IsNewTended (ends : Ends) (tests : Bool) (set : LinkSet) (t : Tended) : Type 0 where
   pub calls : ByCalls set [] t.set

@@ -13,7 +13,7 @@ ghost use Rattle.line_tending.specs.Sending.{tended_send_fault, size_of, octets_
 use crate::tended_set::TendedSet;
 use crate::told::Told;
 use group_changeover::{Label, SendError};
-use link_group::{Command, CommandError};
+use link_group::{Command, CommandError, is_start};
 use resend_store::Msu;
 
 /// The number of messages with which a link is full.
@@ -21,25 +21,6 @@ const MOST_HELD: usize = 256;
 
 /// The number of octets with which a link is full: 450 ms of a line, before any changeover order or answer is sent.
 const MOST_OCTETS: usize = 3_000;
-
-fn is_start(command: Command) -> bool
-    ensures { result ≡ is_start command }
-{
-    match command {
-        Command::Start => true,
-        Command::PowerOn
-        | Command::Stop
-        | Command::Emergency
-        | Command::Calm
-        | Command::Outage
-        | Command::Back
-        | Command::Busy
-        | Command::Free
-        | Command::Flush
-        | Command::Continue
-        | Command::Overload => false,
-    }
-}
 
 impl TendedSet {
     /// The octets of the message at a place among those that a link holds, or 0.

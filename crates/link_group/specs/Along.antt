@@ -5,10 +5,10 @@ use Rattle.std.specs.Option.{option_to_list}
 use Rattle.bit_line.specs.declared.events.LineEvent.{LineEvent}
 use Rattle.su_octets.specs.declared.units.Unit.{Unit}
 use Rattle.su_octets.specs.declared.units.Unit.TheVariants as units
-use Rattle.link_transceiver.specs.TransceiverState.{TransceiverState}
+use Rattle.link_transceiver.specs.TransceiverState.{TransceiverState, kept_of}
 use Rattle.actor_machine.specs.declared.event.Event.{Event}
 use Rattle.link_processes.specs.declared.processes.Processes.{Processes}
-use Rattle.link_processes.specs.Machine.{offered, sent}
+use Rattle.link_processes.specs.Machine.{offered, sent, unit_gone}
 use Rattle.link_term.specs.Hearing.{Reads, as_unit, as_error, AreTaken, nothing, unit, errored}
 use Rattle.link_term.specs.Hearing.{sixteen, Hears, silent, octet}
 use Rattle.link_term.specs.Laws.{accepted_along}
@@ -62,16 +62,16 @@ pub record TerminalsFare : Type 0 where
       → Lives x → Lives (record x { far = (offered e t).transceiver })
   pub near_sends :
       (x : Ends) (t : Processes) → x.near ≡ t.transceiver
-      → (sent t).processes.transceiver.began ≡ false → Lives x
+      → (unit_gone t).transceiver.began ≡ false → Lives x
       → Lives (record x {
-        near = (sent t).processes.transceiver;
+        near = (unit_gone t).transceiver;
         forth = x.forth ++ option_to_list (sent t).unit;
       })
   pub far_sends :
       (x : Ends) (t : Processes) → x.far ≡ t.transceiver
-      → (sent t).processes.transceiver.began ≡ false → Lives x
+      → (unit_gone t).transceiver.began ≡ false → Lives x
       → Lives (record x {
-        far = (sent t).processes.transceiver;
+        far = (unit_gone t).transceiver;
         back = x.back ++ option_to_list (sent t).unit;
       })
   pub near_hears :
@@ -83,7 +83,7 @@ pub record TerminalsFare : Type 0 where
         near = v.transceiver;
         back = rest;
         place = place_behind
-            (length x.near.sender.kept - length v.transceiver.sender.kept) x.place;
+            (length (kept_of x.near) - length (kept_of v.transceiver)) x.place;
       })
   pub far_hears :
       (bits : List Bool) (all now : List LineEvent) (t v : Processes) (octets : List ℕ)

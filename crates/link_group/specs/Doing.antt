@@ -4,7 +4,7 @@ use Rattle.std.specs.Prelude.{if◌then◌else◌, List, ◌++◌, length, take,
 use Rattle.std.specs.Prelude.{slice_get, slice_set}
 use Rattle.link_transceiver.specs.Limits.{KEPT_MESSAGES}
 use Rattle.link_processes.specs.Machine.{is_low, sent, tidied}
-use Rattle.link_term.specs.Term.{Term, term_with_transceiver, with_processes}
+use Rattle.link_term.specs.Term.{Term, transceiver_of, term_with_transceiver, with_processes}
 use Rattle.link_term.specs.Kept.{Took, Sends, window_of}
 use Rattle.link_term.specs.Hearing.{Heard}
 use Rattle.link_term.specs.Speaking.{IsSpoken}
@@ -22,7 +22,7 @@ use Rattle.link_group.specs.OneLink.{bound_among}
 
 -- the link came into service since that was last read
 abbrev pub came : Link → Bool
-came k = k.terminal.processes.transceiver.came
+came k = (transceiver_of k.terminal).came
 
 -- the link is in service, not held, and admitted for the first time
 abbrev pub came_first : Link → Bool
@@ -50,19 +50,19 @@ admits_by way (Some k) = admits_first way k
 -- ---- a link's directions restart
 
 abbrev pub began : Link → Bool
-began k = k.terminal.processes.transceiver.began
+began k = (transceiver_of k.terminal).began
 
 abbrev pub unbegun : Link → Link
 unbegun k =
     record k {
       terminal = term_with_transceiver k.terminal
-          (record k.terminal.processes.transceiver { began = false });
+          (record (transceiver_of k.terminal) { began = false });
     }
 
 abbrev pub with_kept : List Msu → Term → Term
 with_kept ms t =
     term_with_transceiver t
-    (record t.processes.transceiver { sender = record (window_of t) { kept = ms } })
+    (record (transceiver_of t) { sender = record (window_of t) { kept = ms } })
 
 -- the message at a place is removed if it is bound to a link
 abbrev pub without_bound_at : Points → ℕ → Term → Term
@@ -105,7 +105,7 @@ anew k = if began k then leaves_out (unbegun k) else unbegun k
 abbrev pub asked_of : Link → Link
 asked_of k = marked_served (record k {
   terminal = term_with_transceiver k.terminal
-      (record k.terminal.processes.transceiver { came = false });
+      (record (transceiver_of k.terminal) { came = false });
   availability = if came k then serves k.availability else k.availability;
 })
 
@@ -137,11 +137,16 @@ pub record Listened (octets : List ℕ) (taken : ℕ) (old new : Link) : Type 0 
   pub heard : Heard old.terminal (take taken octets) new.terminal
   pub stops :
       taken < length octets
-      → (KEPT_MESSAGES ≤ length new.terminal.processes.transceiver.messages)
+      → (KEPT_MESSAGES ≤ length (transceiver_of new.terminal).messages)
       ⊎ (is_low new.terminal.processes ≡ true)
   pub took : Took old.terminal new.terminal
   pub availability :
       new.availability ≡ fewer (length (held old) - length (held new)) old.availability
+
+-- the messages that the octets acknowledged
+abbrev pub acknowledged_by :
+    {octets : List ℕ} {taken : ℕ} {old new : Link} → Listened octets taken old new → List Msu
+acknowledged_by did = did.took.gone
 
 -- so many units were requested, and these octets were sent
 pub record Spoken (units : ℕ) (octets : List ℕ) (old new : Link) : Type 0 where
@@ -150,6 +155,11 @@ pub record Spoken (units : ℕ) (octets : List ℕ) (old new : Link) : Type 0 wh
   pub spoken : IsSpoken old.terminal units new.terminal octets
   pub sends : Sends units old.terminal new.terminal
   pub availability : new.availability ≡ old.availability
+
+-- how many units were sent
+abbrev pub count_spoken :
+    {units : ℕ} {octets : List ℕ} {old new : Link} → Spoken units octets old new → ℕ
+count_spoken did = did.spoken.count
 
 -- this unit was sent
 pub record Sent (unit : Option Unit) (old new : Link) : Type 0 where
@@ -165,9 +175,9 @@ pub record Sent (unit : Option Unit) (old new : Link) : Type 0 where
 pub record Reported (report : Option Report) (old new : Link) : Type 0 where
   pub points : new.points ≡ old.points
   pub hand : new.hand ≡ old.hand
-  pub report_is : report ≡ (reported old.terminal.processes.transceiver).report
+  pub report_is : report ≡ (reported (transceiver_of old.terminal)).report
   pub terminal :
       new.terminal
-      ≡ term_with_transceiver old.terminal (reported old.terminal.processes.transceiver).transceiver
+      ≡ term_with_transceiver old.terminal (reported (transceiver_of old.terminal)).transceiver
   pub same : window_of new.terminal ≡ window_of old.terminal
   pub availability : new.availability ≡ old.availability

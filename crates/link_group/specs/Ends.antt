@@ -9,7 +9,8 @@ use Rattle.link_transceiver.specs.declared.offers.UnitOut.{UnitOut}
 use Rattle.link_transceiver.specs.declared.signals.EnvSignal.{EnvSignal}
 use Rattle.link_transceiver.specs.declared.signals.EnvSignal.TheVariants as signal
 use Rattle.link_transceiver.specs.declared.signals.Hold.{Hold}
-use Rattle.link_transceiver.specs.TransceiverState.{TransceiverState, is_held}
+use Rattle.link_transceiver.specs.TransceiverState.{TransceiverState, is_held, kept_of}
+use Rattle.link_transceiver.specs.TransceiverState.{last_accepted}
 use Rattle.link_transceiver.specs.Effects.{effect, renewed, clears}
 use Rattle.link_transceiver.specs.Judging.{judged}
 use Rattle.link_transceiver.specs.Going.{gone}
@@ -53,7 +54,7 @@ ends_anew h g = record {
 -- Messages to send are given to near, by `send` or from another link.
 abbrev pub given : List Msu → Ends → Ends
 given ms x = record x {
-  near = record x.near { sender = record x.near.sender { kept = x.near.sender.kept ++ ms } };
+  near = record x.near { sender = record x.near.sender { kept = kept_of x.near ++ ms } };
   taken = x.taken ++ ms;
 }
 
@@ -90,7 +91,7 @@ came_back u us x =
     in record x {
       near = h;
       back = us;
-      place = place_behind (length x.near.sender.kept - length h.sender.kept) x.place;
+      place = place_behind (length (kept_of x.near) - length (kept_of h)) x.place;
     }
 
 -- The states of the two ends over any list of steps. A line may lose and delay units, but keeps
@@ -129,7 +130,7 @@ pub data Lives : Ends → Type 0 where
   -- far reports the number of the message that it accepted last
   tells :
       (x : Ends) → Lives x → is_held x.far.hold ≡ true
-      → Lives (record x { told = Some x.far.receiver.last })
+      → Lives (record x { told = Some (last_accepted x.far) })
   -- That number is heard near, at any later time.
   hears : (x : Ends) → Lives x → Lives (record x { place = count_told x.near.sender x.told })
 

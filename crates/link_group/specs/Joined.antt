@@ -19,10 +19,11 @@ use Rattle.group_changeover.specs.Bound.{unbound}
 use Rattle.group_changeover.specs.Saying.{is_out, count_in, counts_in, number_in, begun_by_message}
 use Rattle.group_changeover.specs.Sharing.{selection_of, link_of}
 use Rattle.link_group.specs.declared.link.Link.{Link}
-use Rattle.link_group.specs.OneLink.{held}
+use Rattle.link_group.specs.OneLink.{held, processes_of}
 use Rattle.link_group.specs.Commanding.{behind_command, Refused}
-use Rattle.link_group.specs.Doing.{Listened, Spoken, Sent, Reported}
+use Rattle.link_group.specs.Doing.{Listened, Spoken, Sent, Reported, count_spoken}
 use Rattle.link_group.specs.Failing.{handed, given_up}
+use Rattle.link_term.specs.Term.{transceiver_of}
 use Rattle.link_term.specs.Hearing.{Hears}
 use Rattle.link_term.specs.Speaking.{given as units_given}
 use Rattle.link_term.specs.Laws.{accepted_along}
@@ -40,7 +41,7 @@ use Rattle.link_group.specs.Along.{units_along, Arrive}
 -- ---- the end of a link
 
 abbrev pub end_of : Link → TransceiverState
-end_of k = k.terminal.processes.transceiver
+end_of k = transceiver_of k.terminal
 
 -- the end of the link at a place, if it exists
 abbrev pub end_at : LinkSet → ℕ → Option TransceiverState
@@ -124,15 +125,15 @@ pub data Does (l : ℕ) : LinkSet → LinkSet → Deed → Type 0 where
   listens :
       (c e : LinkSet) (octets : List ℕ) (taken : ℕ) (by : ByLink (Listened octets taken) l c e)
       (bits : List Bool) (all now : List LineEvent)
-      (h : Hears bits all by.at.before.terminal.processes (take taken octets)
-      now by.at.after.terminal.processes)
+      (h : Hears bits all (processes_of by.at.before) (take taken octets)
+      now (processes_of by.at.after))
       → (end_of by.at.after).began ≡ false
       → Does l c e (record nothing { came = units_along h; accepted = accepted_along h })
   speaks :
       (c e : LinkSet) (units : ℕ) (octets : List ℕ) (by : ByLink (Spoken units octets) l c e)
       → (end_of by.at.after).began ≡ false
       → Does l c e (record nothing {
-        out = units_given by.at.was.spoken.count by.at.before.terminal.processes;
+        out = units_given (count_spoken by.at.was) (processes_of by.at.before);
       })
   gives :
       (c e : LinkSet) (unit : Option Unit) (by : ByLink (Sent unit) l c e)
@@ -143,7 +144,7 @@ pub data Does (l : ℕ) : LinkSet → LinkSet → Deed → Type 0 where
       → (end_of by.at.after).began ≡ false → Does l c e nothing
   commands :
       (c e : LinkSet) (command : Command) (by : ByCommand command l c e)
-      → (behind_command command by.at.before.terminal).processes.transceiver.clearing ≡ false
+      → (transceiver_of (behind_command command by.at.before.terminal)).clearing ≡ false
       → (end_of by.at.after).began ≡ false → Does l c e nothing
   refuses :
       (c e : LinkSet) (command : Command) (refusal : Refusal)

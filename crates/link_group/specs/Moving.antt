@@ -5,7 +5,8 @@ use Rattle.std.specs.Prelude.{is_some, slice_get, slice_set}
 use Rattle.std.specs.List.{list_any}
 use Rattle.resend_store.specs.declared.messages.Msu.{Msu}
 use Rattle.resend_store.specs.Limits.{MOST_KEPT}
-use Rattle.link_term.specs.Term.{Term, term_with_transceiver}
+use Rattle.link_term.specs.Term.{Term}
+use Rattle.link_term.specs.Kept.{window_of, with_window}
 use Rattle.group_changeover.specs.declared.availability.Changing.{Changing}
 use Rattle.group_changeover.specs.Sharing.{is_on, of, off, counts_of, pick}
 use Rattle.group_changeover.specs.Bound.{is_bound}
@@ -121,11 +122,7 @@ holds_at s (Some k) = holds s k
 
 unfoldable pub term_takes : List Msu → Term → Term
 term_takes ms t =
-    term_with_transceiver t
-    (record t.processes.transceiver {
-      sender = record
-          t.processes.transceiver.sender { kept = t.processes.transceiver.sender.kept ++ ms };
-    })
+    with_window t (record (window_of t) { kept = (window_of t).kept ++ ms })
 
 -- The messages are put after all that the link holds.
 unfoldable pub takes_on : List Msu → Link → Link

@@ -2,7 +2,7 @@
 use Rattle.link_transceiver.specs.declared.signals.Hold.TheVariants as hold
 use Rattle.group_changeover.specs.declared.availability.Behind.TheVariants as behind
 use Rattle.std.specs.Prelude.{◌≡◌, true, false, [], None, ℕ, List, map}
-use Rattle.link_term.specs.Term.{Term, term_with_transceiver}
+use Rattle.link_term.specs.Term.{Term, transceiver_of, term_with_transceiver}
 use Rattle.link_term.specs.Kept.{window_of}
 use Rattle.group_changeover.specs.declared.bound.Points.{Points}
 use Rattle.link_group.specs.declared.link.Link.{Link}
@@ -20,10 +20,10 @@ fresh p t =
     record {
       points = p;
       terminal = term_with_transceiver t
-          (record t.processes.transceiver { came = false; began = false; hold = hold.Free });
+          (record (transceiver_of t) { came = false; began = false; hold = hold.Free });
       availability =
           record {
-            served = t.processes.transceiver.in_service;
+            served = (transceiver_of t).in_service;
             admitted = true;
             anew = false;
             failed = false;

@@ -6,14 +6,15 @@ use Rattle.resend_store.specs.declared.messages.Msu.{Msu}
 use Rattle.resend_store.specs.Limits.{MOST_WAITING, MOST_KEPT}
 use Rattle.resend_store.specs.Window.{Window, unacknowledged, waiting, with_put, count_by}
 use Rattle.resend_store.specs.Window.{last_acknowledged}
-use Rattle.link_transceiver.specs.TransceiverState.{is_held}
+use Rattle.link_transceiver.specs.TransceiverState.{is_held, last_accepted}
 use Rattle.link_transceiver.specs.declared.signals.LineKind.{LineKind}
 use Rattle.link_transceiver.specs.declared.signals.LineKind.TheVariants as kind
 use Rattle.link_transceiver.specs.declared.signals.Hold.{Hold}
 use Rattle.link_transceiver.specs.declared.signals.Hold.TheVariants as hold
 use Rattle.link_processes.specs.Machine.{handed_out}
-use Rattle.link_term.specs.Term.{Term, term_with_transceiver, with_processes}
-use Rattle.link_term.specs.Kept.{window_of}
+use Rattle.link_processes.specs.declared.processes.Processes.{Processes}
+use Rattle.link_term.specs.Term.{Term, transceiver_of, term_with_transceiver, with_processes}
+use Rattle.link_term.specs.Kept.{window_of, with_window as term_with_window}
 use Rattle.group_changeover.specs.declared.availability.Availability.{Availability}
 use Rattle.group_changeover.specs.declared.availability.Changing.{Changing}
 use Rattle.group_changeover.specs.Sharing.{counts_of}
@@ -36,6 +37,10 @@ abbrev pub fault_of : {A E : Type 0} → Result A E → Option E
 fault_of (Ok x) = None
 fault_of (Err e) = Some e
 
+-- its terminal's actors and transceiver
+abbrev pub processes_of : Link → Processes
+processes_of k = k.terminal.processes
+
 -- its terminal's window of messages to send
 abbrev pub window : Link → Window
 window k = window_of k.terminal
@@ -49,11 +54,11 @@ abbrev pub messages : Link → List Msu
 messages k = unbound k.points (held k)
 
 abbrev pub is_serving : Link → Bool
-is_serving k = k.terminal.processes.transceiver.in_service
+is_serving k = (transceiver_of k.terminal).in_service
 
 -- how its terminal is held
 abbrev pub hold_of : Link → Hold
-hold_of k = k.terminal.processes.transceiver.hold
+hold_of k = (transceiver_of k.terminal).hold
 
 -- The link may take messages: it is in service, and not held.
 abbrev pub carries : Link → Bool
@@ -78,13 +83,13 @@ is_messages (Some kind.FillIn) = false
 is_messages (Some kind.Messages) = true
 
 abbrev pub gives_messages : Link → Bool
-gives_messages k = is_messages k.terminal.processes.transceiver.line
+gives_messages k = is_messages (transceiver_of k.terminal).line
 
 abbrev pub is_far_out : Link → Bool
-is_far_out k = k.terminal.processes.transceiver.far_out
+is_far_out k = (transceiver_of k.terminal).far_out
 
 abbrev pub is_own_out : Link → Bool
-is_own_out k = is_outage k.terminal.processes.transceiver.line
+is_own_out k = is_outage (transceiver_of k.terminal).line
 
 -- the far side or this side has a processor outage
 abbrev pub has_outage : Link → Bool
@@ -92,17 +97,14 @@ has_outage k = is_far_out k || is_own_out k
 
 -- the number of the last message that this side accepted
 abbrev pub accepted_at : Link → ℕ
-accepted_at k = k.terminal.processes.transceiver.receiver.last
+accepted_at k = last_accepted (transceiver_of k.terminal)
 
 abbrev pub is_changing : Link → Bool
 is_changing k = is_some k.availability.changing
 
 abbrev pub with_window : Window → Link → Link
 with_window w k =
-    record k {
-      terminal = term_with_transceiver k.terminal
-          (record k.terminal.processes.transceiver { sender = w });
-    }
+    record k { terminal = term_with_window k.terminal w }
 
 abbrev pub with_availability : Availability → Link → Link
 with_availability m k = record k { availability = m }
@@ -111,7 +113,7 @@ abbrev pub with_hold : Hold → Link → Link
 with_hold hold k =
     record k {
       terminal = term_with_transceiver k.terminal
-          (record k.terminal.processes.transceiver { hold = hold });
+          (record (transceiver_of k.terminal) { hold = hold });
     }
 
 -- During a changeover, a link is held until both directions restart after its messages are

@@ -14,7 +14,7 @@ use Rattle.link_term.specs.Term.{Term}
 use Rattle.link_group.specs.declared.link.Link.{Link}
 use Rattle.link_group.specs.OneLink.{window, held, accepted_of}
 use Rattle.link_group.specs.New.{IsUnused}
-use Rattle.link_group.specs.Doing.{Listened, Spoken, Sent, Reported}
+use Rattle.link_group.specs.Doing.{Listened, Spoken, Sent, Reported, acknowledged_by}
 use Rattle.link_group.specs.Commanding.{cleared_at, Refused}
 use Rattle.group_changeover.specs.Bound.{is_bound, unbound}
 use Rattle.link_group.specs.Set.{LinkSet, points_of, send_fault, sent, bind_fault_at, bound_at}
@@ -86,7 +86,7 @@ pub data Reached : LinkSet → List Msu → List Gone → Type 0 where
       (octets : List ℕ) (taken : ℕ)
       → Reached c accepted gone → (did : ByLink (Listened octets taken) l c d)
       → Reached d accepted
-      (gone ++ acknowledged (unbound did.at.before.points did.at.was.took.gone))
+      (gone ++ acknowledged (unbound did.at.before.points (acknowledged_by did.at.was)))
   speaks :
       (c d : LinkSet) (accepted : List Msu) (gone : List Gone) (l units : ℕ) (octets : List ℕ)
       → Reached c accepted gone → ByLink (Spoken units octets) l c d → Reached d accepted gone

@@ -1,7 +1,7 @@
 -- Reading one link of a set.
 use Rattle.std.specs.Prelude.{ℕ, length, Option, Some, None, slice_get}
 use Rattle.actor_machine.specs.Ledger.{Ledger}
-use Rattle.link_term.specs.Term.{Term}
+use Rattle.link_term.specs.Term.{Term, ledger_of}
 use Rattle.resend_store.specs.declared.messages.Msu.{Msu}
 use Rattle.link_group.specs.declared.link.Link.{Link}
 use Rattle.link_group.specs.OneLink.{held, window}
@@ -20,4 +20,4 @@ abbrev pub terminal_of : Link → Term
 terminal_of k = k.terminal
 
 abbrev pub book_of : Link → Ledger
-book_of k = k.terminal.processes.book
+book_of k = ledger_of k.terminal

@@ -8,7 +8,7 @@ use Rattle.actor_machine.specs.declared.reply.Refusal.{Refusal}
 use Rattle.actor_machine.specs.declared.reply.Reply.{Reply}
 use Rattle.actor_machine.specs.declared.reply.Reply.TheVariants as reply
 use Rattle.link_processes.specs.Machine.{is_low, tidied, offered, tick_refusal}
-use Rattle.link_term.specs.Term.{with_processes}
+use Rattle.link_term.specs.Term.{ledger_of, with_processes}
 use Rattle.group_changeover.specs.Availability.{waits}
 use Rattle.link_group.specs.declared.link.Link.{Link}
 
@@ -62,7 +62,7 @@ due_in (Says r) = due_by r
 
 -- how many timers the ticks make due
 abbrev pub due_at : ℕ → Link → ℕ
-due_at n k = due_in (ask k.terminal.processes.book (Advance n)).answer
+due_at n k = due_in (ask (ledger_of k.terminal) (Advance n)).answer
 
 -- how many timers are due on all links, up to the greatest number
 unfoldable pub all_due : ℕ → List Link → ℕ

@@ -37,7 +37,8 @@ impl fmt::Display for CommandError {
     }
 }
 
-fn is_start(command: Command) -> bool
+/// Whether a command starts a link.
+pub fn is_start(command: Command) -> bool
     ensures { result ≡ is_start command }
 {
     match command {

@@ -22,7 +22,7 @@ mod tables;
 mod ticking;
 mod ticks;
 
-pub use commanding::CommandError;
+pub use commanding::{CommandError, is_start};
 pub use ending::DivertError;
 pub use group::{Group, Sif};
 pub use laws::{

@@ -4,6 +4,7 @@ ghost use Rattle.resend_store.specs.Limits.{MOST_KEPT};
 ghost use Rattle.resend_store.specs.Messages.{IsMessage};
 ghost use Rattle.group_changeover.specs.Limits.{SELECTIONS};
 ghost use Rattle.group_changeover.specs.Sharing.{of, off};
+ghost use Rattle.link_term.specs.Kept.{window_of};
 ghost use Rattle.link_group.specs.OneLink.{fault_of, held};
 ghost use Rattle.link_group.specs.Moving.{term_takes, takes_on, division, room_fault, take_fault, move_fault, moved, moves, back_fault, back, is_own, hands_over};
 ghost use Rattle.link_group.specs.Links.{change};
@@ -17,7 +18,7 @@ use std::collections::VecDeque;
 /// Puts a message into a terminal that has room for it.
 #[tactic(auto, unfolding(crate::specs::Moving::term_takes))]
 fn give(terminal: &mut Terminal, msu: Msu)
-    requires room { length terminal.old.processes.transceiver.sender.kept < MOST_KEPT }
+    requires room { length (window_of terminal.old).kept < MOST_KEPT }
     requires whole { IsMessage msu }
     ensures { terminal.new ≡ term_takes (msu ∷ []) terminal.old }
 {
@@ -26,7 +27,7 @@ fn give(terminal: &mut Terminal, msu: Msu)
 
 /// Moves the oldest message: into the terminal if it has this selection, otherwise to the end of the list.
 fn turn_one(terminal: &mut Terminal, selection: u8, messages: &mut VecDeque<Msu>)
-    requires room { length (of selection messages.old.items) + length terminal.old.processes.transceiver.sender.kept ≤ MOST_KEPT }
+    requires room { length (of selection messages.old.items) + length (window_of terminal.old).kept ≤ MOST_KEPT }
     requires whole { All IsMessage messages.old.items }
     ensures terminal { terminal.new ≡ term_takes (of selection (take 1 messages.old.items)) terminal.old }
     ensures messages { messages.new.items ≡ drop 1 messages.old.items ++ off selection (take 1 messages.old.items) }
@@ -46,7 +47,7 @@ fn turn_one(terminal: &mut Terminal, selection: u8, messages: &mut VecDeque<Msu>
 
 /// Puts the messages of a selection last in a terminal that has room. The others stay, in order.
 fn divert_selection(terminal: &mut Terminal, selection: u8, messages: &mut VecDeque<Msu>)
-    requires room { length (of selection messages.old.items) + length terminal.old.processes.transceiver.sender.kept ≤ MOST_KEPT }
+    requires room { length (of selection messages.old.items) + length (window_of terminal.old).kept ≤ MOST_KEPT }
     requires whole { All IsMessage messages.old.items }
     ensures terminal { terminal.new ≡ term_takes (of selection messages.old.items) terminal.old }
     ensures messages { messages.new.items ≡ off selection messages.old.items }
@@ -60,7 +61,7 @@ fn divert_selection(terminal: &mut Terminal, selection: u8, messages: &mut VecDe
 
 /// Puts all messages last in a terminal that has room.
 fn retrieval_back(terminal: &mut Terminal, messages: &mut VecDeque<Msu>)
-    requires room { length messages.old.items + length terminal.old.processes.transceiver.sender.kept ≤ MOST_KEPT }
+    requires room { length messages.old.items + length (window_of terminal.old).kept ≤ MOST_KEPT }
     requires whole { All IsMessage messages.old.items }
     ensures terminal { terminal.new ≡ term_takes messages.old.items terminal.old }
     ensures messages { messages.new.items ≡ [] }

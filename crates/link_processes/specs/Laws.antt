@@ -6,10 +6,11 @@ use Rattle.actor_book.specs.Turns.{MOST_TURNS, tried}
 use Rattle.actor_book.specs.Laws.{IsLeast, NoneCan}
 use Rattle.link_transceiver.specs.declared.offers.Offer.{Offer}
 use Rattle.link_transceiver.specs.Laws.{Loses, accepted_of, acknowledged_of}
+use Rattle.link_transceiver.specs.TransceiverState.{kept_of, sent_of}
 use Rattle.link_processes.specs.declared.processes.Processes.{Processes}
 use Rattle.link_processes.specs.Machine.{turned, emptied, rested, offered, all_offered}
-use Rattle.link_processes.specs.Machine.{unit_taken, error_taken, octets_taken, counting_told, sent}
-use Rattle.link_processes.specs.Machine.{handed_out, buffers_emptied}
+use Rattle.link_processes.specs.Machine.{unit_taken, error_taken, octets_taken, counting_told}
+use Rattle.link_processes.specs.Machine.{unit_gone, handed_out, buffers_emptied}
 use Rattle.actor_machine.specs.declared.event.Event.{Event}
 
 -- At most so many turns, each of the least actor that can have one. After each, all signals for the
@@ -43,7 +44,7 @@ pub record MessagesLaw : Type 0 where
   pub counting :
       (on : Bool) (t : Processes)
       → (counting_told on t).transceiver.messages ≡ t.transceiver.messages
-  pub sends : (t : Processes) → (sent t).processes.transceiver.messages ≡ t.transceiver.messages
+  pub sends : (t : Processes) → (unit_gone t).transceiver.messages ≡ t.transceiver.messages
   pub few : (u : Unit) (t : Processes)
       → length (unit_taken u t).transceiver.messages ≤ length t.transceiver.messages + 1
 
@@ -66,10 +67,10 @@ pub record KeptLaw : Type 0 where
       (on : Bool) (t : Processes)
       → Loses [] t.transceiver.sender (counting_told on t).transceiver.sender
   pub sends :
-      (t : Processes) → (sent t).processes.transceiver.sender.kept ≡ t.transceiver.sender.kept
+      (t : Processes) → kept_of (unit_gone t).transceiver ≡ kept_of t.transceiver
   pub one_sent :
-      (t : Processes) → (sent t).processes.transceiver.sender.sent ≤ t.transceiver.sender.sent + 1
+      (t : Processes) → sent_of (unit_gone t).transceiver ≤ sent_of t.transceiver + 1
   -- what is left after a retrieval, and after the buffers are cleared
   pub retrievals :
-      (accepted : Option ℕ) (t : Processes) → (handed_out accepted t).transceiver.sender.kept ≡ []
-  pub clears : (t : Processes) → (buffers_emptied t).transceiver.sender.kept ≡ []
+      (accepted : Option ℕ) (t : Processes) → kept_of (handed_out accepted t).transceiver ≡ []
+  pub clears : (t : Processes) → kept_of (buffers_emptied t).transceiver ≡ []

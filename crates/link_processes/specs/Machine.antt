@@ -22,7 +22,7 @@ use Rattle.actor_book.specs.Turns.{MOST_TURNS, least_turn}
 use Rattle.link_transceiver.specs.declared.offers.Offer.{Offer}
 use Rattle.link_transceiver.specs.declared.offers.UnitOut.{UnitOut}
 use Rattle.link_transceiver.specs.declared.signals.EnvSignal.{EnvSignal}
-use Rattle.link_transceiver.specs.TransceiverState.{TransceiverState}
+use Rattle.link_transceiver.specs.TransceiverState.{TransceiverState, kept_of, sent_of}
 use Rattle.link_transceiver.specs.declared.glances.Glance.{Glance}
 use Rattle.link_transceiver.specs.declared.measures.Measures.{Measures}
 use Rattle.link_transceiver.specs.Effects.{effect, clears}
@@ -211,6 +211,10 @@ sent t =
     sent_by (with_transceiver (out_measured t) (gone t.transceiver).transceiver)
     (gone t.transceiver).out
 
+-- the terminal after such a request
+abbrev pub unit_gone : Processes → Processes
+unit_gone t = (sent t).processes
+
 -- ---- retrieval
 
 -- the offer that no message is unacknowledged any more, if some were
@@ -226,7 +230,7 @@ calm_measured t = with_measures t (calmed t.measures)
 -- told that none is
 unfoldable pub handed_out : Option ℕ → Processes → Processes
 handed_out accepted t =
-    told_of (none_out (nat_lt 0 t.transceiver.sender.sent))
+    told_of (none_out (nat_lt 0 (sent_of t.transceiver)))
     (with_transceiver (calm_measured t)
     (record t.transceiver { sender = without_kept t.transceiver.sender accepted }))
 
@@ -244,7 +248,7 @@ clear_obeyed t = if t.transceiver.clearing then buffers_emptied t else t
 
 -- how many messages would be cleared
 abbrev pub to_clear : Processes → ℕ
-to_clear t = if t.transceiver.clearing then length t.transceiver.sender.kept else 0
+to_clear t = if t.transceiver.clearing then length (kept_of t.transceiver) else 0
 
 -- ---- octet counting
 
@@ -252,9 +256,13 @@ abbrev pub differs : Bool → Bool → Bool
 differs true b = not b
 differs false b = b
 
+-- whether the set has the signal
+abbrev pub hears_counting : Processes → Bool
+hears_counting t = is_there t.names.options.counting
+
 -- whether the set has the signal, and this differs from what the monitors were last told
 abbrev pub is_news : Bool → Processes → Bool
-is_news on t = is_there t.names.options.counting && differs on t.counting
+is_news on t = hears_counting t && differs on t.counting
 
 -- Both error rate monitors are told whether octets are counted, if that is news.
 unfoldable pub counting_told : Bool → Processes → Processes

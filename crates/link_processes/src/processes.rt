@@ -9,9 +9,10 @@ ghost use Rattle.actor_machine.specs.declared.reply.Reply.TheVariants as reply;
 ghost use Rattle.actor_book.specs.Answered.{answer_by};
 ghost use Rattle.link_transceiver.specs.Laws.{Loses};
 ghost use Rattle.link_transceiver.specs.Limits.{KEPT_MESSAGES};
+ghost use Rattle.link_transceiver.specs.TransceiverState.{kept_of, sent_of};
 ghost use Rattle.link_processes.specs.Known.{is_there};
 ghost use Rattle.link_processes.specs.Offering.{command_event, offer_event};
-ghost use Rattle.link_processes.specs.Machine.{with_book, with_transceiver, heard, rested, offered, all_offered, noted_by, unit_taken, error_taken, octets_taken, told_of, none_out, handed_out, buffers_emptied, clear_obeyed, to_clear, differs, counting_told, sent, tidied, is_low, tick_refusal};
+ghost use Rattle.link_processes.specs.Machine.{with_book, with_transceiver, heard, rested, offered, all_offered, noted_by, unit_taken, error_taken, octets_taken, told_of, none_out, handed_out, buffers_emptied, clear_obeyed, to_clear, hears_counting, differs, counting_told, sent, tidied, is_low, tick_refusal};
 
 use crate::commands::{Command, command_number, command_signal};
 use crate::laws::{accepted_messages_wait_in_order, unacknowledged_messages_stay};
@@ -141,7 +142,7 @@ impl Processes {
     #[tactic(auto, unfolding(crate::specs::Machine::handed_out))]
     pub fn retrieve(&mut self, accepted: Option<u8>) -> Result<VecDeque<Msu>, RetrieveError>
         requires { IfSome accepted (λ fsn. fsn < 128) }
-        ensures bad { (result ≡ Err RetrieveError.BadAck) ↔ (self.old.transceiver.sender.sent < count_known self.old.transceiver.sender accepted) }
+        ensures bad { (result ≡ Err RetrieveError.BadAck) ↔ (sent_of self.old.transceiver < count_known self.old.transceiver.sender accepted) }
         ensures messages { IfOk result (λ messages. messages.items ≡ retrieved self.old.transceiver.sender accepted) }
         ensures whole { IfOk result (λ messages. All IsMessage messages.items) }
         ensures ok { OnOk result (self.new ≡ handed_out accepted self.old) }
@@ -161,7 +162,7 @@ impl Processes {
     /// How many messages `obey_clear` would clear: all held ones if an actor requested clearing, otherwise none.
     pub fn to_clear(&self) -> usize
         ensures value { result ≡ to_clear self.now }
-        ensures within { result ≤ length self.now.transceiver.sender.kept }
+        ensures within { result ≤ length (kept_of self.now.transceiver) }
     {
         if self.transceiver.is_to_clear() {
             self.transceiver.held()
@@ -176,7 +177,7 @@ impl Processes {
     pub fn obey_clear(&mut self) -> usize
         ensures count { result ≡ to_clear self.old }
         ensures processes { self.new ≡ clear_obeyed self.old }
-        ensures kept { self.new.transceiver.sender.kept ≡ drop result self.old.transceiver.sender.kept }
+        ensures kept { kept_of self.new.transceiver ≡ drop result (kept_of self.old.transceiver) }
     {
         unacknowledged_messages_stay();
         if !self.transceiver.is_to_clear() {
@@ -202,7 +203,7 @@ impl Processes {
 
     /// Whether the set has a signal for octet counting.
     pub fn hears_counting(&self) -> bool
-        ensures { result ≡ is_there self.now.names.options.counting }
+        ensures { result ≡ hears_counting self.now }
     {
         is_there(self.names.options.counting)
     }
@@ -277,8 +278,8 @@ impl Processes {
     pub fn send_unit(&mut self) -> Option<Unit>
         ensures unit { result ≡ (sent self.old).unit }
         ensures processes { self.new ≡ (sent self.old).processes }
-        ensures kept { self.new.transceiver.sender.kept ≡ self.old.transceiver.sender.kept }
-        ensures one_sent { self.new.transceiver.sender.sent ≤ self.old.transceiver.sender.sent + 1 }
+        ensures kept { kept_of self.new.transceiver ≡ kept_of self.old.transceiver }
+        ensures one_sent { sent_of self.new.transceiver ≤ sent_of self.old.transceiver + 1 }
         ensures whole { IfSome result IsWhole }
     {
         unacknowledged_messages_stay();

@@ -3,10 +3,15 @@ use Rattle.std.specs.Prelude.{◌≡◌, ℕ, ◌+◌, ◌≤◌, List, []}
 use Rattle.resend_store.specs.declared.messages.Msu.{Msu}
 use Rattle.resend_store.specs.Window.{Window}
 use Rattle.link_transceiver.specs.Laws.{Loses}
-use Rattle.link_term.specs.Term.{Term}
+use Rattle.link_term.specs.Term.{Term, transceiver_of, term_with_transceiver}
 
+-- the messages held for sending, with their sequence numbers
 abbrev pub window_of : Term → Window
-window_of t = t.processes.transceiver.sender
+window_of t = (transceiver_of t).sender
+
+-- the terminal with other messages held for sending
+abbrev pub with_window : Term → Window → Term
+with_window t w = term_with_transceiver t (record (transceiver_of t) { sender = w })
 
 -- Some of the oldest were removed: they were sent, and the far side acknowledged them. The others
 -- stay, and none of them newly counts as sent.

@@ -2,6 +2,7 @@
 use Rattle.std.specs.Prelude.{◌≡◌, ℕ, true, Some, Result, Ok, Err}
 use Rattle.bit_line.specs.declared.deframer.Deframer.{Deframer}
 use Rattle.bit_line.specs.declared.stuffer.Stuffer.{Stuffer}
+use Rattle.actor_machine.specs.Ledger.{Ledger}
 use Rattle.actor_machine.specs.Step.{Answer, Says}
 use Rattle.actor_machine.specs.declared.reply.Reply.{Reply}
 use Rattle.actor_machine.specs.declared.reply.Reply.TheVariants as reply
@@ -15,6 +16,14 @@ pub record Term : Type 0 where
   pub processes : Processes
   pub line : Deframer
   pub sending : Stuffer
+
+-- what it keeps besides its actors and its line
+abbrev pub transceiver_of : Term → TransceiverState
+transceiver_of t = t.processes.transceiver
+
+-- its actors, with their history
+abbrev pub ledger_of : Term → Ledger
+ledger_of t = t.processes.book
 
 abbrev pub with_processes : Term → Processes → Term
 with_processes t h = record t { processes = h }

@@ -1,12 +1,12 @@
 //! The line in: received octets.
 ghost use Rattle.std.specs.Prelude.{◌≡◌, ◌⊎◌, ◌+◌, ◌<◌, ◌≤◌, ◌∷◌, [], true, false, length, take};
 ghost use Rattle.bit_line.specs.Events.{closings};
-ghost use Rattle.link_processes.specs.Known.{is_there};
-ghost use Rattle.link_processes.specs.Machine.{tidied, is_low};
+ghost use Rattle.link_processes.specs.Machine.{tidied, is_low, hears_counting};
 ghost use Rattle.link_processes.specs.declared.processes.Processes.{Processes as PlainProcesses};
 ghost use Rattle.link_transceiver.specs.Limits.{KEPT_MESSAGES};
 ghost use Rattle.link_term.specs.Hearing.{Reads, AreTaken, Heard};
 ghost use Rattle.link_term.specs.Kept.{Took};
+ghost use Rattle.link_term.specs.Term.{transceiver_of};
 
 use crate::laws::unacknowledged_messages_stay;
 use crate::terminal::Terminal;
@@ -74,7 +74,7 @@ fn next_part<'octets>(processes: &Processes, octets: &'octets [u8]) -> &'octets 
     requires { 0 < length octets.now }
     ensures some { 0 < length result.now }
     ensures part { result.now ≡ take (length result.now) octets.now }
-    ensures one { is_there processes.now.names.options.counting ≡ true → length result.now ≡ 1 }
+    ensures one { hears_counting processes.now ≡ true → length result.now ≡ 1 }
 {
     if processes.hears_counting() {
         &octets[..1]
@@ -94,7 +94,7 @@ impl Terminal {
         ensures heard { Heard self.old (take result octets.now) self.new }
         ensures took { Took self.old self.new }
         ensures left { result ≡ 0 → self.new ≡ self.old }
-        ensures stops { result ≡ 0 → (KEPT_MESSAGES ≤ length self.old.processes.transceiver.messages) ⊎ (is_low self.old.processes ≡ true) }
+        ensures stops { result ≡ 0 → (KEPT_MESSAGES ≤ length (transceiver_of self.old).messages) ⊎ (is_low self.old.processes ≡ true) }
     {
         unacknowledged_messages_stay();
         if !make_room(&mut self.processes) {
@@ -118,7 +118,7 @@ impl Terminal {
         ensures heard { Heard self.old (take result octets.now) self.new }
         ensures took { Took self.old self.new }
         ensures stops { result < length octets.now
-            → (KEPT_MESSAGES ≤ length self.new.processes.transceiver.messages) ⊎ (is_low self.new.processes ≡ true) }
+            → (KEPT_MESSAGES ≤ length (transceiver_of self.new).messages) ⊎ (is_low self.new.processes ≡ true) }
     {
         let mut taken = 0;
         while taken < octets.len() {

@@ -10,8 +10,9 @@ ghost use Rattle.link_transceiver.specs.Measuring.{no_measures};
 ghost use Rattle.link_transceiver.specs.Reporting.{reported};
 ghost use Rattle.resend_store.specs.Limits.{MOST_WAITING, MOST_KEPT};
 ghost use Rattle.link_transceiver.specs.Limits.{KEPT_MESSAGES};
-ghost use Rattle.link_term.specs.Kept.{window_of};
-ghost use Rattle.link_term.specs.Term.{with_processes, term_with_transceiver};
+ghost use Rattle.link_transceiver.specs.TransceiverState.{last_accepted};
+ghost use Rattle.link_term.specs.Kept.{window_of, with_window};
+ghost use Rattle.link_term.specs.Term.{transceiver_of, with_processes, term_with_transceiver};
 ghost use Rattle.link_processes.specs.Machine.{handed_out, clear_obeyed, to_clear, all_reset};
 
 use bit_line::{Deframer, Stuffer};
@@ -86,8 +87,8 @@ impl Terminal {
     /// `E1 Full` if `resend_store::MAX_WAITING` or more wait. Then nothing changes, and the message is dropped.
     pub fn put(&mut self, msu: Msu) -> Result<(), PutError>
         requires { 2 ≤ length msu.sif.items }
-        ensures full { (result ≡ Err PutError.Full) ↔ (MOST_WAITING ≤ length (waiting self.old.processes.transceiver.sender)) }
-        ensures ok { OnOk result (self.new ≡ term_with_transceiver self.old (record self.old.processes.transceiver { sender = with_put self.old.processes.transceiver.sender msu })) }
+        ensures full { (result ≡ Err PutError.Full) ↔ (MOST_WAITING ≤ length (waiting (window_of self.old))) }
+        ensures ok { OnOk result (self.new ≡ with_window self.old (with_put (window_of self.old) msu)) }
         ensures err { OnErr result (self.new ≡ self.old) }
     {
         self.processes.transceiver.put(msu)
@@ -100,8 +101,8 @@ impl Terminal {
     /// `E1 Full` if `resend_store::MAX_KEPT` messages are unacknowledged or waiting. Then nothing changes.
     pub fn put_diverted(&mut self, msu: Msu) -> Result<(), PutError>
         requires { 2 ≤ length msu.sif.items }
-        ensures full { (result ≡ Err PutError.Full) ↔ (MOST_KEPT ≤ length self.old.processes.transceiver.sender.kept) }
-        ensures ok { OnOk result (self.new ≡ term_with_transceiver self.old (record self.old.processes.transceiver { sender = with_put self.old.processes.transceiver.sender msu })) }
+        ensures full { (result ≡ Err PutError.Full) ↔ (MOST_KEPT ≤ length (window_of self.old).kept) }
+        ensures ok { OnOk result (self.new ≡ with_window self.old (with_put (window_of self.old) msu)) }
         ensures err { OnErr result (self.new ≡ self.old) }
     {
         self.processes.transceiver.put_diverted(msu)
@@ -115,10 +116,10 @@ impl Terminal {
     /// `E2 BadAck` if the number acknowledges too much, else `NoMemory` if memory runs out. Then nothing changes.
     pub fn retrieve(&mut self, accepted: Option<u8>) -> Result<VecDeque<Msu>, RetrieveError>
         requires { IfSome accepted (λ fsn. fsn < 128) }
-        ensures bad { (result ≡ Err RetrieveError.BadAck) ↔ (self.old.processes.transceiver.sender.sent < count_known self.old.processes.transceiver.sender accepted) }
-        ensures messages { IfOk result (λ messages. messages.items ≡ retrieved self.old.processes.transceiver.sender accepted) }
+        ensures bad { (result ≡ Err RetrieveError.BadAck) ↔ ((window_of self.old).sent < count_known (window_of self.old) accepted) }
+        ensures messages { IfOk result (λ messages. messages.items ≡ retrieved (window_of self.old) accepted) }
         ensures whole { IfOk result (λ messages. All IsMessage messages.items) }
-        ensures ok { OnOk result (self.new ≡ term_with_transceiver self.old (record self.old.processes.transceiver { sender = emptied self.old.processes.transceiver.sender accepted })) }
+        ensures ok { OnOk result (self.new ≡ with_window self.old (emptied (window_of self.old) accepted)) }
         ensures err { OnErr result (self.new ≡ self.old) }
     {
         self.processes.transceiver.retrieve(accepted)
@@ -132,8 +133,8 @@ impl Terminal {
     /// Those of `retrieve`. Nothing changes then.
     pub fn retrieve_telling(&mut self, accepted: Option<u8>) -> Result<VecDeque<Msu>, RetrieveError>
         requires { IfSome accepted (λ fsn. fsn < 128) }
-        ensures bad { (result ≡ Err RetrieveError.BadAck) ↔ (self.old.processes.transceiver.sender.sent < count_known self.old.processes.transceiver.sender accepted) }
-        ensures messages { IfOk result (λ messages. messages.items ≡ retrieved self.old.processes.transceiver.sender accepted) }
+        ensures bad { (result ≡ Err RetrieveError.BadAck) ↔ ((window_of self.old).sent < count_known (window_of self.old) accepted) }
+        ensures messages { IfOk result (λ messages. messages.items ≡ retrieved (window_of self.old) accepted) }
         ensures whole { IfOk result (λ messages. All IsMessage messages.items) }
         ensures ok { OnOk result (self.new ≡ with_processes self.old (handed_out accepted self.old.processes)) }
         ensures err { OnErr result (self.new ≡ self.old) }
@@ -165,7 +166,7 @@ impl Terminal {
 
     /// How many messages were cleared since the terminal was made. The count stops at 2^64 - 1.
     pub fn cleared(&self) -> u64
-        ensures { result ≡ self.now.processes.transceiver.cleared }
+        ensures { result ≡ (transceiver_of self.now).cleared }
     {
         self.processes.transceiver.cleared()
     }
@@ -196,41 +197,41 @@ impl Terminal {
 
     /// Takes the next report for level 3: messages first, then link statuses, each in order.
     pub fn report(&mut self) -> Option<Report>
-        ensures report { result ≡ (reported self.old.processes.transceiver).report }
+        ensures report { result ≡ (reported (transceiver_of self.old)).report }
         ensures same { window_of self.new ≡ window_of self.old }
-        ensures transceiver { self.new ≡ term_with_transceiver self.old (reported self.old.processes.transceiver).transceiver }
+        ensures transceiver { self.new ≡ term_with_transceiver self.old (reported (transceiver_of self.old)).transceiver }
     {
         self.processes.transceiver.report()
     }
 
     /// Whether the link came into service since the last call.
     pub fn came_into_service(&mut self) -> bool
-        ensures value { result ≡ self.old.processes.transceiver.came }
-        ensures asked { self.new ≡ term_with_transceiver self.old (record self.old.processes.transceiver { came = false }) }
+        ensures value { result ≡ (transceiver_of self.old).came }
+        ensures asked { self.new ≡ term_with_transceiver self.old (record (transceiver_of self.old) { came = false }) }
     {
         self.processes.transceiver.came_into_service()
     }
 
     /// Whether both directions restarted since the last call.
     pub fn began_anew(&mut self) -> bool
-        ensures value { result ≡ self.old.processes.transceiver.began }
-        ensures asked { self.new ≡ term_with_transceiver self.old (record self.old.processes.transceiver { began = false }) }
+        ensures value { result ≡ (transceiver_of self.old).began }
+        ensures asked { self.new ≡ term_with_transceiver self.old (record (transceiver_of self.old) { began = false }) }
     {
         self.processes.transceiver.began_anew()
     }
 
     /// Removes and drops the waiting message at a place.
     pub fn drop_waiting(&mut self, place: usize)
-        requires waits { self.old.processes.transceiver.sender.sent ≤ place }
-        requires there { place < length self.old.processes.transceiver.sender.kept }
-        ensures { self.new ≡ term_with_transceiver self.old (record self.old.processes.transceiver { sender = without_at self.old.processes.transceiver.sender place }) }
+        requires waits { (window_of self.old).sent ≤ place }
+        requires there { place < length (window_of self.old).kept }
+        ensures { self.new ≡ with_window self.old (without_at (window_of self.old) place) }
     {
         self.processes.transceiver.drop_waiting(place);
     }
 
     /// Whether the link is in service, as last reported.
     pub fn in_service(&self) -> bool
-        ensures { result ≡ self.now.processes.transceiver.in_service }
+        ensures { result ≡ (transceiver_of self.now).in_service }
     {
         self.processes.transceiver.in_service()
     }
@@ -239,57 +240,57 @@ impl Terminal {
     /// replace them, and messages to send or retransmit wait) and accepts none. It still judges units, obeys
     /// acknowledgements, and sends status units.
     pub fn hold(&mut self, hold: Hold)
-        ensures { self.new ≡ term_with_transceiver self.old (record self.old.processes.transceiver { hold = hold }) }
+        ensures { self.new ≡ term_with_transceiver self.old (record (transceiver_of self.old) { hold = hold }) }
     {
         self.processes.transceiver.hold(hold);
     }
 
     /// Whether level 3 holds the link.
     pub fn holding(&self) -> Hold
-        ensures { result ≡ self.now.processes.transceiver.hold }
+        ensures { result ≡ (transceiver_of self.now).hold }
     {
         self.processes.transceiver.holding()
     }
 
     /// The kind of unit now sent, as last set by the Line signal; none before that.
     pub fn goes_out(&self) -> Option<LineKind>
-        ensures { result ≡ self.now.processes.transceiver.line }
+        ensures { result ≡ (transceiver_of self.now).line }
     {
         self.processes.transceiver.line()
     }
 
     /// Whether the far side has a processor outage, as last reported; false while the link is down.
     pub fn far_out(&self) -> bool
-        ensures { result ≡ self.now.processes.transceiver.far_out }
+        ensures { result ≡ (transceiver_of self.now).far_out }
     {
         self.processes.transceiver.far_out()
     }
 
     /// How many messages are held for sending: the unacknowledged and the waiting ones.
     pub fn held(&self) -> usize
-        ensures value { result ≡ length self.now.processes.transceiver.sender.kept }
-        ensures window { IsWindow self.now.processes.transceiver.sender }
+        ensures value { result ≡ length (window_of self.now).kept }
+        ensures window { IsWindow (window_of self.now) }
     {
         self.processes.transceiver.held()
     }
 
     /// The held message at a place; the oldest is at 0.
     pub fn held_at(&self, place: usize) -> Option<&Msu>
-        ensures { option_copied result ≡ slice_get self.now.processes.transceiver.sender.kept place }
+        ensures { option_copied result ≡ slice_get (window_of self.now).kept place }
     {
         self.processes.transceiver.held_at(place)
     }
 
     /// How many messages are sent and not acknowledged.
     pub fn sent(&self) -> usize
-        ensures { result ≡ self.now.processes.transceiver.sender.sent }
+        ensures { result ≡ (window_of self.now).sent }
     {
         self.processes.transceiver.sent()
     }
 
     /// The forward sequence number, 0 to 127, of the last accepted message; 127 if there is none.
     pub fn accepted(&self) -> u8
-        ensures value { result ≡ self.now.processes.transceiver.receiver.last }
+        ensures value { result ≡ last_accepted (transceiver_of self.now) }
         ensures within { result < 128 }
     {
         self.processes.transceiver.accepted()
@@ -297,7 +298,7 @@ impl Terminal {
 
     /// The forward sequence number, 0 to 127, of the last acknowledged message; 127 if the numbers restarted since.
     pub fn acknowledged(&self) -> u8
-        ensures value { result ≡ last_acknowledged self.now.processes.transceiver.sender }
+        ensures value { result ≡ last_acknowledged (window_of self.now) }
         ensures within { result < 128 }
     {
         self.processes.transceiver.acknowledged()
@@ -305,7 +306,7 @@ impl Terminal {
 
     /// Whether a further message can be accepted. If not, `line_in` takes no octet until a report makes room.
     pub fn has_room(&self) -> bool
-        ensures { IsTrue result ↔ (length self.now.processes.transceiver.messages < KEPT_MESSAGES) }
+        ensures { IsTrue result ↔ (length (transceiver_of self.now).messages < KEPT_MESSAGES) }
     {
         self.processes.transceiver.has_room()
     }

@@ -21,7 +21,7 @@ use Rattle.link_transceiver.specs.declared.signals.EnvSignal.TheVariants as sign
 use Rattle.link_transceiver.specs.declared.signals.Hold.{Hold}
 use Rattle.link_transceiver.specs.declared.signals.Report.{Report}
 use Rattle.link_transceiver.specs.declared.signals.Report.TheVariants as report
-use Rattle.link_transceiver.specs.TransceiverState.{TransceiverState, is_held}
+use Rattle.link_transceiver.specs.TransceiverState.{TransceiverState, is_held, kept_of, sent_of}
 use Rattle.link_transceiver.specs.Effects.{effect, renewed_hold, backward_of, counted, clears}
 use Rattle.link_transceiver.specs.Judging.{hears, sets_aside, accepts, hearing, fault_in}
 use Rattle.link_transceiver.specs.Judging.{is_abnormal, bsn_heeded, head_heeded, fault_of, judged}
@@ -61,8 +61,8 @@ pub record KeepsUnacknowledged : Type 0 where
       → Loses (acknowledged_of h u) h.sender (judged h u).transceiver.sender
   pub waits :
       (h : TransceiverState) (u : Unit) → waiting (judged h u).transceiver.sender ≡ waiting h.sender
-  pub unit_out : (h : TransceiverState) → (gone h).transceiver.sender.kept ≡ h.sender.kept
-  pub one_sent : (h : TransceiverState) → (gone h).transceiver.sender.sent ≤ h.sender.sent + 1
+  pub unit_out : (h : TransceiverState) → kept_of (gone h).transceiver ≡ kept_of h
+  pub one_sent : (h : TransceiverState) → sent_of (gone h).transceiver ≤ sent_of h + 1
   pub report : (h : TransceiverState) → (reported h).transceiver.sender ≡ h.sender
 
 -- Clear removes all messages held for sending, and counts them; no other call counts any.

@@ -67,6 +67,18 @@ pub record TransceiverState : Type 0 where
   -- whether both directions restarted since that was last read
   pub began : Bool
 
+-- the messages held for sending, the oldest first
+abbrev pub kept_of : TransceiverState → List Msu
+kept_of h = h.sender.kept
+
+-- how many of them were sent and aren't acknowledged
+abbrev pub sent_of : TransceiverState → ℕ
+sent_of h = h.sender.sent
+
+-- the forward sequence number of the last accepted message
+abbrev pub last_accepted : TransceiverState → ℕ
+last_accepted h = h.receiver.last
+
 -- the state of a new terminal, with these limits of forced retransmission
 abbrev pub first_within : RoundLimits → Mode → TransceiverState
 first_within limits mode = record {

@@ -3,6 +3,7 @@
 #![tactic(auto)]
 
 mod clearing;
+mod effects;
 mod faults;
 mod glances;
 mod hearing;

@@ -3,10 +3,10 @@ ghost use Rattle.std.specs.Prelude.{◌≡◌};
 ghost use Rattle.link_transceiver.specs.Measuring.{more_if, begun_if, lasted_if, no_measures, measured_from, reset, passed, cause_of, cause_by, down_by, calmed, directed_to, withheld_from, far_out_from, down_from, signal_counted, error_counted, octets_counted, nacks_counted, received_counted, is_congested, acknowledges, came_counted, is_first, sent_traffic, some_left, begins_round, rounds_counted, went_counted};
 ghost use Rattle.link_transceiver.specs.Effects.{counted};
 
+use crate::effects::kind_named;
 use crate::glances::{Glance, Seen};
 use crate::measures::{Errors, Failures, Measures, Rounds, Spells, Traffic};
 use crate::signals::{EnvSignal, LineKind};
-use crate::transceiver::kind_named;
 
 /// Why a link went down.
 #[derive(Clone, Copy)]

@@ -37,6 +37,11 @@ front_of_words words = if has_no_front words then [] else front_line words
 abbrev pub order_front : List ℕ → List ℕ
 order_front order = front_of_words (words_of order)
 
+-- ---- an end
+
+abbrev pub terminal_of : {W : Type 0} → TracedEnd W → Term
+terminal_of traced = traced.end.terminal
+
 -- ---- the events
 
 -- a text is traced, followed by the events of a terminal's processes since the last call

@@ -120,13 +120,8 @@ fn with_streams<'a>(alloc: Global, command: Command<'a>) -> Result<Command<'a>, 
         "no-test",
         "Links carry messages as soon as they are in service, without a test",
     );
-    command
-        .arg(orders)?
-        .arg(reports)?
-        .arg(capture)?
-        .arg(bits)?
-        .arg(ahead)?
-        .arg(no_test)
+    let command = command.arg(orders)?.arg(reports)?.arg(capture)?;
+    command.arg(bits)?.arg(ahead)?.arg(no_test)
 }
 
 /// The command `set`.

@@ -28,6 +28,23 @@ fn add_sorts(
     notes.under.push_str(article(found))
 }
 
+/// Adds the notes for the value of a variable.
+fn add_value(
+    notes: &mut Notes,
+    variable: &str,
+    want: Option<Sort>,
+    under: &str,
+    found: Option<Sort>,
+) -> Result<(), AllocError> {
+    add_sorts(notes, &[variable, " is "], want, under, found)
+}
+
+/// Adds the notes for a time that is a Boolean.
+fn add_time(notes: &mut Notes) -> Result<(), AllocError> {
+    let (want, found) = (Some(Sort::Integer), Some(Sort::Boolean));
+    add_sorts(notes, &["a time is "], want, "this is ", found)
+}
+
 /// Adds the notes for a parameter of a signal.
 fn add_parameter(
     alloc: Global,
@@ -170,33 +187,21 @@ pub(crate) fn explain(alloc: Global, notes: &mut Notes, cause: &Cause) -> Result
             variable,
             want,
             found,
-        } => {
-            let words = [variable.as_str(), " is "];
-            add_sorts(notes, &words, *want, "its value is ", *found)
-        }
+        } => add_value(notes, variable.as_str(), *want, "its value is ", *found),
         Cause::Initial {
             variable,
             want,
             found,
         } => {
-            let words = [variable.as_str(), " is "];
-            add_sorts(notes, &words, Some(*want), "this is ", Some(*found))
+            let (name, want, found) = (variable.as_str(), Some(*want), Some(*found));
+            add_value(notes, name, want, "this is ", found)
         }
         Cause::Number {
             signal,
             wanted,
             given,
         } => add_number(alloc, notes, signal.as_str(), *wanted, *given),
-        Cause::Time => {
-            let found = Some(Sort::Boolean);
-            add_sorts(
-                notes,
-                &["a time is "],
-                Some(Sort::Integer),
-                "this is ",
-                found,
-            )
-        }
+        Cause::Time => add_time(notes),
         Cause::Answer { is_truth, here } => add_answer(notes, *is_truth, *here),
     }
 }

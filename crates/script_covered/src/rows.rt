@@ -20,6 +20,13 @@ pub(crate) struct Row {
     pub(crate) turns: u64,
 }
 
+/// A state by the numbers of its process and of itself.
+#[derive(Clone, Copy)]
+struct StatePlace {
+    owner: usize,
+    state: usize,
+}
+
 /// A name as it is declared, if it is declared.
 fn named_as(names: &NameTable, name: Name) -> Option<Name>
     ensures { result ≡ named_as (number_of names.now name) names.now }
@@ -93,19 +100,18 @@ fn push_state_rows(
     turns: &TurnCounts,
     signals: &NameTable,
     process: &ProcessTable<'_>,
-    owner: usize,
-    state: usize,
+    place: StatePlace,
     inputs: &[InputRow<'_>],
 ) -> Result<(), AllocError>
     ensures { OnOk result (map row_of rows.new.items
-        ≡ map row_of rows.old.items ++ state_rows (known_turns turns.now.turns.items) signals.now (process_of process.now) owner state 0 (map row_input inputs.now)) }
+        ≡ map row_of rows.old.items ++ state_rows (known_turns turns.now.turns.items) signals.now (process_of process.now) place.owner place.state 0 (map row_input inputs.now)) }
 {
     for (number, input) in inputs.iter().enumerate() {
-        let name = input_name(alloc, signals, process, state, input)?;
+        let name = input_name(alloc, signals, process, place.state, input)?;
         rows.push(Row {
             at: input.input.at,
             name,
-            turns: turns.times(owner, Some(state), number),
+            turns: turns.times(place.owner, Some(place.state), number),
         })?;
     }
     Ok(())
@@ -125,7 +131,8 @@ fn push_states_rows(
         ≡ map row_of rows.old.items ++ states_rows (known_turns turns.now.turns.items) signals.now (process_of process.now) owner 0 (map rows_inputs inputs.now)) }
 {
     for (state, of_state) in inputs.iter().enumerate() {
-        push_state_rows(alloc, rows, turns, signals, process, owner, state, of_state)?;
+        let place = StatePlace { owner, state };
+        push_state_rows(alloc, rows, turns, signals, process, place, of_state)?;
     }
     Ok(())
 }

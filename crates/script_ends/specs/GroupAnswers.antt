@@ -33,7 +33,7 @@ use Rattle.link_group.specs.Commanding.{Refused, is_barred}
 use Rattle.link_group.specs.OneLink.{but_memory}
 use Rattle.link_group.specs.Ticking.{all_due}
 use Rattle.link_group.specs.Ticks.{with_room, tick_fault, after_ticks}
-use Rattle.link_group.specs.Reading.{held_count, sent_count}
+use Rattle.link_group.specs.Reading.{held_count, sent_count, book_of}
 use Rattle.link_group.specs.Stating.{state_of}
 use Rattle.group_changeover.specs.Printed.{send_error_text, bind_error_text, fail_error_text}
 use Rattle.group_changeover.specs.Printed.{retrieve_error_text, abandon_error_text}
@@ -263,12 +263,12 @@ link_line (Some k) = link_text (state_of k)
 abbrev pub state_at : List ℕ → Option Link → List ℕ
 state_at process None = NO_LINK
 state_at process (Some k) =
-    state_line k.terminal.processes.book (actor_named k.terminal.processes.book process)
+    state_line (book_of k) (actor_named (book_of k) process)
 
 abbrev pub value_at : List ℕ → List ℕ → Option Link → List ℕ
 value_at process variable None = NO_LINK
 value_at process variable (Some k) =
-    value_line k.terminal.processes.book variable (actor_named k.terminal.processes.book process)
+    value_line (book_of k) variable (actor_named (book_of k) process)
 
 -- ---- all commands
 

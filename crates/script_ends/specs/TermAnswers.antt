@@ -19,13 +19,16 @@ use Rattle.link_transceiver.specs.Limits.{KEPT_MESSAGES}
 use Rattle.link_transceiver.specs.Measuring.{count_of}
 use Rattle.resend_store.specs.declared.measures.Measure.{Measure}
 use Rattle.link_transceiver.specs.Reporting.{reported}
+use Rattle.link_transceiver.specs.TransceiverState.{last_accepted}
 use Rattle.link_term.specs.Machine.{Sent, offered, sent, tidied, is_low, handed_out, clear_obeyed}
 use Rattle.link_term.specs.Machine.{all_reset}
 use Rattle.link_term.specs.Offering.{command_event}
 use Rattle.link_term.specs.link_processes_types.commands.Command.{Command}
 use Rattle.link_term.specs.link_processes_types.commands.Command.TheVariants as command
 use Rattle.link_term.specs.link_processes_types.processes.Processes.{Processes}
-use Rattle.link_term.specs.Term.{Term, with_processes, term_with_transceiver}
+use Rattle.link_term.specs.Term.{Term, transceiver_of, ledger_of, with_processes}
+use Rattle.link_term.specs.Term.{term_with_transceiver}
+use Rattle.link_term.specs.Kept.{window_of, with_window}
 use Rattle.link_term.specs.Hearing.{Heard}
 use Rattle.link_term.specs.declared.answers.CallError.{CallError}
 use Rattle.link_term.specs.declared.answers.CallError.TheVariants.{Refused, NoMemory}
@@ -69,7 +72,7 @@ after_answer (Says r) e h = after_reply r e h
 
 -- The book is asked to take the event; its answer is printed as for a book script.
 pub record IsAsked (e : Event) (t : Term) (text : List ℕ) (u : Term) : Type 0 where
-  pub says : text ≡ answer_text t.processes.book.set 0 (ask (tidied t.processes).book e).answer
+  pub says : text ≡ answer_text (ledger_of t).set 0 (ask (tidied t.processes).book e).answer
   pub makes :
       u ≡ with_processes t (after_answer (ask (tidied t.processes).book e).answer e t.processes)
 
@@ -82,14 +85,9 @@ IsRefusedLine NoMemory text = ⊥
 
 -- A message is queued after all others, unless there are so many that it is refused.
 pub data Puts (m : Msu) (t : Term) : List ℕ → Term → Type 0 where
-  taken : length (waiting t.processes.transceiver.sender) < MOST_WAITING
-      → Puts m t (codes "ok")
-      (term_with_transceiver t
-      (record t.processes.transceiver {
-        sender = with_put t.processes.transceiver.sender
-            m;
-      }))
-  full : MOST_WAITING ≤ length (waiting t.processes.transceiver.sender)
+  taken : length (waiting (window_of t)) < MOST_WAITING
+      → Puts m t (codes "ok") (with_window t (with_put (window_of t) m))
+  full : MOST_WAITING ≤ length (waiting (window_of t))
       → Puts m t (codes "refused E1 Full") t
 
 -- The octets form a message: its service information octet, then its signalling information field.
@@ -111,11 +109,11 @@ pub record IsPut (octets : List ℕ) (t : Term) (text : List ℕ) (u : Term) : T
 -- No report is pending any more, neither a message nor a status of the link.
 abbrev pub without_reports : Term → Term
 without_reports t =
-    term_with_transceiver t (record t.processes.transceiver { messages = []; statuses = [] })
+    term_with_transceiver t (record (transceiver_of t) { messages = []; statuses = [] })
 
 -- The most messages are waiting.
 abbrev pub IsFull : Term → Type 0
-IsFull t = KEPT_MESSAGES ≤ length t.processes.transceiver.messages
+IsFull t = KEPT_MESSAGES ≤ length (transceiver_of t).messages
 
 -- Why a terminal takes no further octet: the most messages are waiting, or memory ran out while
 -- making room in the journal.
@@ -162,12 +160,12 @@ error_line = 126 ∷ 0 ∷ 126 ∷ []
 
 -- The next report is taken out and printed.
 pub record Tells (t : Term) (text : List ℕ) (u : Term) : Type 0 where
-  pub says : text ≡ told_line (reported t.processes.transceiver).report
-  pub after : u ≡ term_with_transceiver t (reported t.processes.transceiver).transceiver
+  pub says : text ≡ told_line (reported (transceiver_of t)).report
+  pub after : u ≡ term_with_transceiver t (reported (transceiver_of t)).transceiver
 
 -- The line with the number of the message accepted last.
 abbrev pub accepted_line : Term → List ℕ
-accepted_line t = codes "ok " ++ decimal t.processes.transceiver.receiver.last
+accepted_line t = codes "ok " ++ decimal (last_accepted (transceiver_of t))
 
 -- ---- retrieved messages
 
@@ -184,13 +182,11 @@ IsRetrieveLine unretrieved.NoMemory text = ⊥
 -- Messages are retrieved: those after this number, or without a number those never sent. A number
 -- that acknowledges more than was sent is refused.
 pub data Retrieves (behind : Option ℕ) (t : Term) : List ℕ → Term → Type 0 where
-  given : count_known t.processes.transceiver.sender behind
-      ≤ t.processes.transceiver.sender.sent
+  given : count_known (window_of t) behind ≤ (window_of t).sent
       → Retrieves behind t
-      (codes "ok " ++ decimal (length (retrieved t.processes.transceiver.sender behind)))
+      (codes "ok " ++ decimal (length (retrieved (window_of t) behind)))
       (behind_retrieve behind t)
-  bad : t.processes.transceiver.sender.sent
-      < count_known t.processes.transceiver.sender behind
+  bad : (window_of t).sent < count_known (window_of t) behind
       → Retrieves behind t (codes "refused E2 BadAck") t
 
 -- ---- measurements

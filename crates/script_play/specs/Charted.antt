@@ -4,7 +4,7 @@ use Rattle.std.specs.Prelude.{[], ◌∷◌, ◌++◌, length, Option, None, Som
 use Rattle.std.specs.Prelude.{filter, if◌then◌else◌, ◌≡◌}
 use Rattle.std.specs.List.{flat_map, list_any}
 use Rattle.std.specs.Fmt.{decimal}
-use Rattle.turn_code.specs.Outcome.{Outcome}
+use Rattle.turn_code.specs.Outcome.{Outcome, effects_of}
 use Rattle.turn_code.specs.declared.draft.Draft.{Draft}
 use Rattle.turn_code.specs.declared.draft.Trigger.{Trigger}
 use Rattle.turn_code.specs.declared.draft.Trigger.TheVariants as trigger
@@ -20,7 +20,7 @@ use Rattle.turn_code.specs.declared.machine.End.{End}
 use Rattle.turn_code.specs.declared.numbers.InstanceNumber.{InstanceNumber}
 use Rattle.turn_code.specs.declared.value.Value.{Value}
 use Rattle.turn_check.specs.Named.{trigger_at}
-use Rattle.script_seen.specs.Turn.{Turn}
+use Rattle.script_seen.specs.Turn.{Turn, sender_of}
 use Rattle.actor_machine.specs.Effects.{delay}
 use Rattle.actor_machine.specs.Names.{actors_of, same_actor, address_of}
 use Rattle.actor_machine.specs.declared.name.ActorName.{ActorName}
@@ -163,9 +163,9 @@ note_of d me (line ∷ lines) = beside d me (codes " note ") (stacked (line ∷ 
 abbrev pub row_text : Draft → TurnEnd → List ℕ
 row_text d t =
     came_text d t.me t.turn t.turn.place ++ box_text d t.me t.turn.place t.report.end
-    ++ outs_text d t.me t.report.lost.items 0 t.outcome.progress.effects
+    ++ outs_text d t.me t.report.lost.items 0 (effects_of t.outcome)
     ++ note_of d t.me
-    (flat_map (timing_of d t.me.process.0 t.clock) t.outcome.progress.effects)
+    (flat_map (timing_of d t.me.process.0 t.clock) (effects_of t.outcome))
 
 -- the rows of turns after a row of this time
 abbrev pub rows_text : Draft → Option ℕ → List TurnEnd → List ℕ
@@ -201,8 +201,8 @@ get_it d me lost k (e ∷ es) x =
 abbrev pub is_in : Draft → ActorName → TurnEnd → Bool
 is_in d x t =
     same_actor t.me x
-    || (is_sender t.turn.input.sender x
-    || get_it d t.me t.report.lost.items 0 t.outcome.progress.effects x)
+    || (is_sender (sender_of t.turn) x
+    || get_it d t.me t.report.lost.items 0 (effects_of t.outcome) x)
 
 abbrev pub is_outside : Party → Bool
 is_outside Environment = true
@@ -220,7 +220,7 @@ goes_outside (Reset t) = false
 -- whether the environment is drawn with a turn
 abbrev pub has_outside : TurnEnd → Bool
 has_outside t =
-    came_from_outside t.turn.input.sender || list_any goes_outside t.outcome.progress.effects
+    came_from_outside (sender_of t.turn) || list_any goes_outside (effects_of t.outcome)
 
 -- the actors that participate, in the order of the text
 abbrev pub actors_in : Draft → List TurnEnd → List ActorName
@@ -259,7 +259,7 @@ abbrev pub is_drawn : Cut → TurnEnd → Bool
 is_drawn cut t =
     nat_le cut.first t.turn.turn
     && (nat_le t.turn.turn cut.last
-    && not (is_dull t.turn.place t.report.end t.outcome.progress.effects))
+    && not (is_dull t.turn.place t.report.end (effects_of t.outcome)))
 
 -- the width of a column, in pixels
 abbrev pub COLUMN : ℕ

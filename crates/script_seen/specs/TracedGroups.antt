@@ -13,6 +13,7 @@ use Rattle.group_changeover.specs.declared.changeover.Changeover.{Changeover}
 use Rattle.group_changeover.specs.declared.changeover.Kind.{Kind}
 use Rattle.group_changeover.specs.declared.changeover.Kind.TheVariants as kind
 use Rattle.group_changeover.specs.declared.errors.FailError.{FailError}
+use Rattle.link_group.specs.Reading.{book_of}
 use Rattle.link_group.specs.Changing.{IsRead, reply_to, fail_fault, order_at}
 use Rattle.script_links.specs.GroupCommands.{PlainGroupCommand}
 use Rattle.script_links.specs.GroupCommands as group
@@ -140,7 +141,7 @@ pub data AreReached (d : Draft) : List Reached → List Ledger → Type 0 where
 
 -- the books of the links of a set
 abbrev pub books_of : Playing → List Ledger
-books_of p = map (λ k. k.terminal.processes.book) p.set.links
+books_of p = map book_of p.set.links
 
 -- the ticks of a link set, whose links share one clock
 abbrev pub clock_in : List Ledger → ℕ

@@ -3,6 +3,7 @@ use Rattle.std.specs.Prelude.{◌≡◌, ◌≤◌, ◌+◌, ℕ, List, [], ◌�
 use Rattle.std.specs.Prelude.{slice_get, true}
 use Rattle.turn_code.specs.Fits.{Fits}
 use Rattle.turn_code.specs.Outcome.{Outcome}
+use Rattle.turn_code.specs.Transitions.{code_of}
 use Rattle.turn_code.specs.declared.draft.Draft.{Draft}
 use Rattle.turn_code.specs.declared.input.Place.{Place}
 use Rattle.turn_code.specs.declared.input.Place.TheVariants.{Start, State as AtState}
@@ -44,7 +45,7 @@ pub record IsEnd (e : Ended) (t : TurnEnd) : Type 0 where
 -- the turn is a transition of a process of this set, on an input that fits it
 pub record IsTurnOf (d : Draft) (process : ℕ) (t : Turn) : Type 0 where
   pub fits : Fits d process t.place t.input_number t.input
-  pub code : t.code ≡ fits.transition.piece.code
+  pub code : t.code ≡ code_of fits.transition
 
 -- an item that an actor discarded in a state
 pub record Throw : Type 0 where

@@ -32,6 +32,13 @@ pub struct Ended {
     pub report: Report,
 }
 
+/// The tick at which a turn ends, and its actor.
+#[derive(Clone, Copy)]
+struct Moment {
+    clock: u64,
+    me: ActorName,
+}
+
 /// Whether a loss is that of the effect at a place.
 fn is_at(loss: &Lost, place: usize) -> bool
     ensures { result ≡ (loss.now.place == place) }
@@ -97,19 +104,19 @@ fn push_output(
     push_receiver(alloc, line, set, me, sending.receiver)
 }
 
-/// Appends an effect of a turn that ends at tick `clock`. A time past 2^64 would be an error; the clock ends before.
+/// Appends an effect of a turn that ends at this moment. A time past 2^64 would be an error; the clock ends before.
 fn push_effect(
     alloc: Global,
     line: &mut Vec<u8>,
     set: &Verified,
-    clock: u64,
-    me: ActorName,
+    moment: Moment,
     lost: &[Lost],
     place: usize,
     effect: &Effect,
 ) -> Result<(), AllocError>
-    ensures { OnOk result (line.new.items ≡ line.old.items ++ (codes ", " ++ effect_text set.now clock me lost.now place effect.now)) }
+    ensures { OnOk result (line.new.items ≡ line.old.items ++ (codes ", " ++ effect_text set.now moment.clock moment.me lost.now place effect.now)) }
 {
+    let Moment { clock, me } = moment;
     line.extend_from_slice(b", ")?;
     match effect {
         Effect::Output(sending) => {
@@ -145,7 +152,7 @@ fn push_effects(
     ensures { OnOk result (line.new.items ≡ line.old.items ++ effects_text set.now clock me lost.now 0 effects.now) }
 {
     for (place, effect) in effects.iter().enumerate() {
-        push_effect(alloc, line, set, clock, me, lost, place, effect)?;
+        push_effect(alloc, line, set, Moment { clock, me }, lost, place, effect)?;
     }
     Ok(())
 }

@@ -105,8 +105,8 @@ pub record IsReadyProcess (c : Scope) : Type 0 where
   pub states : length (states_of c.process) ≤ MOST_STATES
   pub signals : length (signal_names c.block) ≤ MOST_SIGNALS
   pub start : NamedPiece c (start_piece c.process)
-  pub answers : AnswersAll c None c.process.start.text
-  pub sorted : AreSorted c c.process.start.text
+  pub answers : AnswersAll c None (start_piece c.process).text
+  pub sorted : AreSorted c (start_piece c.process).text
   pub small : IsSmall c (start_piece c.process)
   pub inputs : AllReady c (inputs_by_state c.process)
   pub saves : AllTriggers c (saves_by_state c.process)

@@ -3,7 +3,7 @@ use Rattle.std.specs.Prelude.{◌≡◌, ◌⊎◌, ℕ, ◌<◌, true, ⊤, Lis
 use Rattle.std.specs.List.{AllZip}
 use Rattle.sdl_tables.specs.sdl_ast_types.expression.Identifier.{Identifier}
 use Rattle.sdl_tables.specs.Plain.{PlainProcess}
-use Rattle.sdl_tables.specs.Names.{same_name, states_of, Input, inputs_of}
+use Rattle.sdl_tables.specs.Names.{same_name, states_of, Input, inputs_of, stimulus_of}
 use Rattle.sdl_sound.specs.Paths.{ReadsUnset}
 use Rattle.sdl_sound.specs.declared.fault.Step.{Step}
 use Rattle.sdl_sound.specs.declared.fault.Step.TheVariants.{Start, Input as Takes}
@@ -14,7 +14,7 @@ StandsAt p Start q i = ⊥
 StandsAt p (Takes state signal) q i =
     (id : Identifier) × (slice_get (states_of p) q ≡ Some id) × (same_name state id.name ≡ true)
     × (inp : Input) × (slice_get (inputs_of p q) i ≡ Some inp)
-    × (same_name signal inp.stimulus.name.name ≡ true)
+    × (same_name signal (stimulus_of inp).name ≡ true)
 
 -- START's transition is first. Those of states follow in the order of the states, and within a
 -- state in the order of its inputs.

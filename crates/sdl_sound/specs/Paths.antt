@@ -10,7 +10,7 @@ use Rattle.sdl_tables.specs.Plain.{Tree, PlainAssignment, PlainSending, PlainAct
 use Rattle.sdl_tables.specs.Plain.{set_timer, reset_timer, Text, falls, ends, does, decides, Choice}
 use Rattle.sdl_tables.specs.Plain.{nothing_else, otherwise, answer, PlainConnection, PlainProcess}
 use Rattle.sdl_tables.specs.Names.{same_name, number_of, Variable, variables_of, connection_named}
-use Rattle.sdl_tables.specs.Names.{states_of, Input, inputs_of}
+use Rattle.sdl_tables.specs.Names.{states_of, Input, inputs_of, stimulus_of}
 use Rattle.sdl_sound.specs.Names.{tree_names, place_names}
 use Rattle.sdl_sound.specs.declared.fault.Step.{Step}
 use Rattle.sdl_sound.specs.declared.fault.Step.TheVariants.{Start, Input as Takes}
@@ -130,7 +130,7 @@ Leads p None (Takes state signal) t = ⊥
 Leads p (Some s) Start t = ⊥
 Leads p (Some s) (Takes state signal) t =
     (same_name s state ≡ true)
-    × (i : Input) × Contains (inputs_in p s) i × (same_name signal i.stimulus.name.name ≡ true)
+    × (i : Input) × Contains (inputs_in p s) i × (same_name signal (stimulus_of i).name ≡ true)
     × (t ≡ input_transition i)
 
 -- these events read x, and don't set it before

@@ -143,6 +143,10 @@ pub record Input : Type 0 where
   pub stimulus : PlainStimulus
   pub text : Text
 
+-- the signal or timer that it takes
+abbrev pub stimulus_of : Input → Identifier
+stimulus_of i = i.stimulus.name
+
 abbrev pub clause_inputs : PlainClause → List Input
 clause_inputs (input i) = map (λ s. record { at = i.at; stimulus = s; text = i.text }) i.stimuli
 clause_inputs (save names) = []

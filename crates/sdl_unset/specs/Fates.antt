@@ -13,7 +13,7 @@ use Rattle.sdl_unset.specs.Order.{NotAfter, IsFirst}
 use Rattle.sdl_ast.specs.Plain.{PlainProcess, PlainBlock}
 use Rattle.sdl_ast.specs.declared.expression.Identifier.{Identifier}
 use Rattle.sdl_tables.specs.Names.{same_name, number_of, variables_of, timers_of, states_of, Input}
-use Rattle.sdl_tables.specs.Names.{inputs_of, signal_named}
+use Rattle.sdl_tables.specs.Names.{inputs_of, signal_named, stimulus_of}
 use Rattle.sdl_unset.specs.Graphs.{IsGraphOf}
 use Rattle.sdl_sound.specs.declared.fault.Step.{Step}
 use Rattle.sdl_sound.specs.declared.fault.Step.TheVariants.{Start, Input as Takes}
@@ -53,7 +53,7 @@ IsNamed p First n = n ≡ Start
 IsNamed p (By q i) n =
     (id : Identifier) × (slice_get (states_of p) q ≡ Some id)
     × (inp : Input) × (slice_get (inputs_of p q) i ≡ Some inp)
-    × (signal : List ℕ) × (same_name signal inp.stimulus.name.name ≡ true)
+    × (signal : List ℕ) × (same_name signal (stimulus_of inp).name ≡ true)
     × (n ≡ Takes id.name signal)
 
 -- The timer with this name.
@@ -72,7 +72,7 @@ IsSpelled b p First n = ⊤
 IsSpelled b p (By q i) n =
     (inp : Input) → slice_get (inputs_of p q) i ≡ Some inp → (state signal : List ℕ)
     → n ≡ Takes state signal
-    → signal ≡ declared_name b p inp.stimulus.name.name
+    → signal ≡ declared_name b p (stimulus_of inp).name
 
 -- a path reads this variable unset
 abbrev pub IsUnsetAt : List Fate → ℕ → Type 0

@@ -24,6 +24,7 @@ mod tended_orders;
 mod tended_pair;
 mod tended_run;
 mod tended_script;
+mod tended_side;
 mod tending;
 mod working;
 

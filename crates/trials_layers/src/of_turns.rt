@@ -8,7 +8,7 @@ use turn_code::{
     Address, Cert, Effect, End, InstanceNumber, Instruction, Party, Place, ProcessNumber, Receiver,
     SignalNumber, Sort, TimerNumber, Value,
 };
-use turn_machine::{Done, Job, Received, fits, run};
+use turn_machine::{Done, Job, Received, TurnHead, fits, run};
 
 /// `INPUT Up(n); TASK total := -(n * n) - 1; NEXTSTATE Run;`
 const SQUARE: Plan = Plan {
@@ -95,7 +95,14 @@ fn job(set: &Verified, total: i32, n: i32) -> Option<Job> {
     let variables = variables(None, Some(total));
     let received = received(Some(n), OUTSIDE);
     if fits(set, P, IN_RUN, 0, &variables, &received) {
-        Some(Job::new(set, 4, 9, P, IN_RUN, 0, variables, received))
+        let head = TurnHead {
+            actor: 4,
+            turn: 9,
+            process: P,
+            place: IN_RUN,
+            input_number: 0,
+        };
+        Some(Job::new(set, head, variables, received))
     } else {
         None
     }

@@ -1,11 +1,11 @@
 //! Compares the results of two steps.
 
 use crate::stepping::Stepped;
-use crate::wording::word_of;
 use turn_code::{
     Address, After as Sorted, BareEffect, Effect, Machine, Next, Operands, Value, VariableNumber,
     VariableSet, Words,
 };
+use turn_machine::word_of;
 
 /// Whether a step on words and one on values with their sorts have equal results: the next place or the end, the
 /// effect, operands and variables. Takes the machine's operands.

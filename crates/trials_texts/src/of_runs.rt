@@ -4,7 +4,7 @@ use mtp2_text::load;
 use std::alloc::Global;
 use turn_check::Verified;
 use turn_code::{Address, Effect, End, Party, Place, ProcessNumber, StateNumber, Value};
-use turn_machine::{Done, Job, Received, fits, run};
+use turn_machine::{Done, Job, Received, TurnHead, fits, run};
 
 /// A process that sends two numbers: a sum that wraps, and a remainder that isn't negative.
 const NUMBERS: &str = "BLOCK B; SIGNAL N(Integer); SIGNALROUTE r FROM Z TO ENV WITH N;
@@ -113,7 +113,14 @@ fn ran(set: &Verified, given: Given) -> Option<Done> {
     let variables = variables(given.1);
     let received = received(given.2, given.3);
     if fits(set, FIRST, given.0, 0, &variables, &received) {
-        Some(run(Job::new(set, 0, 0, FIRST, given.0, 0, variables, received)))
+        let head = TurnHead {
+            actor: 0,
+            turn: 0,
+            process: FIRST,
+            place: given.0,
+            input_number: 0,
+        };
+        Some(run(Job::new(set, head, variables, received)))
     } else {
         None
     }

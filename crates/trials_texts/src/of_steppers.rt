@@ -1,11 +1,10 @@
 //! Compares turns by two steppers, on words and on values with their sorts. Each transition of a set runs on ten
 //! inputs, with numbers at the ends of their range, and each of its places is stepped from.
 
-ghost use Rattle.std.specs.Prelude.{◌≤◌, IsTrue, IfSome};
-ghost use Rattle.turn_code.specs.Code.{sends};
+ghost use Rattle.std.specs.Prelude.{IfSome};
 ghost use Rattle.turn_code.specs.Fits.{Fits};
-ghost use Rattle.turn_code.specs.Machine.{HasRoom, HasRoomFor};
 
+use crate::sorted::has_room;
 use crate::tally::tally_of as steps_of;
 use arrayvec::ArrayVec;
 use mtp2_text::{LoadFault, load, monitors, standard};
@@ -104,33 +103,6 @@ fn sender_of(number: u8) -> Address {
             _ => Party::Process(ProcessNumber(number - 1)),
         },
         instance: None,
-    }
-}
-
-/// Whether an instruction sends at most 4 parameters.
-fn sends_few(instruction: Instruction) -> bool
-    ensures { IsTrue result → sends instruction ≤ 4 }
-{
-    match instruction {
-        Instruction::Output(_, _, count) => count <= 4,
-        _ => true,
-    }
-}
-
-/// Whether there is room for an instruction, whatever its effect.
-fn has_room_for(instruction: Instruction, machine: &Machine) -> bool
-    ensures { IsTrue result → HasRoomFor instruction machine.now.operands machine.now.effects.items }
-{
-    sends_few(instruction) && machine.operands.len() < 16 && machine.effects.len() < 32
-}
-
-/// Whether there is room for the instruction at a place, if there is one.
-fn has_room(code: &[Instruction], place: usize, machine: &Machine) -> bool
-    ensures { IsTrue result → HasRoom code.now place machine.now.operands machine.now.effects.items }
-{
-    match code.get(place) {
-        Some(instruction) => has_room_for(*instruction, machine),
-        None => true,
     }
 }
 

@@ -27,7 +27,7 @@ fn has_room_for(instruction: Instruction, machine: &Machine) -> bool
 }
 
 /// Whether there is room for the instruction at a place, if there is one.
-fn has_room(code: &[Instruction], place: usize, machine: &Machine) -> bool
+pub(crate) fn has_room(code: &[Instruction], place: usize, machine: &Machine) -> bool
     ensures { IsTrue result → HasRoom code.now place machine.now.operands machine.now.effects.items }
 {
     match code.get(place) {

@@ -8,6 +8,7 @@ pub mod Piled
 pub mod Ran
 pub mod RightEffects
 pub mod SafeRuns
+pub mod SameCode
 pub mod SortBits
 pub mod Standing
 pub mod Stands

@@ -3,6 +3,7 @@ use Rattle.std.specs.Prelude.{◌≡◌, ℕ, Option, Some, None, Result, Ok, Er
 use Rattle.turn_code.specs.Run.{Progress, Ran, run, ended, got_stuck, unfinished}
 use Rattle.turn_code.specs.Transitions.{Transition, transition_at}
 use Rattle.turn_code.specs.Fits.{FitsTransition}
+use Rattle.turn_code.specs.declared.effect.Effect.{Effect}
 use Rattle.turn_code.specs.declared.input.Input.{Input}
 use Rattle.turn_code.specs.declared.input.Place.{Place}
 use Rattle.turn_code.specs.declared.machine.End.{End}
@@ -14,6 +15,10 @@ use Rattle.turn_code.specs.declared.trouble.Trouble.TheVariants.{Outside}
 pub record Outcome : Type 0 where
   pub end : End
   pub progress : Progress
+
+-- the effects of the transition, in order
+abbrev pub effects_of : Outcome → List Effect
+effects_of o = o.progress.effects
 
 abbrev pub outcome_in : Ran → Option Outcome
 outcome_in (ended e s) = Some (record { end = e; progress = s })

@@ -5,9 +5,11 @@ use Rattle.turn_code.specs.declared.value.Sort.{Sort}
 use Rattle.turn_code.specs.declared.variable_set.VariableSet.{VariableSet}
 use Rattle.turn_code.specs.declared.input.Place.{Place}
 use Rattle.turn_code.specs.declared.input.Place.TheVariants.{Start, State}
+use Rattle.turn_code.specs.declared.instruction.Instruction.{Instruction}
 use Rattle.turn_code.specs.declared.draft.Draft.{Draft}
 use Rattle.turn_code.specs.declared.draft.DraftSignal.{DraftSignal}
 use Rattle.turn_code.specs.declared.draft.DraftProcess.{DraftProcess}
+use Rattle.turn_code.specs.declared.draft.DraftVariable.{DraftVariable}
 use Rattle.turn_code.specs.declared.draft.DraftState.{DraftState}
 use Rattle.turn_code.specs.declared.draft.DraftInput.{DraftInput}
 use Rattle.turn_code.specs.declared.draft.DraftPiece.{DraftPiece}
@@ -23,6 +25,21 @@ pub record Transition : Type 0 where
   pub parameters : List Sort
   pub entry : VariableSet
   pub piece : DraftPiece
+
+-- what its certificate says of the instructions on its longest path, and of the effects
+abbrev pub budget_of : Transition → ℕ
+budget_of t = t.piece.certificate.budget
+
+abbrev pub effects_within : Transition → ℕ
+effects_within t = t.piece.certificate.effects
+
+-- the variables of its process
+abbrev pub variables_of : Transition → List DraftVariable
+variables_of t = t.process.variables
+
+-- its code
+abbrev pub code_of : Transition → List Instruction
+code_of t = t.piece.code
 
 -- the sorts of a signal's parameters, none if there is no such signal
 abbrev pub parameters_of : Option DraftSignal → List Sort

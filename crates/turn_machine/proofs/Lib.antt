@@ -1,4 +1,3 @@
 pub mod Jobs
-pub mod PartsLemmas
 pub mod UnderWay
 pub mod Worded

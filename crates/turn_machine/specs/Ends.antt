@@ -2,7 +2,7 @@
 use Rattle.std.specs.Prelude.{◌≡◌, ℕ, ◌≤◌, length, Some}
 use Rattle.turn_code.specs.Machine.{progress_of}
 use Rattle.turn_code.specs.Run.{run, ended}
-use Rattle.turn_code.specs.Transitions.{Transition, transition_at}
+use Rattle.turn_code.specs.Transitions.{Transition, transition_at, budget_of, effects_within}
 use Rattle.turn_code.specs.declared.input.Input.{Input}
 use Rattle.turn_code.specs.declared.input.Place.{Place}
 use Rattle.turn_code.specs.declared.draft.Draft.{Draft}
@@ -16,5 +16,5 @@ pub record EndsSo (d : Draft) (p : ℕ) (s : Place) (i : ℕ) (x : Input) (e : E
   pub transition : Transition
   pub there : transition_at d p s i ≡ Some transition
   pub ran : run transition.piece.code x ≡ ended e (progress_of m)
-  pub within : m.count ≤ transition.piece.certificate.budget
-  pub few : length m.effects.items ≤ transition.piece.certificate.effects
+  pub within : m.count ≤ budget_of transition
+  pub few : length m.effects.items ≤ effects_within transition

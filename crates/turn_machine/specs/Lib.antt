@@ -2,7 +2,6 @@ pub mod Ends
 pub mod Fitting
 pub mod Given
 pub mod Growing
-pub mod Parts
 pub mod Rooms
 pub mod Safety
 pub mod Turn

@@ -2,7 +2,7 @@
 use Rattle.std.specs.Prelude.{◌≡◌, ℕ, ◌+◌, ◌≤◌, List, [], length}
 use Rattle.plain_laws.specs.Limits.{MOST_INSTRUCTIONS, MOST_VARIABLES}
 use Rattle.turn_code.specs.Run.{Progress, exec, run, ended, begun}
-use Rattle.turn_code.specs.Transitions.{Transition}
+use Rattle.turn_code.specs.Transitions.{Transition, budget_of}
 use Rattle.turn_code.specs.Rules.{KeepsSetLimits}
 use Rattle.turn_code.specs.Valid.{IsValidTransition}
 use Rattle.turn_code.specs.Fits.{FitsTransition}
@@ -35,8 +35,8 @@ pub record IsSafeWithin (code : List Instruction) (x : Input) (s : Sorts) (c : C
   pub certificate_is : transition.piece.certificate ≡ c
   pub sorts : AreSortsOf draft.signals transition.process.variables s
   pub fits : FitsTransition draft transition x
-  pub small : transition.piece.certificate.budget ≤ MOST_INSTRUCTIONS
-  pub safe : IsSafe transition x transition.piece.certificate.budget 0 [] (begun x)
+  pub small : budget_of transition ≤ MOST_INSTRUCTIONS
+  pub safe : IsSafe transition x (budget_of transition) 0 [] (begun x)
 
 -- a run at place k after `taken` instructions, whose rest ends as the whole run does: its words and
 -- effects are those of a run on values

@@ -4,13 +4,14 @@ use Rattle.plain_laws.specs.Limits.{MOST_VARIABLES}
 use Rattle.turn_code.specs.Sorts.{AreSortsOf}
 use Rattle.turn_code.specs.declared.sorts.Sorts.{Sorts}
 use Rattle.turn_code.specs.Run.{run, ended}
-use Rattle.turn_code.specs.Transitions.{Transition, transition_at}
+use Rattle.turn_code.specs.Transitions.{Transition, transition_at, variables_of}
 use Rattle.turn_code.specs.Rules.{KeepsSetLimits}
 use Rattle.turn_code.specs.Valid.{IsValidTransition}
 use Rattle.turn_code.specs.Fits.{FitsTransition}
 use Rattle.turn_code.specs.Outcome.{Outcome, outcome_in}
 use Rattle.turn_code.specs.declared.value.Value.{Value}
 use Rattle.turn_code.specs.declared.effect.Effect.{Effect}
+use Rattle.turn_code.specs.declared.input.Address.{Address}
 use Rattle.turn_code.specs.declared.input.Input.{Input}
 use Rattle.turn_code.specs.declared.input.Place.{Place}
 use Rattle.turn_code.specs.declared.numbers.ProcessNumber.{ProcessNumber}
@@ -57,8 +58,12 @@ pub record IsRunnable (j : Turn) : Type 0 where
 -- the turn can run with these sorts of its signals and variables, of which there are at most 32
 pub record IsRunnableBy (j : Turn) (s : Sorts) : Type 0 where
   pub runnable : IsRunnable j
-  pub few : length runnable.transition.process.variables ≤ MOST_VARIABLES
-  pub sorts : AreSortsOf runnable.draft.signals runnable.transition.process.variables s
+  pub few : length (variables_of runnable.transition) ≤ MOST_VARIABLES
+  pub sorts : AreSortsOf runnable.draft.signals (variables_of runnable.transition) s
+
+-- who sent the signal of a turn's input
+abbrev pub sender_of : Turn → Option Address
+sender_of j = j.input.sender
 
 -- the outcome of the run of a turn's own code on its own input
 abbrev pub outcome_of : Turn → Option Outcome

@@ -6,6 +6,7 @@ ghost use Rattle.turn_machine.specs.Given.{input_of};
 ghost use Rattle.turn_machine.specs.Turn.{Begins, IsRunnable, IsRunnableBy};
 
 use crate::copy::copied_code;
+use crate::head::TurnHead;
 use crate::received::Received;
 use crate::work::Work;
 use arrayvec::ArrayVec;
@@ -32,19 +33,15 @@ impl Model for Job {
 }
 
 impl Job {
-    /// The job of an actor in a turn: input `input_number` at a place of a process, on an input that fits it.
+    /// The job of an actor in a turn, on an input that fits its transition.
     pub fn new(
         verified: &Verified,
-        actor: u16,
-        turn: u64,
-        process: ProcessNumber,
-        place: Place,
-        input_number: usize,
+        head: TurnHead,
         variables: ArrayVec<Option<Value>, 32>,
         received: Received,
     ) -> Job
-        requires { Fits verified.now process.0 place input_number (input_of variables received) }
-        ensures { Begins verified.now actor turn process place input_number (input_of variables received) result }
+        requires { Fits verified.now head.process.0 head.place head.input_number (input_of variables received) }
+        ensures { Begins verified.now head.actor head.turn head.process head.place head.input_number (input_of variables received) result }
     {
         let input = Input {
             variables,
@@ -52,6 +49,13 @@ impl Job {
             sender: received.sender,
         };
         let _ = verified.draft();
+        let TurnHead {
+            actor,
+            turn,
+            process,
+            place,
+            input_number,
+        } = head;
         match verified.transition(process, place, input_number) {
             Some(transition) => Job {
                 work: Work {

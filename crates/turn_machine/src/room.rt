@@ -5,10 +5,11 @@ ghost use Rattle.turn_code.specs.Fits.{Fits};
 ghost use Rattle.turn_machine.specs.Rooms.{Free, Begun, Ran, ran, IsToRun, HasRun, EndedSo, LiesBegun};
 
 use crate::ended::{Ended, run_work};
+use crate::head::TurnHead;
 use crate::work::Work;
 use std::marker::Model;
 use turn_check::Verified;
-use turn_code::{Input, Place, ProcessNumber, Sorts};
+use turn_code::{Input, Sorts};
 
 /// The contents of a room.
 #[derive(Clone, Copy, PartialEq, Eq, Debug)]
@@ -67,35 +68,18 @@ impl Room {
         }
     }
 
-    /// Makes the job of an actor's turn in the empty room: input `input_number` at a place of a process, on an input
-    /// that fits it. The room keeps copies of the code, of its sorts and of the input.
-    pub fn begin(
-        &mut self,
-        verified: &Verified,
-        actor: u16,
-        turn: u64,
-        process: ProcessNumber,
-        place: Place,
-        input_number: usize,
-        input: &Input,
-    )
+    /// Makes the job of an actor's turn in the empty room, on an input that fits its transition. The room keeps copies
+    /// of the code, of its sorts and of the input.
+    pub fn begin(&mut self, verified: &Verified, head: TurnHead, input: &Input)
         requires free { self.old ≡ Free }
-        requires fits { Fits verified.now process.0 place input_number input.now }
-        ensures { LiesBegun verified.now actor turn process place input_number input.now self.new }
+        requires fits { Fits verified.now head.process.0 head.place head.input_number input.now }
+        ensures { LiesBegun verified.now head.actor head.turn head.process head.place head.input_number input.now self.new }
     {
         let _ = verified.draft();
-        match verified.transition(process, place, input_number) {
+        match verified.transition(head.process, head.place, head.input_number) {
             Some(transition) => {
-                self.work.become_turn(
-                    actor,
-                    turn,
-                    process,
-                    place,
-                    input_number,
-                    transition.piece,
-                    input,
-                );
-                self.sorts = verified.sorts(process);
+                self.work.become_turn(head, transition.piece, input);
+                self.sorts = verified.sorts(head.process);
                 self.held = Held::Begun;
             }
             None => unreachable!(),

@@ -2,9 +2,8 @@
 
 ghost use Rattle.std.specs.Prelude.{◌≡◌, ◌↔◌, IsTrue};
 
-use crate::parts::same_code;
 use crate::work::Work;
-use turn_code::{Cert, DraftPiece, Input, Place, ProcessNumber};
+use turn_code::{Cert, DraftPiece, Input, Instruction, Place, ProcessNumber};
 
 /// Whether the counts are equal.
 fn same_certificate(left: Cert, right: Cert) -> bool
@@ -27,6 +26,13 @@ fn same_place(left: Place, right: Place) -> bool
             Place::State(right) => left.0 == right.0,
         },
     }
+}
+
+/// Whether two pieces of code are equal.
+fn same_code(left: &[Instruction], right: &[Instruction]) -> bool
+    ensures { IsTrue result ↔ (left.now ≡ right.now) }
+{
+    left == right
 }
 
 /// Whether the work is this turn of the actor, at this place and input number, on this input. It allocates no memory.

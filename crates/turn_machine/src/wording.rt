@@ -9,9 +9,10 @@ ghost use Rattle.plain_laws.specs.Limits.{MOST_PARAMETERS, MOST_VARIABLES};
 
 use turn_code::{Input, Value, Words};
 
-/// The words of an input, with no operand.
-pub(crate) fn words_of(input: &Input) -> Words
-    ensures { AreWordsOf (bare_of result) [] input.now.variables.items input.now.parameters.items }
+/// The words of an input, without operands.
+pub fn words_of(input: &Input) -> Words
+    ensures words { AreWordsOf (bare_of result) [] input.now.variables.items input.now.parameters.items }
+    ensures none { result.depth ≡ 0 }
 {
     let variables = input.variables.as_slice();
     let parameters = input.parameters.as_slice();
@@ -66,8 +67,8 @@ fn keep(words: &mut Words, variable: usize, value: Option<Value>)
     }
 }
 
-/// The word of a value.
-fn word_of(value: Value) -> i32
+/// The word of a value: an Integer as it is, 1 for TRUE and 0 for FALSE.
+pub fn word_of(value: Value) -> i32
     ensures { result ≡ word_of value }
 {
     match value {

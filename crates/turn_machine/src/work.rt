@@ -5,6 +5,7 @@ ghost use Rattle.plain_laws.specs.Limits.{MOST_INSTRUCTIONS};
 ghost use Rattle.turn_machine.specs.Turn.{turn_of};
 
 use crate::copy::{copied_code, copy_code, copy_input};
+use crate::head::TurnHead;
 use arrayvec::ArrayVec;
 use std::marker::Model;
 use turn_code::{Cert, DraftPiece, Input, Instruction, Place, ProcessNumber};
@@ -53,25 +54,16 @@ impl Work {
         }
     }
 
-    /// Makes this the turn of an actor: this piece for input `input_number` at a place of a process, on an input.
-    pub(crate) fn become_turn(
-        &mut self,
-        actor: u16,
-        turn: u64,
-        process: ProcessNumber,
-        place: Place,
-        input_number: usize,
-        piece: &DraftPiece,
-        input: &Input,
-    )
+    /// Makes this the turn of an actor: the piece of its transition, on an input.
+    pub(crate) fn become_turn(&mut self, head: TurnHead, piece: &DraftPiece, input: &Input)
         requires { length piece.now.code ≤ MOST_INSTRUCTIONS }
-        ensures { self.new ≡ turn_of actor turn process place input_number piece.now.code piece.now.certificate input.now }
+        ensures { self.new ≡ turn_of head.actor head.turn head.process head.place head.input_number piece.now.code piece.now.certificate input.now }
     {
-        self.actor = actor;
-        self.turn = turn;
-        self.process = process;
-        self.place = place;
-        self.input_number = input_number;
+        self.actor = head.actor;
+        self.turn = head.turn;
+        self.process = head.process;
+        self.place = head.place;
+        self.input_number = head.input_number;
         self.certificate = piece.certificate;
         copy_code(&mut self.code, piece.code.as_slice());
         copy_input(&mut self.input, input);

@@ -4,6 +4,7 @@ ghost use Rattle.std.specs.List.{flat_map};
 ghost use Rattle.line_filter.specs.Desks.{Told as TellsSuch};
 ghost use Rattle.line_filter.specs.Orders.{told};
 ghost use Rattle.line_filter.specs.Reporting.{TellsLines};
+ghost use Rattle.line_tending.specs.Tended.{link_count};
 ghost use Rattle.line_play.specs.SetDoing.{stood, first_of, last_of, terminal_at, reset_at, ResetEach, Resets, state_at, value_at};
 ghost use Rattle.line_play.specs.SetOrders.{plain_set_order, state, value, measures};
 ghost use Rattle.line_play.specs.SetShowing.{counted, aborted_at, state_text, value_text, count_told, aborted_told, shown_of, ShowsEach, ShowsHeld, Shows, held_text, table_text, unsure_text};
@@ -291,7 +292,7 @@ impl SetState {
 
     /// `held`.
     fn tell_all_held<P: Reports>(&self, alloc: Global, reports: &mut P) -> io::Result<()>
-        ensures { OnOk result (TellsSuch (ShowsHeld self.now.tender self.now.tender.plan.links) (P.stand reports.old) (P.stand reports.new)) }
+        ensures { OnOk result (TellsSuch (ShowsHeld self.now.tender (link_count self.now.tender)) (P.stand reports.old) (P.stand reports.new)) }
     {
         for link in 0..self.tender.len() {
             self.tell_held(alloc, link, reports)?;

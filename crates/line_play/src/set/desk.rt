@@ -1,5 +1,6 @@
 //! A link set on its lines, with its orders and reports.
 ghost use Rattle.std.specs.Prelude.{◌≡◌, length, IfOk};
+ghost use Rattle.line_play.specs.SetDoing.{millisecond_of};
 ghost use Rattle.line_play.specs.SetRounds.{Made, IsRound};
 ghost use Rattle.line_play.specs.SetDesks.{AreNewCounts, AreNewWires, IsNewSetDesk, place_of};
 
@@ -8,7 +9,7 @@ use crate::set::lines::Lines;
 use crate::set::measures::Since;
 use crate::set::orders::Focus;
 use crate::set::queue::Queue;
-use crate::set::round::{carry_lines, tend, tick};
+use crate::set::round::{RoundPlan, carry_lines, tend, tick};
 use crate::set::state::{SetState, tell_all};
 use line_filter::{Orders, Reports};
 use line_tending::{LinkLine, TendedSet};
@@ -99,7 +100,7 @@ impl<O, P> SetDesk<O, P> {
 
     /// Returns the millisecond: the number of rounds so far.
     pub fn millisecond(&self) -> u64
-        ensures { result ≡ self.now.state.tender.ticks }
+        ensures { result ≡ millisecond_of self.now.state }
     {
         self.state.tender.now()
     }
@@ -140,12 +141,15 @@ impl<O: Orders, P: Reports> SetDesk<O, P> {
         ensures ahead { self.new.ahead ≡ self.old.ahead }
     {
         lines.begin(self.state.tender.now());
-        carry_lines(
+        let plan = RoundPlan {
             alloc,
+            ahead: self.ahead,
+        };
+        carry_lines(
             &mut self.state.tender,
             &mut self.wires,
             lines,
-            self.ahead,
+            plan,
             part,
             out,
             &mut self.reports,

@@ -12,11 +12,19 @@ use line_tending::{LineChange, LinkLine, TendedSet, miss_line};
 use std::alloc::Global;
 use std::io;
 
-/// A line of a set: its link, and how many octets of 1s are sent when it opens and after each 1,000 rounds of silence.
+/// What all lines of a round share: how many octets of 1s are sent when one opens and after each 1,000 rounds of
+/// silence, and the allocator for the lines of reports.
+#[derive(Clone, Copy)]
+pub(crate) struct RoundPlan {
+    pub alloc: Global,
+    pub ahead: usize,
+}
+
+/// A line of a set, by its link.
 #[derive(Clone, Copy)]
 pub(crate) struct SetLine {
     pub link: usize,
-    pub ahead: usize,
+    pub plan: RoundPlan,
 }
 
 /// Passes the octets received on a line to its link. `out` is replaced by the octets to send.
@@ -27,10 +35,10 @@ fn hear(
     came: &[u8],
     out: &mut Vec<u8>,
 ) -> io::Result<LineChange>
-    ensures { IfOk result (λ passed. Passes line.link line.ahead came.now tender.old wire.old [] passed tender.new wire.new out.new.items) }
+    ensures { IfOk result (λ passed. Passes line.link line.plan.ahead came.now tender.old wire.old [] passed tender.new wire.new out.new.items) }
 {
     out.clear();
-    match wire.pass(tender, line.link, line.ahead, came, out) {
+    match wire.pass(tender, line.link, line.plan.ahead, came, out) {
         Ok(passed) => Ok(passed),
         Err(error) => Err(failed(error)),
     }
@@ -48,7 +56,6 @@ fn give_out<L: Lines>(lines: &mut L, link: usize, out: &[u8])
 
 /// Passes the octets received on a line to its link, and sends the octets due.
 fn pass<L: Lines, P: Reports>(
-    alloc: Global,
     tender: &mut TendedSet,
     wire: &mut LinkLine,
     lines: &mut L,
@@ -57,10 +64,11 @@ fn pass<L: Lines, P: Reports>(
     out: &mut Vec<u8>,
     reports: &mut P,
 ) -> io::Result<()>
-    ensures { OnOk result (Made (λ bytes traffic. PassesOn line.link line.ahead came.now tender.old wire.old bytes traffic tender.new wire.new)
+    ensures { OnOk result (Made (λ bytes traffic. PassesOn line.link line.plan.ahead came.now tender.old wire.old bytes traffic tender.new wire.new)
         (P.stand reports.old) (P.stand reports.new) (L.traffic lines.old) (L.traffic lines.new)) }
 {
-    let link = line.link;
+    let SetLine { link, plan } = line;
+    let alloc = plan.alloc;
     let passed = hear(tender, wire, line, came, out)?;
     give_out(lines, link, out.as_slice());
     match passed {
@@ -94,9 +102,9 @@ fn miss(tender: &mut TendedSet, link: usize) -> io::Result<()>
 
 /// Sends the octets of 1s with which a line opens.
 fn go_ahead<L: Lines>(lines: &mut L, line: SetLine)
-    ensures { Grows (L.traffic lines.old) (L.traffic lines.new) (replicate line.ahead (silence_for line.link)) }
+    ensures { Grows (L.traffic lines.old) (L.traffic lines.new) (replicate line.plan.ahead (silence_for line.link)) }
 {
-    for _octet in 0..line.ahead {
+    for _octet in 0..line.plan.ahead {
         lines.give(line.link, &[255]);
     }
 }
@@ -114,7 +122,6 @@ fn front(octets: &[u8], count: usize) -> &[u8]
 
 /// Makes a round of a line.
 fn carry<L: Lines, P: Reports>(
-    alloc: Global,
     tender: &mut TendedSet,
     wire: &mut LinkLine,
     lines: &mut L,
@@ -123,14 +130,15 @@ fn carry<L: Lines, P: Reports>(
     out: &mut Vec<u8>,
     reports: &mut P,
 ) -> io::Result<()>
-    ensures { OnOk result (Made (λ bytes traffic. Carries line.link line.ahead tender.old wire.old bytes traffic tender.new wire.new)
+    ensures { OnOk result (Made (λ bytes traffic. Carries line.link line.plan.ahead tender.old wire.old bytes traffic tender.new wire.new)
         (P.stand reports.old) (P.stand reports.new) (L.traffic lines.old) (L.traffic lines.new)) }
 {
-    let link = line.link;
+    let SetLine { link, plan } = line;
+    let alloc = plan.alloc;
     match lines.take(link, part) {
         LineNews::Octets(count) => {
             let came = front(part, count);
-            pass(alloc, tender, wire, lines, line, came, out, reports)
+            pass(tender, wire, lines, line, came, out, reports)
         }
         LineNews::Closed => miss(tender, link),
         LineNews::Ended => say_of(
@@ -159,7 +167,6 @@ fn carry<L: Lines, P: Reports>(
 
 /// Makes a round of the line at a place.
 fn carry_at<L: Lines, P: Reports>(
-    alloc: Global,
     tender: &mut TendedSet,
     wires: &mut [LinkLine],
     lines: &mut L,
@@ -169,63 +176,51 @@ fn carry_at<L: Lines, P: Reports>(
     reports: &mut P,
 ) -> io::Result<()>
     requires { line.link < length wires.old }
-    ensures { OnOk result (Made (λ bytes traffic. CarriesAt line.link line.ahead tender.old wires.old bytes traffic tender.new wires.new)
+    ensures { OnOk result (Made (λ bytes traffic. CarriesAt line.link line.plan.ahead tender.old wires.old bytes traffic tender.new wires.new)
         (P.stand reports.old) (P.stand reports.new) (L.traffic lines.old) (L.traffic lines.new)) }
 {
     let link = line.link;
-    carry(
-        alloc,
-        tender,
-        &mut wires[link],
-        lines,
-        line,
-        part,
-        out,
-        reports,
-    )
+    carry(tender, &mut wires[link], lines, line, part, out, reports)
 }
 
 /// Makes a round of all lines.
 fn carry_all<L: Lines, P: Reports>(
-    alloc: Global,
     tender: &mut TendedSet,
     wires: &mut [LinkLine],
     lines: &mut L,
-    ahead: usize,
+    plan: RoundPlan,
     part: &mut [u8],
     out: &mut Vec<u8>,
     reports: &mut P,
 ) -> io::Result<()>
-    ensures { OnOk result (Made (λ bytes traffic. CarriesAll ahead tender.old wires.old (length wires.old) bytes traffic tender.new wires.new)
+    ensures { OnOk result (Made (λ bytes traffic. CarriesAll plan.ahead tender.old wires.old (length wires.old) bytes traffic tender.new wires.new)
         (P.stand reports.old) (P.stand reports.new) (L.traffic lines.old) (L.traffic lines.new)) }
 {
     for link in 0..wires.len() {
-        let line = SetLine { link, ahead };
-        carry_at(alloc, tender, wires, lines, line, part, out, reports)?;
+        let line = SetLine { link, plan };
+        carry_at(tender, wires, lines, line, part, out, reports)?;
     }
     Ok(())
 }
 
 /// Makes a round of all lines of a link set.
 pub(crate) fn carry_lines<L: Lines, P: Reports>(
-    alloc: Global,
     tender: &mut TendedSet,
     wires: &mut Vec<LinkLine>,
     lines: &mut L,
-    ahead: usize,
+    plan: RoundPlan,
     part: &mut [u8],
     out: &mut Vec<u8>,
     reports: &mut P,
 ) -> io::Result<()>
-    ensures { OnOk result (Made (λ bytes traffic. CarriesAll ahead tender.old wires.old.items (length wires.old.items) bytes traffic tender.new wires.new.items)
+    ensures { OnOk result (Made (λ bytes traffic. CarriesAll plan.ahead tender.old wires.old.items (length wires.old.items) bytes traffic tender.new wires.new.items)
         (P.stand reports.old) (P.stand reports.new) (L.traffic lines.old) (L.traffic lines.new)) }
 {
     carry_all(
-        alloc,
         tender,
         wires.as_mut_slice(),
         lines,
-        ahead,
+        plan,
         part,
         out,
         reports,

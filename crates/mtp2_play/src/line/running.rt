@@ -3,9 +3,11 @@ ghost use Rattle.std.specs.Prelude.{◌≡◌, ◌⊎◌, ℕ, List, Option, Non
 ghost use Rattle.line_filter.specs.Filters.{MOST_AHEAD};
 ghost use Rattle.line_filter.specs.Speaking.{IsSilent};
 ghost use Rattle.script_check.specs.Checked.{given, IsGiven};
+ghost use Rattle.line_play.specs.InTurn.{HoldsNone};
 ghost use Rattle.line_play.specs.Opening.{IsNoSet};
 ghost use Rattle.line_streams.specs.Known.{known_of, left_of};
 ghost use Rattle.mtp2_words.specs.Limits.{usual_limits_of};
+ghost use Rattle.mtp2_play.specs.TracedEnds.{terminal_of};
 ghost use Rattle.mtp2_play.specs.Spoken.{AreGiven, ordered_by, SpokeBy, Spoke, SpokeOver, Begun, BegunOver, IsUntouched};
 
 use crate::line::measuring::write_measures;
@@ -198,15 +200,15 @@ fn speak_traced<H: Files<File = File> + Threads + Eprint + Clock + AllocGlobal, 
     reader: &mut R,
     writer: &mut W,
 ) -> u8
-    requires none_held { desk.old.terminal.end.held ≡ None }
+    requires none_held { HoldsNone desk.old.terminal.end }
     requires silent { IsSilent desk.old.voice }
     requires new { desk.old.count ≡ 0 }
     requires given { AreGiven end.now.orders (known_of desk.old.orders) }
     requires ordered { left_of desk.old.orders ≡ ordered_by (known_of desk.old.orders) }
-    ensures spoke { result ≡ 0 → Spoke end.now.orders desk.old.terminal.end.terminal end.now.bits (min end.now.ahead MOST_AHEAD)
+    ensures spoke { result ≡ 0 → Spoke end.now.orders (terminal_of desk.old.terminal) end.now.bits (min end.now.ahead MOST_AHEAD)
         (record { read = R.remaining reader.old; written = W.contents writer.old })
         (record { read = R.remaining reader.new; written = W.contents writer.new }) }
-    ensures begun { Begun end.now.orders desk.old.terminal.end.terminal end.now.bits (min end.now.ahead MOST_AHEAD)
+    ensures begun { Begun end.now.orders (terminal_of desk.old.terminal) end.now.bits (min end.now.ahead MOST_AHEAD)
         (record { read = R.remaining reader.old; written = W.contents writer.old })
         (record { read = R.remaining reader.new; written = W.contents writer.new }) }
     ensures status { (result ≡ 0) ⊎ (result ≡ 4) }

@@ -3,9 +3,11 @@ ghost use Rattle.std.specs.Prelude.{◌≡◌, ◌≤◌, ◌⊎◌, ℕ, List, 
 ghost use Rattle.line_filter.specs.Desks.{state_of};
 ghost use Rattle.line_filter.specs.Filters.{MOST_AHEAD, IsOver, IsBegun};
 ghost use Rattle.line_filter.specs.Speaking.{IsSilent};
+ghost use Rattle.line_play.specs.InTurn.{HoldsNone};
+ghost use Rattle.link_term.specs.Term.{ledger_of};
 ghost use Rattle.script_play.specs.TracedActs.{IsNewTracer};
 ghost use Rattle.mtp2_play.specs.Spoken.{AreGiven, ordered_by, SpokeBy, Begun};
-ghost use Rattle.mtp2_play.specs.TracedEnds.{traced_acts};
+ghost use Rattle.mtp2_play.specs.TracedEnds.{terminal_of, traced_acts};
 
 use crate::line::traces::{Trace, TracedEnd};
 use line_filter::{Bits, Desk, MOST_AHEAD, Orders, Reports, Voice, run_line};
@@ -33,7 +35,7 @@ pub fn open_traced<H: Files<File = File> + Threads + Eprint + AllocGlobal>(
 ) -> io::Result<TracedEnd<RecordStream>>
     ensures terminal { IfOk result (λ t. t.end.terminal ≡ terminal) }
     ensures none_held { IfOk result (λ t. t.end.held ≡ None) }
-    ensures new { IfOk result (λ t. IsNewTracer terminal.processes.book.set every t.trace.tracer) }
+    ensures new { IfOk result (λ t. IsNewTracer (ledger_of terminal).set every t.trace.tracer) }
 {
     let alloc = host.alloc();
     let out = match open_records(host, alloc, path) {
@@ -105,15 +107,15 @@ pub fn serve_traced<T: Write, O: Orders, P: Reports, R: Read, W: Write>(
     reader: &mut R,
     writer: &mut W,
 ) -> u8
-    requires none_held { desk.old.terminal.end.held ≡ None }
+    requires none_held { HoldsNone desk.old.terminal.end }
     requires silent { IsSilent desk.old.voice }
     requires new { desk.old.count ≡ 0 }
     ensures spoke { (octets : Option (List ℕ)) → O.left desk.old.orders ≡ ordered_by octets → result ≡ 0
-        → SpokeBy octets desk.old.terminal.end.terminal end.now.bits (min end.now.ahead MOST_AHEAD)
+        → SpokeBy octets (terminal_of desk.old.terminal) end.now.bits (min end.now.ahead MOST_AHEAD)
         (record { read = R.remaining reader.old; written = W.contents writer.old; told = P.stand desk.old.reports })
         (record { read = R.remaining reader.new; written = W.contents writer.new; told = P.stand desk.new.reports }) }
     ensures begun { (octets : Option (List ℕ)) → AreGiven end.now.orders octets → O.left desk.old.orders ≡ ordered_by octets
-        → Begun end.now.orders desk.old.terminal.end.terminal end.now.bits (min end.now.ahead MOST_AHEAD)
+        → Begun end.now.orders (terminal_of desk.old.terminal) end.now.bits (min end.now.ahead MOST_AHEAD)
         (record { read = R.remaining reader.old; written = W.contents writer.old })
         (record { read = R.remaining reader.new; written = W.contents writer.new }) }
     ensures status { (result ≡ 0) ⊎ (result ≡ 4) }

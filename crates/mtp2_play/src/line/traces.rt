@@ -1,5 +1,6 @@
 //! An end of a link with a trace.
 ghost use Rattle.std.specs.Prelude.{OnOk};
+ghost use Rattle.link_term.specs.Term.{ledger_of};
 ghost use Rattle.script_play.specs.TracedActs.{Follows};
 ghost use Rattle.mtp2_play.specs.TracedEnds.{FollowsBehind};
 
@@ -43,7 +44,7 @@ impl<W> Trace<W> {
 impl<W: Write> Trace<W> {
     /// Traces the events of the end since the last call. An error is kept.
     fn follow(&mut self, end: &LinkEnd) -> io::Result<()>
-        ensures { OnOk result (Follows end.now.terminal.processes.book self.old.tracer self.new.tracer (W.contents self.old.out) (W.contents self.new.out)) }
+        ensures { OnOk result (Follows (ledger_of end.now.terminal) self.old.tracer self.new.tracer (W.contents self.old.out) (W.contents self.new.out)) }
     {
         match self
             .tracer

@@ -2,7 +2,7 @@
 ghost use Rattle.std.specs.Prelude.{◌≡◌, ◌⊎◌, None, option_map};
 ghost use Rattle.script_check.specs.Checked.{given};
 ghost use Rattle.script_play.specs.Played.{IsOnSet, IsRefused};
-ghost use Rattle.script_play.specs.Seen.{IsPlaySeen, IsPlaySeenInPart, IsWatched, IsWatchedInPart};
+ghost use Rattle.script_play.specs.Seen.{IsWatched, IsWatchedInPart};
 ghost use Rattle.mtp2_words.specs.Limits.{usual_limits_of};
 ghost use Rattle.mtp2_words.specs.declared.requests.Named.TheVariants.{Own};
 ghost use Rattle.mtp2_play.specs.Printed.{IsPlayedOn, IsWatchedOn, path_by, wanted_for, wanted_by};
@@ -25,42 +25,6 @@ struct Watch<F> {
     out: Option<F>,
 }
 
-/// Runs a script from a reader on a set, and writes a view of the run to a file.
-#[tactic(auto, using(crate::proofs::Known::seen, crate::proofs::Known::seen_in_part, crate::proofs::Known::not_run))]
-fn see_on<H: Eprint, S: Read + Drop, T: Read + Drop, F: Write, W: Write>(
-    alloc: Global,
-    teller: &Teller<'_, H>,
-    set: SetWord<S>,
-    named: &Named<'_>,
-    name: &str,
-    script: T,
-    wanted: Wanted,
-    out: &mut F,
-    writer: &mut W,
-) -> u8
-    ensures held { result ≡ 0
-        → IsOnSet (given S.remaining set) None
-        (IsPlaySeen (usual_limits_of named.now) wanted (W.contents writer.old) (W.contents writer.new) (F.contents out.old) (F.contents out.new)) }
-    ensures missed { result ≡ 1
-        → IsOnSet (given S.remaining set) None
-        (IsPlaySeenInPart (usual_limits_of named.now) wanted (W.contents writer.old) (W.contents writer.new) (F.contents out.old) (F.contents out.new)) }
-    ensures refused { result ≡ 2 → IsRefused (given S.remaining set) None (W.contents writer.old) (W.contents writer.new) }
-    ensures status { (result ≡ 0) ⊎ (result ≡ 1) ⊎ (result ≡ 2) ⊎ (result ≡ 4) }
-{
-    let usual = named.usual_limits();
-    play_seen(
-        alloc,
-        set,
-        usual,
-        name,
-        script,
-        wanted,
-        out,
-        writer,
-        &mut teller.errors(),
-    )
-}
-
 /// Runs a script from a reader on a set, with its views: if lines are echoed, nothing goes to a file.
 #[tactic(auto, using(crate::proofs::Known::not_run))]
 fn play_on<H: Eprint, S: Read + Drop, T: Read + Drop, F: Write, W: Write>(
@@ -68,7 +32,6 @@ fn play_on<H: Eprint, S: Read + Drop, T: Read + Drop, F: Write, W: Write>(
     teller: &Teller<'_, H>,
     set: SetWord<S>,
     named: &Named<'_>,
-    name: &str,
     script: T,
     watch: &mut Watch<F>,
     writer: &mut W,
@@ -84,6 +47,7 @@ fn play_on<H: Eprint, S: Read + Drop, T: Read + Drop, F: Write, W: Write>(
     ensures refused { result ≡ 2 → IsRefused (given S.remaining set) None (W.contents writer.old) (W.contents writer.new) }
     ensures status { (result ≡ 0) ⊎ (result ≡ 1) ⊎ (result ≡ 2) ⊎ (result ≡ 4) }
 {
+    let name = set_word(named);
     let usual = named.usual_limits();
     let (echo, wanted) = (watch.echo, watch.wanted);
     let mut errors = teller.errors();
@@ -91,7 +55,17 @@ fn play_on<H: Eprint, S: Read + Drop, T: Read + Drop, F: Write, W: Write>(
         return play(alloc, set, usual, name, script, echo, writer, &mut errors);
     }
     match &mut watch.out {
-        Some(out) => see_on(alloc, teller, set, named, name, script, wanted, out, writer),
+        Some(out) => play_seen(
+            alloc,
+            set,
+            usual,
+            name,
+            script,
+            wanted,
+            out,
+            writer,
+            &mut errors,
+        ),
         None => play(alloc, set, usual, name, script, echo, writer, &mut errors),
     }
 }
@@ -102,7 +76,6 @@ fn play_source<R: Runtime + AllocGlobal, H: Eprint, S: Read + Drop, F: Write, W:
     teller: &Teller<'_, H>,
     set: SetWord<S>,
     named: &Named<'_>,
-    name: &str,
     script: Source<'_>,
     watch: &mut Watch<F>,
     writer: &mut W,
@@ -121,7 +94,7 @@ fn play_source<R: Runtime + AllocGlobal, H: Eprint, S: Read + Drop, F: Write, W:
     match script {
         Source::Stdin => {
             let script = NamedReader::new(teller, STDIN, rt.reader());
-            play_on(rt.alloc(), teller, set, named, name, script, watch, writer)
+            play_on(rt.alloc(), teller, set, named, script, watch, writer)
         }
         Source::File(path) => match fs::open(rt, path) {
             Ok(file) => play_on(
@@ -129,7 +102,6 @@ fn play_source<R: Runtime + AllocGlobal, H: Eprint, S: Read + Drop, F: Write, W:
                 teller,
                 set,
                 named,
-                name,
                 NamedReader::new(teller, path, file),
                 watch,
                 writer,
@@ -153,16 +125,7 @@ fn play_own<R: Runtime + AllocGlobal, H: Eprint, F: Write, W: Write>(
     ensures status { (result ≡ 0) ⊎ (result ≡ 1) ⊎ (result ≡ 2) ⊎ (result ≡ 4) }
 {
     let named = Named::Own(own);
-    play_source(
-        rt,
-        teller,
-        own_set(own),
-        &named,
-        own.word(),
-        script,
-        watch,
-        writer,
-    )
+    play_source(rt, teller, own_set(own), &named, script, watch, writer)
 }
 
 /// Runs a script on a set whose text comes from a reader.
@@ -171,7 +134,6 @@ fn play_text<R: Runtime + AllocGlobal, H: Eprint, S: Read + Drop, F: Write, W: W
     rt: &R,
     teller: &Teller<'_, H>,
     named: &Named<'_>,
-    name: &str,
     text: S,
     script: Source<'_>,
     watch: &mut Watch<F>,
@@ -188,16 +150,8 @@ fn play_text<R: Runtime + AllocGlobal, H: Eprint, S: Read + Drop, F: Write, W: W
     ensures refused { result ≡ 2 → IsRefused None None (W.contents writer.old) (W.contents writer.new) }
     ensures status { (result ≡ 0) ⊎ (result ≡ 1) ⊎ (result ≡ 2) ⊎ (result ≡ 4) }
 {
-    play_source(
-        rt,
-        teller,
-        SetWord::Text(text),
-        named,
-        name,
-        script,
-        watch,
-        writer,
-    )
+    let set = SetWord::Text(text);
+    play_source(rt, teller, set, named, script, watch, writer)
 }
 
 /// Runs `play` on the set and the script that the command line names, with a view of the run in a file, if there is
@@ -218,21 +172,12 @@ fn run_watched<R: Runtime + AllocGlobal, H: Eprint, F: Write, W: Write>(
         Named::Own(own) => play_own(rt, teller, own, script, watch, writer),
         Named::Stdin => {
             let text = NamedReader::new(teller, STDIN, rt.reader());
-            play_text(
-                rt,
-                teller,
-                &set,
-                set_word(&set),
-                text,
-                script,
-                watch,
-                writer,
-            )
+            play_text(rt, teller, &set, text, script, watch, writer)
         }
         Named::File(path) => match fs::open(rt, path) {
             Ok(file) => {
                 let text = NamedReader::new(teller, path, file);
-                play_text(rt, teller, &set, path, text, script, watch, writer)
+                play_text(rt, teller, &set, text, script, watch, writer)
             }
             Err(error) => teller.fail(path, &error),
         },

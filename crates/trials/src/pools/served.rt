@@ -1,7 +1,7 @@
 //! Links that a pool serves.
 
 use crate::calls::Stopped;
-use crate::pools::wanderer::{Made, NAMES, Wanderer, Way};
+use crate::pools::wanderer::{Made, NAMES, Walk, Wanderer, Way};
 use crate::rounds::clock::now;
 use crate::run::number;
 use crate::texts::{accepted, text_of};
@@ -230,9 +230,12 @@ fn serve_links<R: Runtime + AllocGlobal + Threads + Wait + Sync>(
         None => None,
     };
     let start = now(rt)?;
-    let mut client = Wanderer::new(
-        rt, set, ways, plan.links, plan.seed, plan.steps, time, start,
-    );
+    let walk = Walk {
+        seed: plan.seed,
+        links: plan.links,
+        steps: plan.steps,
+    };
+    let mut client = Wanderer::new(rt, set, ways, walk, time, start);
     let gate = Still {
         looks: plan.seed % 2 == 1,
     };

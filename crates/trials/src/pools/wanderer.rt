@@ -35,6 +35,14 @@ pub struct Way {
     pub signal: SignalNumber,
 }
 
+/// How a client goes: its seed, the number of its links, and the number of its steps.
+#[derive(Clone, Copy)]
+pub struct Walk {
+    pub seed: u32,
+    pub links: u32,
+    pub steps: u32,
+}
+
 /// The refusals that are counted, by name; the last stands for all others.
 pub const NAMES: [&str; 8] = [
     "B1 Full",
@@ -90,15 +98,13 @@ fn place_of(refusal: PoolRefusal) -> usize {
 }
 
 impl<'a, C: Clock> Wanderer<'a, C> {
-    /// A client of this many links of a set, with the signals that routes bring there and a seed. It makes a number of
-    /// steps, or goes on for a duration from a time on.
+    /// A client of links of a set, with the signals that routes bring there. It makes a number of steps, or goes on for
+    /// a duration from a time on.
     pub fn new(
         rt: &'a C,
         set: &'a Verified,
         ways: &'a [Way],
-        links: u32,
-        seed: u32,
-        steps: u32,
+        walk: Walk,
         time: Option<Duration>,
         start: Instant,
     ) -> Wanderer<'a, C> {
@@ -107,10 +113,10 @@ impl<'a, C: Clock> Wanderer<'a, C> {
             set,
             ways,
             draws: Draws {
-                state: u64::from(seed),
+                state: u64::from(walk.seed),
             },
-            links,
-            left: steps,
+            links: walk.links,
+            left: walk.steps,
             time,
             start,
             made: Made {

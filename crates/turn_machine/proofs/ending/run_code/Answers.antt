@@ -6,7 +6,7 @@ use Rattle.turn_machine.proofs.ending.run_code.Goals as goal
 pub execute-end-requires : goal.execute-end-requires
 execute-end-requires c =
     begun_so (record { code = c.args.code; sender = c.args.input.now.sender; sorts = c.args.sorts }) c.args.input.now c.args.certificate c.words_of-words.result
-    c.begin.new.machine.effects.items c.requires refl c.words_of-words.ensures c.begin.ensures
+    c.begin.new.machine.effects.items c.requires refl c.words_of-words.ensures.words c.begin.ensures
 
 pub returns-clause-ran : goal.returns-clause-ran
 returns-clause-ran c =

@@ -7,9 +7,9 @@ loop-link-init g c = carried_none _ _ _ _ _
 
 pub loop-link-preserved : goal.loop-link-preserved
 loop-link-preserved g c =
-    carried_more c.args.ahead c.loop-link.link c.args.tender.now c.loop-link.tender c.carry_at.new.tender c.args.wires.now c.loop-link.wires c.carry_at.new.wires
+    carried_more c.args.plan.ahead c.loop-link.link c.args.tender.now c.loop-link.tender c.carry_at.new.tender c.args.wires.now c.loop-link.wires c.carry_at.new.wires
     (g.P.Reports.stand c.args.reports.now) (g.P.Reports.stand c.loop-link.reports) (g.P.Reports.stand c.carry_at.new.reports)
     (g.L.Lines.traffic c.args.lines.now) (g.L.Lines.traffic c.loop-link.lines) (g.L.Lines.traffic c.carry_at.new.lines) c.loop-link.invariant c.in_ok-carry_at.ensures
 
 pub returns : goal.returns
-returns g c = carried_count c.args.ahead c.loop-link.link _ _ _ _ _ _ _ _ _ (omega arith) c.loop-link.invariant
+returns g c = carried_count c.args.plan.ahead c.loop-link.link _ _ _ _ _ _ _ _ _ (omega arith) c.loop-link.invariant

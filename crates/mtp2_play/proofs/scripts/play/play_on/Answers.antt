@@ -9,7 +9,8 @@ returns-then-echo-clause-held g c zero =
     with_lines _ _ _ _ _ _ _ _ _ c.if-echo.true (Known.played _ _ _ _ _ _ _ c.usual_limits-usual.ensures (c.play.ensures.held zero))
 
 pub returns-in-Some-clause-held : goal.returns-in-Some-clause-held
-returns-in-Some-clause-held g c zero = with_file _ _ _ _ _ _ _ _ _ _ _ c.if-echo.false (ap (option_map g.F.Write.contents) c.in-Some.is) refl (c.see_on.ensures.held zero)
+returns-in-Some-clause-held g c zero = with_file _ _ _ _ _ _ _ _ _ _ _ c.if-echo.false (ap (option_map g.F.Write.contents) c.in-Some.is) refl
+    (Known.seen _ _ _ _ _ _ _ _ _ c.usual_limits-usual.ensures (c.play_seen.ensures.held zero))
 
 pub returns-in-None-clause-held : goal.returns-in-None-clause-held
 returns-in-None-clause-held g c zero =
@@ -20,7 +21,8 @@ returns-then-echo-clause-missed g c one =
     with_lines_in_part _ _ _ _ _ _ _ _ _ c.if-echo.true (Known.in_part _ _ _ _ _ _ _ c.usual_limits-usual.ensures (c.play.ensures.missed one))
 
 pub returns-in-Some-clause-missed : goal.returns-in-Some-clause-missed
-returns-in-Some-clause-missed g c one = with_file_in_part _ _ _ _ _ _ _ _ _ _ _ c.if-echo.false (ap (option_map g.F.Write.contents) c.in-Some.is) refl (c.see_on.ensures.missed one)
+returns-in-Some-clause-missed g c one = with_file_in_part _ _ _ _ _ _ _ _ _ _ _ c.if-echo.false (ap (option_map g.F.Write.contents) c.in-Some.is) refl
+    (Known.seen_in_part _ _ _ _ _ _ _ _ _ c.usual_limits-usual.ensures (c.play_seen.ensures.missed one))
 
 pub returns-in-None-clause-missed : goal.returns-in-None-clause-missed
 returns-in-None-clause-missed g c one =

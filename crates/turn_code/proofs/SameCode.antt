@@ -1,7 +1,8 @@
--- Instructions that `==` reports as equal are equal.
-use Rattle.std.proofs.Common.{◌≡◌, ℕ, ℤ, Bool as Truth, true, false, ◌&&◌, eqb, refl, sym, ap, true≢false}
+-- `==` decides whether two instructions are equal.
+use Rattle.std.proofs.Common.{◌≡◌, ℕ, ℤ, Bool as Truth, true, false, ◌&&◌, eqb, refl, sym, ap, subst, true≢false}
+use Rattle.std.specs.Bool.{Decides}
 use Rattle.std.specs.Ordering.{int_eq}
-use Rattle.std.proofs.lemmas.Bool.{and_parts, eqb-true}
+use Rattle.std.proofs.lemmas.Bool.{and_from, and_parts, eq-eqb, eqb-true}
 use Rattle.std.proofs.lemmas.Bool.Decides.{Decides-int_eq}
 use Rattle.turn_code.specs.declared.input.Party.{Party}
 use Rattle.turn_code.specs.declared.input.Party.TheVariants.{Environment, Process}
@@ -14,7 +15,10 @@ use Rattle.turn_code.specs.declared.instruction.Instruction.TheVariants.{Int as 
 use Rattle.turn_code.specs.contracts.input.PartyPartialEq.TheImpl as party_eq
 use Rattle.turn_code.specs.contracts.instruction.ReceiverPartialEq.TheImpl as receiver_eq
 use Rattle.turn_code.specs.contracts.instruction.RelationPartialEq.TheImpl as relation_eq
-use Rattle.draw_diff.specs.Renaming.{same_instruction}
+use Rattle.turn_code.specs.contracts.instruction.InstructionPartialEq.TheImpl as instruction_eq
+
+abbrev pub same_instruction : Instruction → Instruction → Truth
+same_instruction i j = (instruction_eq.ghosts).eq i j
 
 truth_same : (a x : Truth) → same_instruction (PutBool a) (PutBool x) ≡ true → a ≡ x
 truth_same true true h = refl
@@ -98,3 +102,64 @@ instruction_same (Reset a) (Reset x) h = ap (λ n. Reset (record { 0 = n })) (eq
 instruction_same (Next a) (Next x) h = ap (λ n. Next (record { 0 = n })) (eqb-true a.0 x.0 h)
 instruction_same Stop Stop h = refl
 instruction_same i j h = absurd (true≢false (sym h))
+
+-- ---- each is equal to itself
+
+number_itself : (n : ℕ) → eqb n n ≡ true
+number_itself n = eq-eqb n n refl
+
+integer_itself : (z : ℤ) → int_eq z z ≡ true
+integer_itself z = (Decides-int_eq z z).1 refl
+
+relation_itself : (r : Relation) → (relation_eq.ghosts).eq r r ≡ true
+relation_itself Equal = refl
+relation_itself NotEqual = refl
+relation_itself Less = refl
+relation_itself LessEqual = refl
+relation_itself Greater = refl
+relation_itself GreaterEqual = refl
+
+receiver_itself : (r : Receiver) → (receiver_eq.ghosts).eq r r ≡ true
+receiver_itself ToSender = refl
+receiver_itself (ToParty Environment) = refl
+receiver_itself (ToParty (Process p)) = number_itself p.0
+
+instruction_itself : (i : Instruction) → same_instruction i i ≡ true
+instruction_itself (PutInt a) = integer_itself a
+instruction_itself (PutBool true) = refl
+instruction_itself (PutBool false) = refl
+instruction_itself (Load a) = number_itself a.0
+instruction_itself (Store a) = number_itself a.0
+instruction_itself (Param a) = number_itself a
+instruction_itself Add = refl
+instruction_itself Sub = refl
+instruction_itself Mul = refl
+instruction_itself (Div a) = integer_itself a
+instruction_itself (Mod a) = integer_itself a
+instruction_itself (Rem a) = integer_itself a
+instruction_itself Neg = refl
+instruction_itself Not = refl
+instruction_itself And = refl
+instruction_itself Or = refl
+instruction_itself Xor = refl
+instruction_itself Same = refl
+instruction_itself (Compare a) = relation_itself a
+instruction_itself (Case a b c) =
+    and_from ((relation_eq.ghosts).eq a a) (int_eq b b && eqb c.0 c.0) (relation_itself a)
+    (and_from (int_eq b b) (eqb c.0 c.0) (integer_itself b) (number_itself c.0))
+instruction_itself (CaseWithin a b c) =
+    and_from (eqb a.0 a.0) (int_eq b b && int_eq c c) (number_itself a.0)
+    (and_from (int_eq b b) (int_eq c c) (integer_itself b) (integer_itself c))
+instruction_itself (Pick a b) = and_from (eqb a.0 a.0) (eqb b.0 b.0) (number_itself a.0) (number_itself b.0)
+instruction_itself Drop = refl
+instruction_itself (Jump a) = number_itself a.0
+instruction_itself (Output a b c) =
+    and_from (eqb a.0 a.0) ((receiver_eq.ghosts).eq b b && eqb c c) (number_itself a.0)
+    (and_from ((receiver_eq.ghosts).eq b b) (eqb c c) (receiver_itself b) (number_itself c))
+instruction_itself (Set a) = number_itself a.0
+instruction_itself (Reset a) = number_itself a.0
+instruction_itself (Next a) = number_itself a.0
+instruction_itself Stop = refl
+
+pub same_if_equal : (i j : Instruction) → Decides (same_instruction i j) (i ≡ j)
+same_if_equal i j = (instruction_same i j, λ e. subst (λ k. same_instruction i k ≡ true) e (instruction_itself i))
