@@ -36,6 +36,28 @@ def found_at(text, why):
     return why.at if off is None else off
 
 
+def shown(name, text, place, fault, said, under="", hint="", last=None, most=LONGEST):
+    """The lines that point at a word of a text with this name; only the first of them if the text is too long, or the
+    word's line has more than `most` octets. The word ends at `last`, or where its token does."""
+    line = str(line_of(text, place))
+    begin = text.rfind(b"\n", 0, place) + 1
+    before = text[begin:place].decode(errors="replace")
+    head = f"{name}:{line}:{len(before) + 1}: {fault}{behind(': ', said)}"
+    end = (text + b"\n").find(b"\n", place)
+    if len(text) > LONGEST or end - begin > most:
+        return [head]
+    last = ends(text, place) if last is None else last
+    width = max(1, len(text[place : min(last, end)].decode(errors="ignore")))
+    margin = " " * len(line)
+    blanks = "".join(it if it == "\t" else " " for it in before)
+    lines = [
+        head,
+        f"{line} | {CONTROL.sub(' ', text[begin:end].decode())}",
+        f"{margin} | {blanks}{'^' * width}{behind(' ', under)}",
+    ]
+    return lines + ([f"{margin} = {hint}"] if hint else [])
+
+
 def points(name, text):
     """The lines that point at the refusal of a text with this name."""
     try:
@@ -45,24 +67,9 @@ def points(name, text):
     why = refusal(text)
     fault, _, _ = str(why).partition(" line ")
     place = found_at(text, why)
-    line = str(line_of(text, place))
-    begin = text.rfind(b"\n", 0, place) + 1
-    before = text[begin:place].decode(errors="replace")
     said, under, hint = reasons(text, why)
-    head = f"{name}:{line}:{len(before) + 1}: {fault}{behind(': ', said)}"
-    if len(text) > LONGEST:
-        return [head]
-    end = (text + b"\n").find(b"\n", place)
-    last = place + 1 if fault.startswith("L") or not text else ends(text, place)
-    width = max(1, len(text[place : min(last, end)].decode(errors="ignore")))
-    margin = " " * len(line)
-    blanks = "".join(it if it == "\t" else " " for it in before)
-    shown = [
-        head,
-        f"{line} | {CONTROL.sub(' ', text[begin:end].decode())}",
-        f"{margin} | {blanks}{'^' * width}{behind(' ', under)}",
-    ]
-    return shown + ([f"{margin} = {hint}"] if hint else [])
+    last = place + 1 if fault.startswith("L") or not text else None
+    return shown(name, text, place, fault, said, under, hint, last)
 
 
 def differs(name, text, said):

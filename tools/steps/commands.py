@@ -1,6 +1,7 @@
 """Runs the built program on command lines, and compares standard output, standard error and the status with the
-expected ones: the table examples/commands.txt, the refused texts of examples/pointed.txt, and the examples of README.md
-and docs/: a line `    $ COMMAND`, with its output on the lines below it; a line `..` there stands for any lines.
+expected ones: the table examples/commands.txt, the refused texts of examples/pointed.txt, the texts with warnings of
+examples/warnings.txt, and the examples of README.md and docs/: a line `    $ COMMAND`, with its output on the lines
+below it; a line `..` there stands for any lines.
 
 usage: tools/steps/commands            of crates/mtp2_play/out/mtp2_play, or of the program that MTP2_PLAY names
        tools/steps/commands --list     prints the command lines of the table
@@ -20,6 +21,8 @@ import subprocess
 import sys
 import tempfile
 
+from tools.oracles.plain_point import shown as pointed_at
+from tools.oracles.plain_warnings import MOST_SHOWN
 from tools.steps import examples
 from tools.steps.built import LIMIT, PLAY, ROOT, Count, Run, differs, missing
 
@@ -27,6 +30,7 @@ TABLE = ROOT / "examples" / "commands.txt"
 COPIES = re.compile(rb"%(\d+)\{([^}]*)\}")
 OCTET = re.compile(rb"<([0-9A-F]{2})>")
 PRINTED = re.compile(r"<TEXT ([\w.]+)>")
+MARK = re.compile(r"<W[0-9]+>")
 COPIED = re.compile(r"<FILE ([\w.]+)>")
 
 
@@ -128,6 +132,40 @@ def points(folder, given, said):
     return wrong and f"of standard error {wrong}"
 
 
+def warned():
+    """Each text of warnings.txt: its name, its octets, and each warning with its place."""
+    for name, text, said in examples.parted("warnings.txt"):
+        places, whole_text = [], ""
+        for piece in re.split(r"(<W[0-9]+>)", examples.copied(text).rstrip("\n")):
+            if MARK.fullmatch(piece):
+                places.append((len(whole_text.encode()), piece[1:-1]))
+            else:
+                whole_text += piece
+        lines = [it for it in said.split("\n") if it]
+        if [code for _, code in places] != [it.split(" ")[0] for it in lines]:
+            sys.exit(f"warnings.txt, {name}: {len(places)} marks for {len(lines)} lines, or others")
+        found = [(place, *line.split(": ", 1)) for (place, _), line in zip(places, lines)]
+        yield f"warnings.txt, {name}", whole_text.encode(), found
+
+
+def warns(folder, given, found):
+    """What is wrong with what the check of a text warns of, if something is."""
+    lines = [
+        line
+        for place, fault, said in found
+        for line in pointed_at("stdin", given, place, fault, said, most=MOST_SHOWN)
+    ]
+    wanted = "".join(f"{it}\n" for it in lines).encode()
+    for word, status in ("--warn", 0), ("--warn=error", 1 if found else 0):
+        run = Run(["check", word, "stdin"], given, folder=folder)
+        if run.status != status or not run.wrote.endswith(b"accepted\n"):
+            return f"status {run.status}; it wrote {run.wrote[-100:]!r} and said {run.said[-300:]!r}"
+        wrong = differs(wanted, run.said)
+        if wrong:
+            return f"of standard error {wrong}"
+    return None
+
+
 def documents():
     """Each example of a document: its command, and a pattern of what it prints."""
     for path in [ROOT / "README.md", *sorted((ROOT / "docs").glob("*.md"))]:
@@ -171,6 +209,7 @@ def main(words):
         (folder / "examples").symlink_to(ROOT / "examples")
         count.all(table(folder, printed), fault)
         count.all([(name, folder, *rest) for name, *rest in pointed()], points)
+        count.all([(name, folder, *rest) for name, *rest in warned()], warns)
         count.all(list(documents()), shown)
     return count.end()
 

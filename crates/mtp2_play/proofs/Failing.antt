@@ -2,6 +2,7 @@
 use Rattle.std.proofs.Common.{◌≡◌, ◌⊎◌, ℕ, List, [], ◌∷◌, Option, None, inl, inr, refl, sym, subst, arith}
 use Rattle.line_filter.specs.Filters.{Line as Octets}
 use Rattle.mtp2_words.specs.declared.requests.Named.{Named}
+use Rattle.mtp2_words.specs.declared.requests.Warned.{Warned}
 use Rattle.mtp2_words.specs.declared.requests.Request.{Request}
 use Rattle.mtp2_words.specs.declared.requests.Request.TheVariants.{Check, Play, Soak, Line, Tend, Frame, Draw, Print, Diff}
 use Rattle.mtp2_play.specs.Compared.{IsCompared}
@@ -19,10 +20,10 @@ not_refused : {A : Type 0} → ◌≡◌ {A = ℕ} 4 2 → A
 not_refused h = absurd (omega (arith, h))
 
 -- a check of sets that failed
-sets_failed : (sets : List Named) (old new : Option (List ℕ)) → AreCheckedAll sets 4 old new
-sets_failed sets old new = record {
-  one = λ set is. record { costs = not_done; refusal = not_refused; ends = inr (inr refl) };
-  ends = inr (inr refl);
+sets_failed : (sets : List Named) (warned : Warned) (old new : Option (List ℕ)) → AreCheckedAll sets warned 4 old new
+sets_failed sets warned old new = record {
+  one = λ set is. record { costs = not_done; counted = not_missed; clean = λ asked. not_done; refusal = not_refused; ends = inr (inr (inr refl)) };
+  ends = inr (inr (inr refl));
 }
 
 -- a comparison of sets that failed
@@ -35,7 +36,7 @@ diff_failed one other old new = record {
 
 -- the command failed, so only this is known: its output on a line is a beginning of a run's
 pub failed : (request : Request) (status : ℕ) (old new : Octets) → IsAnswered request status old new → IsAnswered request 4 old new
-failed (Check sets) status old new are = sets_failed sets.items old.written new.written
+failed (Check sets warned) status old new are = sets_failed sets.items warned old.written new.written
 failed (Play set script seen) status old new are = record { held = not_done; missed = not_missed; refused = not_refused }
 failed (Soak script workers) status old new are = record {
   held = not_done;
@@ -58,7 +59,7 @@ failed (Diff one other) status old new are = diff_failed (own_text_of one) (own_
 
 -- the command failed before anything was read or written
 pub not_begun : (request : Request) (there : Octets) → IsAnswered request 4 there there
-not_begun (Check sets) there = sets_failed sets.items there.written there.written
+not_begun (Check sets warned) there = sets_failed sets.items warned there.written there.written
 not_begun (Play set script seen) there = record { held = not_done; missed = not_missed; refused = not_refused }
 not_begun (Soak script workers) there = record {
   held = not_done;

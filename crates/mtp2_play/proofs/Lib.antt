@@ -1,3 +1,4 @@
+mod CheckedSets
 mod Comparing
 mod Failing
 mod InTurn
@@ -6,4 +7,5 @@ mod Mapped
 mod Serving
 mod Speaking
 mod Tracing
+mod Warnings
 mod Written

@@ -1,3 +1,4 @@
+pub mod Checking
 pub mod Compared
 pub mod Measured
 pub mod Printed
@@ -6,3 +7,4 @@ pub mod SetRuns
 pub mod Sets
 pub mod Spoken
 pub mod TracedEnds
+pub mod Warned

@@ -6,7 +6,7 @@ use Rattle.std.specs.Io.KnownBytes.{Appends}
 use Rattle.clap.specs.declared.error.kind.ErrorKind.{ErrorKind}
 use Rattle.clap.specs.declared.error.kind.ErrorKind.TheVariants.{DisplayHelp, DisplayVersion}
 use Rattle.plain_laws.specs.Limits.{LEAST_WORKERS, MOST_WORKERS}
-use Rattle.script_check.specs.Checked.{IsGiven, PrintsCosts, PrintsRefusal}
+use Rattle.script_check.specs.Checked.{IsGiven}
 use Rattle.script_play.specs.Played.{IsOnSet, IsPlayed, IsPlayedInPart, IsRefused}
 use Rattle.script_play.specs.Seen.{IsWatched, IsWatchedInPart}
 use Rattle.script_play.specs.declared.seeing.Wanted.{Wanted}
@@ -21,6 +21,7 @@ use Rattle.mtp2_play.specs.SetRuns.{RanOver, plan_of}
 use Rattle.mtp2_play.specs.Spoken.{SpokeOver, BegunOver, IsUntouched}
 use Rattle.resend_store.specs.declared.messages.RoundLimits.{RoundLimits}
 use Rattle.mtp2_words.specs.declared.ends.LineEnd.{LineEnd}
+use Rattle.mtp2_play.specs.Checking.{IsCheckedBytes}
 use Rattle.mtp2_play.specs.Compared.{IsCompared}
 use Rattle.mtp2_play.specs.Sets.{own_text_of}
 use Rattle.mtp2_words.specs.Limits.{usual_limits_of}
@@ -31,6 +32,7 @@ use Rattle.mtp2_words.specs.declared.seeing.Sight.{Sight}
 use Rattle.mtp2_words.specs.declared.seeing.Sight.TheVariants as sights
 use Rattle.mtp2_words.specs.declared.seeing.Turns.{Turns}
 use Rattle.mtp2_words.specs.declared.requests.Named.{Named}
+use Rattle.mtp2_words.specs.declared.requests.Warned.{Warned}
 use Rattle.mtp2_words.specs.declared.requests.Request.{Request}
 use Rattle.mtp2_words.specs.declared.requests.Request.TheVariants.{Check, Play, Soak, Line, Frame}
 use Rattle.mtp2_words.specs.declared.requests.Request.TheVariants.{Tend, Draw, Print, Diff}
@@ -47,17 +49,21 @@ IsFault kind = (kind ≢ DisplayHelp) × (kind ≢ DisplayVersion)
 abbrev pub IsDone : ℕ → Type 0
 IsDone status = (status ≡ 0) ⊎ (status ≡ 2) ⊎ (status ≡ 4)
 
--- the output of `check` for a set: its costs, or why it is refused
-pub record IsChecked (set : Named) (status : ℕ) (old new : Option (List ℕ)) : Type 0 where
-  pub costs : status ≡ 0 → IsGiven (own_text_of set) (PrintsCosts old new)
-  pub refusal : status ≡ 2 → IsGiven (own_text_of set) (PrintsRefusal old new)
-  pub ends : IsDone status
+-- the exit statuses of `check`: done, accepted with warnings that count, refused, failed
+abbrev pub IsCheckedBy : ℕ → Type 0
+IsCheckedBy status = (status ≡ 0) ⊎ (status ≡ 1) ⊎ (status ≡ 2) ⊎ (status ≡ 4)
+
+-- the output of `check` for a set: its costs, or why it is refused; and whether it has a warning,
+-- if these count
+abbrev pub IsChecked : Named → Warned → ℕ → Option (List ℕ) → Option (List ℕ) → Type 0
+IsChecked set warned status old new = IsCheckedBytes (own_text_of set) warned status old new
 
 -- The output of `check` for the named sets: for a single one its costs, or why it is refused. For
 -- several, only the status is stated.
-pub record AreCheckedAll (sets : List Named) (status : ℕ) (old new : Option (List ℕ)) : Type 0 where
-  pub one : (set : Named) → sets ≡ set ∷ [] → IsChecked set status old new
-  pub ends : IsDone status
+pub record AreCheckedAll (sets : List Named) (warned : Warned) (status : ℕ)
+    (old new : Option (List ℕ)) : Type 0 where
+  pub one : (set : Named) → sets ≡ set ∷ [] → IsChecked set warned status old new
+  pub ends : IsCheckedBy status
 
 -- the output of `play` for a script on a set: that of its commands, of those before a failed
 -- expectation, or why nothing ran; with an echo of its lines if requested
@@ -150,8 +156,8 @@ pub record IsPrinted (set : OwnSet) (status : ℕ) (old new : Option (List ℕ))
 
 -- the output of a request, and its exit status; only `line` reads the octets that are passed here
 abbrev pub IsAnswered : Request → ℕ → Octets → Octets → Type 0
-IsAnswered (Check sets) status old new =
-    AreCheckedAll sets.items status old.written new.written
+IsAnswered (Check sets warned) status old new =
+    AreCheckedAll sets.items warned status old.written new.written
 IsAnswered (Play set script seen) status old new =
     IsPlayedOn set seen.echo status old.written new.written
 IsAnswered (Soak script workers) status old new = IsServed workers status old.written new.written

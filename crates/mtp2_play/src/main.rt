@@ -26,7 +26,7 @@ use crate::text::draw::{picture_of, run_draw};
 use crate::text::print::print_own;
 use line_streams::{Plan, open_records, tap};
 use mtp2_frame::frame;
-use mtp2_words::{Error, ErrorKind, Request, read};
+use mtp2_words::{Error, ErrorKind, Request, read, respelled};
 use plain_text::{DONE, FAILED, Teller, USAGE};
 use std::fs::File;
 use std::io::{self, Read, Write};
@@ -61,7 +61,7 @@ fn run<
     ensures status { (result ≡ 0) ⊎ (result ≡ 1) ⊎ (result ≡ 2) ⊎ (result ≡ 4) }
 {
     match request {
-        Request::Check { sets } => run_checks(rt, teller, sets, writer),
+        Request::Check { sets, warned } => run_checks(rt, teller, sets, *warned, writer),
         Request::Play { set, script, seen } => { run_play(rt, teller, *set, *script, seen, writer) }
         Request::Soak { .. } => FAILED,
         Request::Line { set, end } => run_line(host, teller, set, end, reader, writer),
@@ -170,6 +170,21 @@ struct CommandLine {
     _third: File,
 }
 
+/// The words of the command line. `--warn=error` before a word `--` is the option `--warn-error`.
+fn read_words<R: Runtime + AllocGlobal>(rt: &R) -> io::Result<Vec<String>> {
+    let mut given = Vec::new(rt.alloc());
+    let mut options = true;
+    for word in env::args(rt)? {
+        options &= word.as_str() != "--";
+        if options {
+            given.push(respelled(rt.alloc(), word)?)?;
+        } else {
+            given.push(word)?;
+        }
+    }
+    Ok(given)
+}
+
 /// Reads the command line.
 ///
 /// A new file gets the lowest free number. Three are opened first, so none gets that of a closed standard stream.
@@ -180,7 +195,7 @@ fn start<R: Runtime + AllocGlobal, H: Files<File = File>>(
     let _first = fs::open(host, CLOSED)?;
     let _second = fs::open(host, CLOSED)?;
     let _third = fs::open(host, CLOSED)?;
-    let given: Vec<String> = env::args(rt)?.collect(rt.alloc())?;
+    let given = read_words(rt)?;
     Ok(CommandLine {
         given,
         _first,

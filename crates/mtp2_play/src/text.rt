@@ -5,3 +5,5 @@ pub mod diff;
 pub mod draw;
 pub mod print;
 pub mod sets;
+pub mod told;
+pub mod warned;

@@ -59,7 +59,7 @@ sees given words o under h = IfSome_then o h (λ seen s. record { words = words;
 pub plays : (given : Given) (set_word script_word : Text) (wanted : Seeing) (request : Request) → Some set_word ≡ given (codes "SET")
     → Some script_word ≡ given (codes "SCRIPT") → AsksSeen given wanted → IsPlay set_word script_word wanted request
     → IsAsked given request
-plays given set_word script_word wanted (Check sets) e f a h = absurd h
+plays given set_word script_word wanted (Check sets warned) e f a h = absurd h
 plays given set_word script_word wanted (Play set script seen) e f a h = record {
   set_is = some_word (given (codes "SET")) set_word (IsNamed set) e h.0.set_is;
   script_is = some_word (given (codes "SCRIPT")) script_word (IsSource script) f h.0.script_is;
@@ -75,7 +75,7 @@ plays given set_word script_word wanted (Print set) e f a h = absurd h
 plays given set_word script_word wanted (Diff old new) e f a h = absurd h
 
 pub is_play : (set_word script_word : Text) (wanted : Seeing) (request : Request) → IsPlay set_word script_word wanted request → command_of request ≡ codes "play"
-is_play set_word script_word wanted (Check sets) h = absurd h
+is_play set_word script_word wanted (Check sets warned) h = absurd h
 is_play set_word script_word wanted (Play set script seen) h = refl
 is_play set_word script_word wanted (Soak script workers) h = absurd h
 is_play set_word script_word wanted (Line set end) h = absurd h
@@ -86,7 +86,7 @@ is_play set_word script_word wanted (Print set) h = absurd h
 is_play set_word script_word wanted (Diff old new) h = absurd h
 
 pub play_all : (rows : List Row) (set_word script_word : Text) (wanted : Seeing) (request : Request) → IsPlay set_word script_word wanted request → AreAllAsked rows request
-play_all rows set_word script_word wanted (Check sets) h = absurd h
+play_all rows set_word script_word wanted (Check sets warned) h = absurd h
 play_all rows set_word script_word wanted (Play set script seen) h = tt
 play_all rows set_word script_word wanted (Soak script workers) h = tt
 play_all rows set_word script_word wanted (Line set end) h = tt
@@ -97,7 +97,7 @@ play_all rows set_word script_word wanted (Print set) h = tt
 play_all rows set_word script_word wanted (Diff old new) h = tt
 
 pub soak_all : (rows : List Row) (script_word workers_word : Text) (request : Request) → IsSoak script_word workers_word request → AreAllAsked rows request
-soak_all rows script_word workers_word (Check sets) h = absurd h
+soak_all rows script_word workers_word (Check sets warned) h = absurd h
 soak_all rows script_word workers_word (Play set script seen) h = tt
 soak_all rows script_word workers_word (Soak script workers) h = tt
 soak_all rows script_word workers_word (Line set end) h = tt
@@ -116,7 +116,7 @@ plays_nothing given set_word script_word e f h = inr (inr (inl (record {
 
 pub soaks : (given : Given) (script_word workers_word : Text) (request : Request) → Some script_word ≡ given (codes "SCRIPT")
     → Some workers_word ≡ given (codes "workers") → IsSoak script_word workers_word request → IsAsked given request
-soaks given script_word workers_word (Check sets) e f h = absurd h
+soaks given script_word workers_word (Check sets warned) e f h = absurd h
 soaks given script_word workers_word (Play set script seen) e f h = absurd h
 soaks given script_word workers_word (Soak script workers) e f h = record {
   script_is = some_word (given (codes "SCRIPT")) script_word (IsSource script) e h.0;
@@ -130,7 +130,7 @@ soaks given script_word workers_word (Print set) e f h = absurd h
 soaks given script_word workers_word (Diff old new) e f h = absurd h
 
 pub is_soak : (script_word workers_word : Text) (request : Request) → IsSoak script_word workers_word request → command_of request ≡ codes "soak"
-is_soak script_word workers_word (Check sets) h = absurd h
+is_soak script_word workers_word (Check sets warned) h = absurd h
 is_soak script_word workers_word (Play set script seen) h = absurd h
 is_soak script_word workers_word (Soak script workers) h = refl
 is_soak script_word workers_word (Line set end) h = absurd h
@@ -253,7 +253,7 @@ draws_process given word set flag states process e h f t p = record {
 -- ---- texts
 
 pub prints : (given : Given) (word : Text) (request : Request) → Some word ≡ given (codes "SET") → IsPrint word request → IsAsked given request
-prints given word (Check sets) e h = absurd h
+prints given word (Check sets warned) e h = absurd h
 prints given word (Play set script seen) e h = absurd h
 prints given word (Soak script workers) e h = absurd h
 prints given word (Line set end) e h = absurd h
@@ -264,7 +264,7 @@ prints given word (Print set) e h = some_word (given (codes "SET")) word (λ w. 
 prints given word (Diff old new) e h = absurd h
 
 pub is_print : (word : Text) (request : Request) → IsPrint word request → command_of request ≡ codes "text"
-is_print word (Check sets) h = absurd h
+is_print word (Check sets warned) h = absurd h
 is_print word (Play set script seen) h = absurd h
 is_print word (Soak script workers) h = absurd h
 is_print word (Line set end) h = absurd h
@@ -275,7 +275,7 @@ is_print word (Print set) h = refl
 is_print word (Diff old new) h = absurd h
 
 pub print_all : (rows : List Row) (word : Text) (request : Request) → IsPrint word request → AreAllAsked rows request
-print_all rows word (Check sets) h = absurd h
+print_all rows word (Check sets warned) h = absurd h
 print_all rows word (Play set script seen) h = tt
 print_all rows word (Soak script workers) h = tt
 print_all rows word (Line set end) h = tt

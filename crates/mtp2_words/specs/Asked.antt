@@ -13,6 +13,7 @@ use Rattle.mtp2_words.specs.declared.set_ends.SetWords.{SetWords}
 use Rattle.mtp2_words.specs.declared.ends.LineEnd.{LineEnd}
 use Rattle.mtp2_words.specs.declared.ends.LineWords.{LineWords}
 use Rattle.mtp2_words.specs.Words.{command_of, says_true, workers_of, IsNamed}
+use Rattle.mtp2_words.specs.Words.{warned_of}
 use Rattle.mtp2_words.specs.Words.{IsSource, IsText, IsSetText, IsNoSetText}
 use Rattle.mtp2_text.specs.Own.{word_of, NamesNone}
 use Rattle.mtp2_words.specs.Seeing.{IsSeenBy, IsNoSeeing}
@@ -164,7 +165,8 @@ pub record AsksDiff (given : Given) (old new : Named) : Type 0 where
 -- the request of a command's words, by the first word of each id; `check` uses all words of SET,
 -- `frame` has the octets of HEX, and `text` the built-in set that SET names
 abbrev pub IsAsked : Given → Request → Type 0
-IsAsked given (Check sets) = Unit {0}
+IsAsked given (Check sets warned) =
+    warned ≡ warned_of (given (codes "warn")) (given (codes "warn-error"))
 IsAsked given (Play set script seen) = AsksPlay given set script seen
 IsAsked given (Soak script workers) = AsksSoak given script workers
 IsAsked given (Line set end) = AsksLine given set end
@@ -181,7 +183,7 @@ AreNamed sets words = AllZip IsNamed sets words
 
 -- `check` has the sets of all words of SET, and `set` the lines of all --link
 abbrev pub AreAllAsked : List Row → Request → Type 0
-AreAllAsked rows (Check sets) = IsSomeAnd (all_of (codes "SET") rows) (AreNamed sets.items)
+AreAllAsked rows (Check sets warned) = IsSomeAnd (all_of (codes "SET") rows) (AreNamed sets.items)
 AreAllAsked rows (Play set script seen) = Unit {0}
 AreAllAsked rows (Soak script workers) = Unit {0}
 AreAllAsked rows (Line set end) = Unit {0}

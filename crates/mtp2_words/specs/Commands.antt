@@ -22,9 +22,12 @@ flag_word id = record (new_rule id) { long = Some id; action = Some SetTrue }
 abbrev pub plain_words : Text → Rule
 plain_words id = record (plain_word id) { action = Some Append }
 
--- `check SET ..`
+-- `check SET ..`, with --warn and --warn-error
 abbrev pub check_command : App
-check_command = with_rule (new_app (codes "check")) (plain_words (codes "SET"))
+check_command =
+    with_rule
+    (with_rule (with_rule (new_app (codes "check")) (plain_words (codes "SET")))
+    (flag_word (codes "warn"))) (flag_word (codes "warn-error"))
 
 -- `play SET SCRIPT`, without its options
 abbrev pub play_begun : App

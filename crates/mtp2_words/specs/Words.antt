@@ -12,6 +12,8 @@ use Rattle.mtp2_words.specs.declared.requests.Source.{Source}
 use Rattle.mtp2_words.specs.declared.requests.Source.TheVariants.{Stdin as stdin}
 use Rattle.mtp2_words.specs.declared.requests.Source.TheVariants.{File as script_file}
 use Rattle.mtp2_words.specs.declared.seeing.Seeing.{Seeing}
+use Rattle.mtp2_words.specs.declared.requests.Warned.{Warned}
+use Rattle.mtp2_words.specs.declared.requests.Warned.TheVariants.{Unsaid, Told, Counted}
 use Rattle.mtp2_words.specs.declared.requests.Request.{Request}
 use Rattle.mtp2_words.specs.declared.requests.Request.TheVariants.{Check, Play, Soak, Line, Frame}
 use Rattle.mtp2_words.specs.declared.requests.Request.TheVariants.{Tend, Draw, Print, Diff}
@@ -44,7 +46,7 @@ pub record IsPlayOf (set_word script_word : List ℕ) (set : Named) (script : So
 
 -- the request of `play`, with the view of the run
 abbrev pub IsPlay : List ℕ → List ℕ → Seeing → Request → Type 0
-IsPlay set_word script_word wanted (Check sets) = ⊥
+IsPlay set_word script_word wanted (Check sets warned) = ⊥
 IsPlay set_word script_word wanted (Play set script seen) =
     IsPlayOf set_word script_word set script × (seen ≡ wanted)
 IsPlay set_word script_word wanted (Soak script workers) = ⊥
@@ -65,7 +67,7 @@ workers_of word = option_and_then as_many (count_of word)
 
 -- the request of `soak`, from two words
 abbrev pub IsSoak : List ℕ → List ℕ → Request → Type 0
-IsSoak script_word workers_word (Check sets) = ⊥
+IsSoak script_word workers_word (Check sets warned) = ⊥
 IsSoak script_word workers_word (Play set script seen) = ⊥
 IsSoak script_word workers_word (Soak script workers) =
     IsSource script script_word × (workers_of workers_word ≡ Some workers)
@@ -84,7 +86,7 @@ IsOwnNamed (File path) word = ⊥
 
 -- the request of `text`, from a word
 abbrev pub IsPrint : List ℕ → Request → Type 0
-IsPrint word (Check sets) = ⊥
+IsPrint word (Check sets warned) = ⊥
 IsPrint word (Play set script seen) = ⊥
 IsPrint word (Soak script workers) = ⊥
 IsPrint word (Line set end) = ⊥
@@ -131,9 +133,18 @@ abbrev pub says_true : Option (List ℕ) → Bool
 says_true None = false
 says_true (Some word) = bytes_eq word (codes "true")
 
+-- what `check` does with warnings, by --warn and --warn-error
+abbrev pub warned_of : Option (List ℕ) → Option (List ℕ) → Warned
+warned_of warn error =
+    if says_true error then Counted else (if says_true warn then Told else Unsaid)
+
+-- the option that a word of the command line spells: `--warn=error` is `--warn-error`
+abbrev pub respelled : List ℕ → List ℕ
+respelled word = if bytes_eq word (codes "--warn=error") then codes "--warn-error" else word
+
 -- the word that names the command
 abbrev pub command_of : Request → List ℕ
-command_of (Check sets) = codes "check"
+command_of (Check sets warned) = codes "check"
 command_of (Play set script seen) = codes "play"
 command_of (Soak script workers) = codes "soak"
 command_of (Line set end) = codes "line"

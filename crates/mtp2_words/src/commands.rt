@@ -48,13 +48,25 @@ fn check_command<'a>(alloc: Global) -> Result<Command<'a>, AllocError>
         "standard, q703, monitors, a file with the text of a set of processes, or stdin for standard input",
     )
     .action(ArgAction::Append);
+    let warn = flag_word(
+        alloc,
+        "warn",
+        "Prints the warnings of an accepted text (W1 to W10) on standard error",
+    );
+    let error = flag_word(
+        alloc,
+        "warn-error",
+        "As --warn, and exits with 1 if there is a warning; also written --warn=error",
+    );
     bare_command(
         alloc,
         "check",
         "Checks a set of processes, and prints what each of its transitions costs",
         "Prints for START and for each input of each process PROCESS START or PROCESS STATE/INPUT, and then\nbudget (the most steps of a turn), depth (the most operands at once) and effects (the most effects of\na turn). Then it prints accepted. Exits with 0, or with 2 after a line refused CODE Name where the text\nis refused (F1, L1 to L3, P1, P2, S1 to S11), 4 where memory, a file, a read or a write fails.\nThe place of a refusal is told on standard error: FILE:LINE:COLUMN, the line, and carets under the word.\nOf several sets each line has the name of its set in front, and the exit status is the greatest one.",
     )
-    .arg(set)
+    .arg(set)?
+    .arg(warn)?
+    .arg(error)
 }
 
 /// The command `play`, without its options.

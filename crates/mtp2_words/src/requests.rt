@@ -24,12 +24,25 @@ pub enum Source<'a> {
     File(&'a str),
 }
 
+/// What `check` does with warnings.
+#[derive(Clone, Copy, PartialEq, Eq, Debug)]
+pub enum Warned {
+    /// No option: `check` prints no warnings.
+    Unsaid,
+    /// `--warn`: `check` prints them.
+    Told,
+    /// `--warn=error`: `check` prints them, and its exit status is 1 if there is one.
+    Counted,
+}
+
 /// A request of the command line.
 #[derive(Debug, Drop)]
 pub enum Request<'a> {
-    /// `check SET ..`: one or more built-in sets, files with the text of a set, or standard input.
+    /// `check SET ..`: one or more built-in sets, files with the text of a set, or standard input; and what it
+    /// does with warnings.
     Check {
         sets: Vec<Named<'a>>,
+        warned: Warned,
     },
     /// `play SET SCRIPT`: a set as for `check`; a file with a script, or standard input; and the view of the run.
     Play {

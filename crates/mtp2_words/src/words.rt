@@ -1,7 +1,7 @@
 //! The command line.
 ghost use Rattle.std.specs.Prelude.{◌≡◌, ◌⊎◌, Some, None, [], true, map, string_bytes, IfSome, IfOk, IfErr, IsNone, option_map, codes};
 ghost use Rattle.clap.specs.Words.{fault_of, found_of, kind_of, rows_of, subcommand_name_of, subcommand_of, subcommand_rows_of, takes};
-ghost use Rattle.mtp2_words.specs.Words.{IsDiff, command_of, workers_of, IsNamed, IsSource, AreStdin, IsPrint, IsPlay, IsSoak, IsTextNamed, IsText};
+ghost use Rattle.mtp2_words.specs.Words.{IsDiff, warned_of, command_of, workers_of, IsNamed, IsSource, AreStdin, IsPrint, IsPlay, IsSoak, IsTextNamed, IsText};
 ghost use Rattle.mtp2_words.specs.Asked.{given_by, AreAllAsked, AreNamed, AsksEnd, AsksNothing, IsAsked, IsAskedBy, IsNoCheck, IsNoFrame, IsNoLine, IsNoPlay, IsNoPrint, IsNoSoak, SaysNoEnd, SaysNothing, IsNoDiff, IsNoDraw};
 ghost use Rattle.mtp2_words.specs.Commands.{all_commands};
 ghost use Rattle.mtp2_text.specs.Own.{NamesNone};
@@ -9,8 +9,8 @@ ghost use Rattle.mtp2_words.specs.TurnedDown.{IsTurnedDown};
 
 use crate::commands::all_commands;
 use crate::ends::{LineEnd, LineWords, line_end};
-use crate::flags::is_given;
-use crate::requests::{Named, Request, Source};
+use crate::flags::{is_given, warned_of};
+use crate::requests::{Named, Request, Source, Warned};
 use crate::says::{are_stdin, complaint_of, workers_of};
 use crate::seeing::Seeing;
 use crate::set_words::tended;
@@ -139,6 +139,13 @@ fn sets_named<'a>(alloc: Global, words: &[&'a str]) -> Result<Vec<Named<'a>>, Al
     Ok(sets)
 }
 
+/// What `check` does with warnings, by its matches.
+fn warned_by(given: &ArgMatches<'_>) -> Warned
+    ensures { result ≡ warned_of (given_by given.now (codes "warn")) (given_by given.now (codes "warn-error")) }
+{
+    warned_of(given.get_str("warn"), given.get_str("warn-error"))
+}
+
 /// The request of the matches of `check`.
 fn checked<'a>(alloc: Global, given: &ArgMatches<'a>) -> Result<Option<Request<'a>>, AllocError>
     ensures named { IfOk result (λ o. IfSome o (λ r. command_of r ≡ codes "check")) }
@@ -149,7 +156,8 @@ fn checked<'a>(alloc: Global, given: &ArgMatches<'a>) -> Result<Option<Request<'
     match given.get_strs("SET") {
         Some(words) => {
             let sets = sets_named(alloc, words)?;
-            Ok(Some(Request::Check { sets }))
+            let warned = warned_by(given);
+            Ok(Some(Request::Check { sets, warned }))
         }
         None => Ok(None),
     }

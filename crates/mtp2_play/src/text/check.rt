@@ -2,10 +2,13 @@
 ghost use Rattle.std.specs.Prelude.{◌≡◌, ◌⊎◌, None, Some};
 ghost use Rattle.script_check.specs.Checked.{IsGiven, PrintsCosts, PrintsRefusal};
 ghost use Rattle.mtp2_words.specs.Own.{text_of};
+ghost use Rattle.mtp2_play.specs.Checking.{IsCheckedPlainly};
 ghost use Rattle.mtp2_play.specs.Printed.{AreCheckedAll, IsChecked};
+ghost use Rattle.mtp2_play.specs.Sets.{own_text_of};
 
 use crate::text::sets::{STDIN, own_set, set_word};
-use mtp2_words::{Named, OwnSet};
+use crate::text::told::run_told;
+use mtp2_words::{Named, OwnSet, Warned};
 use plain_text::{DONE, FAILED, NamedReader, Teller};
 use script_check::{SetWord, check, in_front};
 use std::alloc::Global;
@@ -56,13 +59,13 @@ fn check_text<H: Eprint, S: Read + Drop, W: Write>(
 }
 
 /// Runs `check` on the set that the command line names.
-fn run_check<R: Runtime + AllocGlobal, H: Eprint, W: Write>(
+fn run_plain<R: Runtime + AllocGlobal, H: Eprint, W: Write>(
     rt: &R,
     teller: &Teller<'_, H>,
     set: Named<'_>,
     writer: &mut W,
 ) -> u8
-    ensures printed { IsChecked set.entry result (W.contents writer.old) (W.contents writer.new) }
+    ensures printed { IsCheckedPlainly (own_text_of set.entry) result (W.contents writer.old) (W.contents writer.new) }
     ensures status { (result ≡ 0) ⊎ (result ≡ 2) ⊎ (result ≡ 4) }
 {
     match set {
@@ -79,6 +82,53 @@ fn run_check<R: Runtime + AllocGlobal, H: Eprint, W: Write>(
             Err(error) => teller.fail(path, &error),
         },
     }
+}
+
+/// Runs `check` on the set that the command line names. Adds the lines of its warnings if it is accepted and they are
+/// requested.
+fn run_either<R: Runtime + AllocGlobal, H: Eprint, W: Write>(
+    rt: &R,
+    teller: &Teller<'_, H>,
+    set: Named<'_>,
+    warned: Warned,
+    writer: &mut W,
+    told: &mut Vec<u8>,
+) -> u8
+    ensures { IsChecked set.entry warned result (W.contents writer.old) (W.contents writer.new) }
+{
+    match warned {
+        Warned::Unsaid => run_plain(rt, teller, set, writer),
+        Warned::Told => run_told(rt, teller, set, warned, writer, told),
+        Warned::Counted => run_told(rt, teller, set, warned, writer, told),
+    }
+}
+
+/// Prints the lines of warnings. Returns the exit status: this one, or 4 if they can't be printed.
+fn tell_warnings<H: Eprint>(teller: &Teller<'_, H>, told: &[u8], status: u8) -> u8
+    ensures { (result ≡ status) ⊎ (result ≡ 4) }
+{
+    if told.is_empty() {
+        return status;
+    }
+    match teller.errors().write_all(told) {
+        Ok(()) => status,
+        Err(_) => FAILED,
+    }
+}
+
+/// Runs `check` on the set that the command line names, and prints its warnings if they are requested.
+fn run_check<R: Runtime + AllocGlobal, H: Eprint, W: Write>(
+    rt: &R,
+    teller: &Teller<'_, H>,
+    set: Named<'_>,
+    warned: Warned,
+    writer: &mut W,
+) -> u8
+    ensures { IsChecked set.entry warned result (W.contents writer.old) (W.contents writer.new) }
+{
+    let mut told = Vec::new(rt.alloc());
+    let status = run_either(rt, teller, set, warned, writer, &mut told);
+    tell_warnings(teller, &told, status)
 }
 
 /// Writes the lines of one of several sets, with its name before each.
@@ -98,17 +148,19 @@ fn check_beside<R: Runtime + AllocGlobal, H: Eprint, W: Write>(
     rt: &R,
     teller: &Teller<'_, H>,
     set: Named<'_>,
+    warned: Warned,
     writer: &mut W,
 ) -> u8
-    ensures { (result ≡ 0) ⊎ (result ≡ 2) ⊎ (result ≡ 4) }
+    ensures { (result ≡ 0) ⊎ (result ≡ 1) ⊎ (result ≡ 2) ⊎ (result ≡ 4) }
 {
     let mut lines: Vec<u8> = Vec::new(rt.alloc());
-    let status = run_check(rt, teller, set, &mut lines);
+    let mut told = Vec::new(rt.alloc());
+    let status = run_either(rt, teller, set, warned, &mut lines, &mut told);
     if status == FAILED {
         return FAILED;
     }
     match write_beside(rt.alloc(), set_word(&set), &lines, writer) {
-        Ok(()) => status,
+        Ok(()) => tell_warnings(teller, &told, status),
         Err(_) => FAILED,
     }
 }
@@ -125,13 +177,14 @@ fn check_each<R: Runtime + AllocGlobal, H: Eprint, W: Write>(
     rt: &R,
     teller: &Teller<'_, H>,
     sets: &[Named<'_>],
+    warned: Warned,
     writer: &mut W,
 ) -> u8
-    ensures { (result ≡ 0) ⊎ (result ≡ 2) ⊎ (result ≡ 4) }
+    ensures { (result ≡ 0) ⊎ (result ≡ 1) ⊎ (result ≡ 2) ⊎ (result ≡ 4) }
 {
     let mut status = DONE;
     for set in sets {
-        let one = check_beside(rt, teller, *set, writer);
+        let one = check_beside(rt, teller, *set, warned, writer);
         status = greater(status, one);
     }
     status
@@ -143,14 +196,15 @@ pub fn run_checks<R: Runtime + AllocGlobal, H: Eprint, W: Write>(
     rt: &R,
     teller: &Teller<'_, H>,
     sets: &[Named<'_>],
+    warned: Warned,
     writer: &mut W,
 ) -> u8
-    ensures printed { AreCheckedAll sets.now result (W.contents writer.old) (W.contents writer.new) }
-    ensures status { (result ≡ 0) ⊎ (result ≡ 2) ⊎ (result ≡ 4) }
+    ensures printed { AreCheckedAll sets.now warned result (W.contents writer.old) (W.contents writer.new) }
+    ensures status { (result ≡ 0) ⊎ (result ≡ 1) ⊎ (result ≡ 2) ⊎ (result ≡ 4) }
 {
     if sets.len() == 1 {
-        run_check(rt, teller, sets[0], writer)
+        run_check(rt, teller, sets[0], warned, writer)
     } else {
-        check_each(rt, teller, sets, writer)
+        check_each(rt, teller, sets, warned, writer)
     }
 }

@@ -1,0 +1,9 @@
+pub mod Joined
+pub mod Marking
+pub mod Parting
+pub mod Pieces
+pub mod Spending
+pub mod StateWays
+pub mod TextStates
+pub mod Unjoined
+pub mod Upto

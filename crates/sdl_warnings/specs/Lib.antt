@@ -1,0 +1,10 @@
+pub mod Bounds
+pub mod Marked
+pub mod Printed
+pub mod Reaches
+pub mod Standing
+pub mod Stated
+pub mod Values
+pub mod Warned
+pub mod Ways
+pub use Rattle.sdl_measures.specs.Links

@@ -1,0 +1,41 @@
+-- The printed form of warnings.
+use Rattle.std.specs.Prelude.{ℕ, List, ◌++◌, codes}
+use Rattle.sdl_warnings.specs.declared.warning.Kind.{Kind}
+use Rattle.sdl_warnings.specs.declared.warning.Kind.TheVariants.{UnreachedState, UnsentInput}
+use Rattle.sdl_warnings.specs.declared.warning.Kind.TheVariants.{UntakenTimer, UnsetTimer}
+use Rattle.sdl_warnings.specs.declared.warning.Kind.TheVariants.{UnusedVariable, AssignedVariable}
+use Rattle.sdl_warnings.specs.declared.warning.Kind.TheVariants.{UnroutedSignal, UntakenSignal}
+use Rattle.sdl_warnings.specs.declared.warning.Kind.TheVariants.{VainSave, SpentAnswer}
+use Rattle.sdl_warnings.specs.declared.warning.Kind.TheVariants.{FixedDecision, UnreachedConnection}
+
+-- the code and the name of a kind
+abbrev pub kind_name : Kind → List ℕ
+kind_name (UnreachedState state) = codes "W1 UnreachedState"
+kind_name (UnsentInput signal process) = codes "W2 UnsentInput"
+kind_name (UntakenTimer timer) = codes "W3 IdleTimer"
+kind_name (UnsetTimer timer) = codes "W3 IdleTimer"
+kind_name (UnusedVariable variable) = codes "W4 UnreadVariable"
+kind_name (AssignedVariable variable) = codes "W4 UnreadVariable"
+kind_name (UnroutedSignal signal) = codes "W5 StraySignal"
+kind_name (UntakenSignal signal process) = codes "W5 StraySignal"
+kind_name (VainSave signal state) = codes "W6 VainSave"
+kind_name SpentAnswer = codes "W7 SpentAnswer"
+kind_name FixedDecision = codes "W8 FixedDecision"
+kind_name (UnreachedConnection connection) = codes "W10 UnreachedConnection"
+
+-- the sentence
+abbrev pub kind_text : Kind → List ℕ
+kind_text (UnreachedState state) = codes "no way from START leads to " ++ state
+kind_text (UnsentInput signal process) = codes "nobody sends " ++ signal ++ codes " to " ++ process
+kind_text (UntakenTimer timer) = timer ++ codes " is set, but no state takes it"
+kind_text (UnsetTimer timer) = codes "a state takes " ++ timer ++ codes ", but nothing sets it"
+kind_text (UnusedVariable variable) = variable ++ codes " is never read"
+kind_text (AssignedVariable variable) = variable ++ codes " is assigned, but never read"
+kind_text (UnroutedSignal signal) = codes "no route has " ++ signal
+kind_text (UntakenSignal signal process) = process ++ codes " neither takes nor saves " ++ signal
+kind_text (VainSave signal state) =
+    codes "no way from " ++ state ++ codes " leads to a state that takes " ++ signal
+kind_text SpentAnswer = codes "earlier answers take each of its values"
+kind_text FixedDecision = codes "the question is a constant"
+kind_text (UnreachedConnection connection) =
+    codes "no JOIN of a transition leads to " ++ connection
