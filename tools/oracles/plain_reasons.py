@@ -148,14 +148,14 @@ def unexpected(text, at):
         return "the text ends here" if index == len(tokens) else f"`{tokens[index][3]}` can't stand here", "", ""
     here = wanted(tokens, index)
     if not tokens:
-        return "there is no text", f"{here} is wanted", ""
+        return "there is no text", f"{here} is expected", ""
     if index == len(tokens):
-        return "the text ends here", f"{here} is wanted behind it", ""
+        return "the text ends here", f"{here} is expected after it", ""
     kind, _, _, own = tokens[index]
     called = {"name": f"the name {own}", "num": "a number", "text": "a quoted text"}.get(
         kind, f"the reserved word {own}" if kind.isalpha() else f"`{own}`"
     )
-    return f"{called} can't stand here", f"{here} is wanted", ""
+    return f"{called} can't stand here", f"{here} is expected", ""
 
 
 # ---- names
@@ -354,12 +354,12 @@ def stray(names, block, text, at):
     word = next(it for it in lex(text) if it[2] == at)[0]
     if word in ("START", "INPUT", "CONNECTION") and off_at(block, text, at) is not None:
         return (
-            "this answer has no end, and nothing stands behind its DECISION",
+            "this answer has no end, and nothing follows its DECISION",
             "",
-            "write NEXTSTATE, STOP or JOIN in it, or behind the DECISION",
+            "write NEXTSTATE, STOP or JOIN in it, or after the DECISION",
         )
     if word in ("START", "INPUT", "CONNECTION"):
-        return "this transition has no end", "", "write NEXTSTATE, STOP or JOIN behind its last statement"
+        return "this transition has no end", "", "write NEXTSTATE, STOP or JOIN after its last statement"
     if word == "NEXTSTATE":
         name = next(it for it in uses(block) if it[1] == at and it[3] == "STATE")[0]
         if not any(it[0] == "STATE" and it[2].lower() == name.lower() for it in names.seen(at)):
@@ -433,7 +433,7 @@ def operands(process, tree):
     """Each operand of another sort than its operator requires, the outer ones first: its place and the message about
     it."""
     if tree[0] == "un":
-        parts = [("behind", tree[2], "BOOLEAN" if tree[1] == "NOT" else "INTEGER")]
+        parts = [("after", tree[2], "BOOLEAN" if tree[1] == "NOT" else "INTEGER")]
     elif tree[0] == "bin":
         both = (
             process.sort(tree[2])
@@ -447,8 +447,8 @@ def operands(process, tree):
         return
     for side, it, want in parts:
         if process.sort(it) != want:
-            denied = "NOT takes the operand behind it alone: write NOT (..)" if it[0] == "un" and it[1] == "NOT" else ""
-            yield first(it), f"{SORTS[want]} is wanted {side} `{tree[1]}`", f"this is {SORTS[process.sort(it)]}", denied
+            denied = "NOT takes only the operand after it: write NOT (..)" if it[0] == "un" and it[1] == "NOT" else ""
+            yield first(it), f"{SORTS[want]} is expected {side} `{tree[1]}`", f"this is {SORTS[process.sort(it)]}", denied
     for _, it, _ in parts:
         yield from operands(process, it)
 
@@ -508,7 +508,7 @@ def of_answers(sort, ranges):
             here = {"rel": "a relation", "to": "a range"}.get(it[0]) or SORTS[it[1][0]]
             yield it[-1], "an answer to a question of Booleans is TRUE or FALSE", f"this is {here}", ""
         elif any(const[0] == "BOOLEAN" for const in it[1:-1] if isinstance(const, tuple)):
-            yield it[-1], "an answer to a question of Integers has Integers alone", "here is a Boolean", ""
+            yield it[-1], "an answer to a question of Integers has only Integers", "here is a Boolean", ""
 
 
 def comes(process, part, name):
@@ -598,7 +598,7 @@ def several(process, at):
 def unanswered(process, at):
     act = next(act for _, act in process.acts() if act[0] == "decide" and act[1] == at)
     if process.sort(act[2]) == "INTEGER":
-        return "a DECISION of Integers wants an ELSE", "", "write ELSE: in front of ENDDECISION"
+        return "a DECISION of Integers needs an ELSE", "", "write ELSE: before ENDDECISION"
     named = [it[1][1] for ranges, _ in act[3] for it in ranges]
     for word in ("TRUE", "FALSE"):
         if named.count(word) > 1:
@@ -607,7 +607,7 @@ def unanswered(process, at):
         return "TRUE and FALSE are answered, and nothing is left for ELSE", "", ""
     lacking = [it for it in ("TRUE", "FALSE") if it not in named]
     if len(lacking) == 2:
-        return "TRUE and FALSE aren't answered", "", "write ELSE: in front of ENDDECISION"
+        return "TRUE and FALSE aren't answered", "", "write ELSE: before ENDDECISION"
     return f"{lacking[0]} isn't answered", "", f"write ({lacking[0]}): or ELSE: in front of ENDDECISION"
 
 
@@ -618,7 +618,7 @@ def cycle(process, at):
 
 def divisor(text, at):
     before = [it for it in lex(text) if it[2] < at][-1]
-    return f"a literal of 1 or more is wanted right of `{before[1] or before[0]}`", "", ""
+    return f"a literal of 1 or more is expected right of `{before[1] or before[0]}`", "", ""
 
 
 def of_lexis(text, code, at):

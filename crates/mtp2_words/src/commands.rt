@@ -81,13 +81,13 @@ fn play_begun<'a>(alloc: Global) -> Result<Command<'a>, AllocError>
     let script = plain_word(
         alloc,
         "SCRIPT",
-        "A file with the script, or stdin for standard input (for one of the two alone)",
+        "A file with the script, or stdin for standard input (for only one of the two)",
     );
     bare_command(
         alloc,
         "play",
         "Runs a script on a set of processes, or on one end of a signalling link or of a set of links",
-        "First lines: ports N (1 to 64), env N (1 to 1024), journal N (16 to 65536).\nCommands: offer P SIG v.., begin P, finish P, skip P, tick N, env, rest, flood N P SIG v.., state P, value P x, expect TEXT.\nA script may begin with terminal basic, terminal cyclic or terminal cyclic N1 N2 (1 to 127 messages, 300 to 8192 octets): then one end of a link runs on the set, with the commands\ncommand W (power, start, stop, emergency, calm, outage, back, busy, free, flush, continue, overload), unit HEX, units N HEX, errors N, line HEX, msu HEX, out N, tick N,\ntold, accepted, retrieve, retrieve N, measure NAME, measure reset, state P, value P x, expect TEXT. A unit may be HEX, or words as out prints them (of an MSU sio HEX sif HEX).\nWith group basic N or group cyclic N (1 to 16) one end of N links runs, with command, unit, line, out, tick, state, value and expect of link L behind on L, and\nsend HEX, bound HEX, fail, message HEX, retrieve, abandon, divert, rebalance, table, held, unsure, link, admit yes, admit no.\nPrints a line for each command but on and expect, and for each unit that goes out; one that is refused prints refused CODE Name (B1 to B12, W1, W2, E1, K1 to K5), and the run goes on.\nExits with 0, or 1 after failed line N where an expect failed, 2 after refused CODE Name where the set or the script is refused\n(F1, L1 to L3, P1, P2, S1 to S11, X1; X2 NoName NAME where the set lacks a name that a terminal wants), 4 where memory, a file, a read or a write fails.",
+        "First lines: ports N (1 to 64), env N (1 to 1024), journal N (16 to 65536).\nCommands: offer P SIG v.., begin P, finish P, skip P, tick N, env, rest, flood N P SIG v.., state P, value P x, expect TEXT.\nA script may begin with terminal basic, terminal cyclic or terminal cyclic N1 N2 (1 to 127 messages, 300 to 8192 octets): then one end of a link runs on the set, with the commands\ncommand W (power, start, stop, emergency, calm, outage, back, busy, free, flush, continue, overload), unit HEX, units N HEX, errors N, line HEX, msu HEX, out N, tick N,\ntold, accepted, retrieve, retrieve N, measure NAME, measure reset, state P, value P x, expect TEXT. A unit may be HEX, or words as out prints them (of an MSU sio HEX sif HEX).\nWith group basic N or group cyclic N (1 to 16) one end of N links runs, with command, unit, line, out, tick, state, value and expect of link L after on L, and\nsend HEX, bound HEX, fail, message HEX, retrieve, abandon, divert, rebalance, table, held, unsure, link, admit yes, admit no.\nPrints a line for each command but on and expect, and for each unit that goes out; one that is refused prints refused CODE Name (B1 to B12, W1, W2, E1, K1 to K5), and the run goes on.\nExits with 0, or 1 after failed line N where an expect failed, 2 after refused CODE Name where the set or the script is refused\n(F1, L1 to L3, P1, P2, S1 to S11, X1; X2 NoName NAME where the set lacks a name that a terminal wants), 4 where memory, a file, a read or a write fails.",
     )
     .arg(set)?
     .arg(script)
@@ -100,7 +100,7 @@ fn with_turn_options<'a>(alloc: Global, command: Command<'a>) -> Result<Command<
     let echo = flag_word(
         alloc,
         "echo",
-        "Prints each command in front of what it prints, behind `> `",
+        "Prints each command, after `> `, before what it prints",
     );
     let trace = option_word(
         alloc,

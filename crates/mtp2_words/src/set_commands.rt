@@ -113,7 +113,7 @@ fn with_streams<'a>(alloc: Global, command: Command<'a>) -> Result<Command<'a>, 
         alloc,
         "ahead",
         "N",
-        "How many octets of 1s go out on each line before any octet came in, and behind each second of silence, 0 to 8000; 64 where nothing is said",
+        "How many octets of 1s go out on each line before any octet came in, and after each second of silence, 0 to 8000; 64 where nothing is said",
     );
     let no_test = flag_word(
         alloc,

@@ -52,7 +52,7 @@ impl fmt::Display for RouteFault<'_> {
                 there,
             } => {
                 let values = if *wanted == 1 { "value" } else { "values" };
-                write!(f, "{signal} wants {wanted} {values}, and has {there}")
+                write!(f, "{signal} takes {wanted} {values}, and has {there}")
             }
             Self::WrongSort {
                 signal,

@@ -51,7 +51,7 @@ fn of_missing(truths: usize, falsehoods: usize) -> (&'static str, &'static str) 
     if truths == 0 && falsehoods == 0 {
         return (
             "TRUE and FALSE aren't answered",
-            "write ELSE: in front of ENDDECISION",
+            "write ELSE: before ENDDECISION",
         );
     }
     if truths == 0 {
@@ -82,8 +82,8 @@ pub(crate) fn no_answer(
         of_truths(decision)
     } else {
         (
-            "a DECISION of Integers wants an ELSE",
-            "write ELSE: in front of ENDDECISION",
+            "a DECISION of Integers needs an ELSE",
+            "write ELSE: before ENDDECISION",
         )
     };
     notes.said.push_str(said)?;

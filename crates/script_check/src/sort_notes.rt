@@ -99,7 +99,7 @@ fn add_answer(notes: &mut Notes, is_truth: bool, here: Here) -> Result<(), Alloc
     } else {
         notes
             .said
-            .push_str("an answer to a question of Integers has Integers alone")?;
+            .push_str("an answer to a question of Integers has only Integers")?;
         notes.under.push_str("here is a Boolean")
     }
 }
@@ -140,9 +140,9 @@ fn side_sign(side: Side) -> &'static str {
 /// The note that an operand is missing on its side.
 fn side_text(side: Side) -> &'static str {
     match side {
-        Side::Behind(_) => " is wanted behind `",
-        Side::Left(_) => " is wanted left of `",
-        Side::Right(_) => " is wanted right of `",
+        Side::Behind(_) => " is expected after `",
+        Side::Left(_) => " is expected left of `",
+        Side::Right(_) => " is expected right of `",
     }
 }
 
@@ -163,7 +163,7 @@ fn add_operand(
     if is_denied {
         return notes
             .hint
-            .push_str("NOT takes the operand behind it alone: write NOT (..)");
+            .push_str("NOT takes only the operand after it: write NOT (..)");
     }
     Ok(())
 }

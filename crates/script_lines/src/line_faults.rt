@@ -60,7 +60,7 @@ impl fmt::Display for LineFault<'_> {
                 let words = if *least == 1 { "word" } else { "words" };
                 write!(
                     f,
-                    "'{word}' wants {least} {words}{more} behind it, and has {there}",
+                    "'{word}' takes {least} {words}{more}, and has {there}",
                 )
             }
             Self::NoNumber { word, least, most } => {

@@ -68,7 +68,7 @@ impl fmt::Display for PlayFault<'_> {
                 there,
             } => write!(
                 f,
-                "'{word}' wants {least} to {most} octets, and has {there}"
+                "'{word}' takes {least} to {most} octets, and has {there}"
             ),
             Self::Indicator { says, there } => write!(
                 f,
@@ -82,7 +82,7 @@ impl fmt::Display for PlayFault<'_> {
             Self::NoLimits { word } => write!(f, "'{word}' has no N1 and N2: cyclic has"),
             Self::NoUnit { word } => write!(
                 f,
-                "'{word}' wants pairs of hexadecimal digits, or FISU, LSSU or MSU with bsn N bib B fsn N fib B and status NAME, or sio HEX sif HEX",
+                "'{word}' takes pairs of hexadecimal digits, or FISU, LSSU or MSU with bsn N bib B fsn N fib B and status NAME, or sio HEX sif HEX",
             ),
             Self::NoMeasure { word } => {
                 write!(
@@ -92,7 +92,7 @@ impl fmt::Display for PlayFault<'_> {
             }
             Self::NotBound { word } => write!(
                 f,
-                "'{word}' wants a message of changeover or changeback, a traffic restart or a test of the link, from point 1 to point 2",
+                "'{word}' takes a message of changeover or changeback, a traffic restart or a test of the link, from point 1 to point 2",
             ),
             Self::NoWay { word } => write!(f, "'{word}' is neither yes nor no"),
         }

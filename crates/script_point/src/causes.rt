@@ -77,7 +77,7 @@ fn of_divisor(notes: &mut Notes, read: &Reading<'_>, index: usize) -> Result<(),
     let sign = read.spelled(index.saturating_sub(1));
     push_all(
         &mut notes.said,
-        &["a literal of 1 or more is wanted right of `", sign, "`"],
+        &["a literal of 1 or more is expected right of `", sign, "`"],
     )
 }
 

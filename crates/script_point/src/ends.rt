@@ -27,7 +27,7 @@ fn no_end(notes: &mut Notes) -> Result<(), AllocError> {
     notes.said.push_str("this transition has no end")?;
     notes
         .hint
-        .push_str("write NEXTSTATE, STOP or JOIN behind its last statement")
+        .push_str("write NEXTSTATE, STOP or JOIN after its last statement")
 }
 
 /// The note for a statement after a DECISION none of whose answers goes on.

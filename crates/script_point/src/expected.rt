@@ -323,7 +323,7 @@ pub fn unexpected(
     index: usize,
 ) -> Result<(), AllocError> {
     push_items_at(alloc, &mut notes.under, read, index)?;
-    notes.under.push_str(" is wanted")?;
+    notes.under.push_str(" is expected")?;
     if index < read.tokens.len() {
         push_called(&mut notes.said, read, index)?;
         return notes.said.push_str(" can't stand here");
@@ -331,6 +331,6 @@ pub fn unexpected(
     if read.tokens.is_empty() {
         return notes.said.push_str("there is no text");
     }
-    notes.under.push_str(" behind it")?;
+    notes.under.push_str(" after it")?;
     notes.said.push_str("the text ends here")
 }

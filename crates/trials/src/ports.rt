@@ -231,7 +231,7 @@ fn hold(alloc: Global, text: &mut String, line: &str) -> Result<(), Stopped> {
     let (full, behind, differences) = (held.full, held.behind, held.differences);
     writeln!(
         text,
-        "port {capacity}: {calls} calls, {full} without room, {behind} behind saved ones, differences {differences}"
+        "port {capacity}: {calls} calls, {full} without room, {behind} after saved ones, differences {differences}"
     )?;
     Ok(())
 }

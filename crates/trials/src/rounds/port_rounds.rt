@@ -94,7 +94,7 @@ fn write_place(
     if rounds.is_none() {
         writeln!(
             text,
-            "behind {place}: {taken} taken, {as_taken} from a plain one"
+            "after {place}: {taken} taken, {as_taken} from a plain one"
         )?;
     } else {
         writeln!(text, "port{place} {ring}")?;
