@@ -448,7 +448,8 @@ def operands(process, tree):
     for side, it, want in parts:
         if process.sort(it) != want:
             denied = "NOT takes only the operand after it: write NOT (..)" if it[0] == "un" and it[1] == "NOT" else ""
-            yield first(it), f"{SORTS[want]} is expected {side} `{tree[1]}`", f"this is {SORTS[process.sort(it)]}", denied
+            expected = f"{SORTS[want]} is expected {side} `{tree[1]}`"
+            yield first(it), expected, f"this is {SORTS[process.sort(it)]}", denied
     for _, it, _ in parts:
         yield from operands(process, it)
 

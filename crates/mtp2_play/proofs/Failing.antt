@@ -22,7 +22,7 @@ not_refused h = absurd (omega (arith, h))
 -- a check of sets that failed
 sets_failed : (sets : List Named) (warned : Warned) (old new : Option (List ℕ)) → AreCheckedAll sets warned 4 old new
 sets_failed sets warned old new = record {
-  one = λ set is. record { costs = not_done; counted = not_missed; clean = λ asked. not_done; refusal = not_refused; ends = inr (inr (inr refl)) };
+  one = λ set is. record { costs = not_done; asked = not_missed; counted = not_missed; clean = λ asked. not_done; refusal = not_refused; ends = inr (inr (inr refl)) };
   ends = inr (inr (inr refl));
 }
 

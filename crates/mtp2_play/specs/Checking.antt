@@ -1,5 +1,5 @@
 -- The output of `check` for a text, and whether the text has warnings.
-use Rattle.std.specs.Prelude.{◌≡◌, ◌⊎◌, ℕ, List, [], Option, Ok}
+use Rattle.std.specs.Prelude.{◌≡◌, ◌⊎◌, ℕ, Bool, if◌then◌else◌, List, [], Option, Ok}
 use Rattle.sdl_lex.specs.Lexed.{Answers}
 use Rattle.sdl_lex.specs.declared.lexemes.Token.{Token}
 use Rattle.sdl_tree.specs.Syntax.{Reads}
@@ -7,7 +7,7 @@ use Rattle.sdl_tables.specs.Plain.{PlainBlock}
 use Rattle.sdl_warnings.specs.Warned.{block_warnings}
 use Rattle.script_check.specs.Checked.{IsGiven, PrintsCosts, PrintsRefusal}
 use Rattle.mtp2_words.specs.declared.requests.Warned.{Warned}
-use Rattle.mtp2_words.specs.declared.requests.Warned.TheVariants.{Counted}
+use Rattle.mtp2_words.specs.declared.requests.Warned.TheVariants.{Unsaid, Told, Counted}
 
 -- the text reads as a block with some warning
 pub record IsWarned (text : List ℕ) : Type 0 where
@@ -25,6 +25,12 @@ pub record IsUnwarned (text : List ℕ) : Type 0 where
   pub reads : Reads tokens block
   pub none : block_warnings block ≡ []
 
+-- the exit status for an accepted text, by whether it has a warning
+abbrev pub warned_status : Warned → Bool → ℕ
+warned_status Unsaid some = 0
+warned_status Told some = 0
+warned_status Counted some = if some then 1 else 0
+
 -- the output for a text with a warning, and for one without
 abbrev pub PrintsWarned : Option (List ℕ) → Option (List ℕ) → List ℕ → Type 0
 PrintsWarned old new bytes = PrintsCosts old new bytes × IsWarned bytes
@@ -39,11 +45,12 @@ pub record IsCheckedPlainly (known : Option (List ℕ)) (status : ℕ) (old new 
   pub refusal : status ≡ 2 → IsGiven known (PrintsRefusal old new)
   pub ends : (status ≡ 0) ⊎ (status ≡ 2) ⊎ (status ≡ 4)
 
--- The output with --warn. If warnings count, status 1 means that there are some, and 0 that there are
--- none.
+-- The output with --warn. Only if warnings count, the status may be 1; then 1 means that there are
+-- some, and 0 that there are none.
 pub record IsCheckedBytes (known : Option (List ℕ)) (warned : Warned) (status : ℕ)
     (old new : Option (List ℕ)) : Type 0 where
   pub costs : status ≡ 0 → IsGiven known (PrintsCosts old new)
+  pub asked : status ≡ 1 → warned ≡ Counted
   pub counted : status ≡ 1 → IsGiven known (PrintsWarned old new)
   pub clean : warned ≡ Counted → status ≡ 0 → IsGiven known (PrintsUnwarned old new)
   pub refusal : status ≡ 2 → IsGiven known (PrintsRefusal old new)

@@ -144,6 +144,8 @@ pub(crate) fn no_end(
     told.found = Some(place);
     told.notes.said.clear();
     told.notes.hint.clear();
-    told.notes.said.push_str("this answer has no end, and nothing follows its DECISION")?;
+    told.notes
+        .said
+        .push_str("this answer has no end, and nothing follows its DECISION")?;
     told.notes.hint.push_str("write NEXTSTATE, STOP or JOIN in it, or after the DECISION")
 }

@@ -58,10 +58,7 @@ impl fmt::Display for LineFault<'_> {
             } => {
                 let more = if least == most { "" } else { " or more" };
                 let words = if *least == 1 { "word" } else { "words" };
-                write!(
-                    f,
-                    "'{word}' takes {least} {words}{more}, and has {there}",
-                )
+                write!(f, "'{word}' takes {least} {words}{more}, and has {there}",)
             }
             Self::NoNumber { word, least, most } => {
                 write!(f, "'{word}' is no number from {least} to {most}")

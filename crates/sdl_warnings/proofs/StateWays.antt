@@ -28,7 +28,7 @@ length_upto zero = refl
 length_upto (suc n) = length-append (upto n) (n ∷ []) ∙ (ap (λ k. k + 1) (length_upto n) ∙ omega arith)
 
 -- two steps of a map in one
-both_maps : {A B C : Type 0} (f : B → C) (g : A → B) (xs : List A) → map f (map g xs) ≡ map (λ x. f (g x)) xs
+pub both_maps : {A B C : Type 0} (f : B → C) (g : A → B) (xs : List A) → map f (map g xs) ≡ map (λ x. f (g x)) xs
 both_maps f g [] = refl
 both_maps f g (x ∷ xs) = ap (λ l. f (g x) ∷ l) (both_maps f g xs)
 

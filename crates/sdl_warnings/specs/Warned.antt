@@ -19,7 +19,8 @@ use Rattle.sdl_ast.specs.Plain.{PlainStimulus, PlainInput, PlainState, PlainProc
 use Rattle.sdl_ast.specs.Plain.{PlainSignal, PlainClause, PlainDeclaration, PlainBlock}
 use Rattle.sdl_sound.specs.TableNames.{same_name, is_in, number_of, signals_of, processes_of}
 use Rattle.sdl_sound.specs.TableNames.{variable_names, timers_of, states_of, input_parts, Input}
-use Rattle.sdl_sound.specs.TableNames.{inputs_of, clause_saves, part_triggers, timers_in}
+use Rattle.sdl_sound.specs.TableNames.{inputs_of, stimulus_of, clause_saves, part_triggers}
+use Rattle.sdl_sound.specs.TableNames.{timers_in}
 use Rattle.sdl_sound.specs.Names.{tree_names, place_names}
 use Rattle.sdl_sound.specs.Receivers.{party_of, paths_of, carries}
 use Rattle.sdl_sound.specs.Statements.{Statement, acts, asks, covers, finishes, joins_of}
@@ -213,7 +214,7 @@ untaken_signals b = flat_map (untaken_in_path b) (paths_of b)
 -- ---- W6: a signal or timer that is saved in a state from which no way leads to one that takes it
 
 abbrev pub takes_in : List ℕ → List Input → Bool
-takes_in x inputs = list_any (λ i. same_name x i.stimulus.name.name) inputs
+takes_in x inputs = list_any (λ i. same_name x (stimulus_of i).name) inputs
 
 abbrev pub takes : PlainProcess → List ℕ → ℕ → Bool
 takes p x n = takes_in x (inputs_of p n)

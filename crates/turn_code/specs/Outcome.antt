@@ -1,5 +1,5 @@
 -- How a transition ends, and the meaning of a set as a function.
-use Rattle.std.specs.Prelude.{◌≡◌, ℕ, Option, Some, None, Result, Ok, Err}
+use Rattle.std.specs.Prelude.{◌≡◌, ℕ, List, Option, Some, None, Result, Ok, Err}
 use Rattle.turn_code.specs.Run.{Progress, Ran, run, ended, got_stuck, unfinished}
 use Rattle.turn_code.specs.Transitions.{Transition, transition_at}
 use Rattle.turn_code.specs.Fits.{FitsTransition}

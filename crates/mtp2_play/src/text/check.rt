@@ -144,6 +144,7 @@ fn write_beside<W: Write>(
 
 /// Runs `check` on one of several sets, and writes its lines with its name before each. Returns the exit status of that
 /// set. On status 4 nothing is written; it is also 4 if the lines can't be written, or memory runs out.
+#[tactic(auto, using(crate::proofs::CheckedSets::ends_told))]
 fn check_beside<R: Runtime + AllocGlobal, H: Eprint, W: Write>(
     rt: &R,
     teller: &Teller<'_, H>,

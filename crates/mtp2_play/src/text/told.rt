@@ -3,7 +3,7 @@ ghost use Rattle.std.specs.Prelude.{◌≡◌, ◌⊎◌, List, ℕ, None, Some,
 ghost use Rattle.plain_text.specs.Reading.{IsReading};
 ghost use Rattle.script_check.specs.Checked.{IsFaultOf, IsTooLong, PrintsRefusal};
 ghost use Rattle.turn_verify.specs.Loaded.{IsRefused};
-ghost use Rattle.mtp2_play.specs.Checking.{IsCheckedBytes, IsUnwarned, IsWarned};
+ghost use Rattle.mtp2_play.specs.Checking.{IsCheckedBytes, IsUnwarned, IsWarned, warned_status};
 ghost use Rattle.mtp2_play.specs.Sets.{own_text_of};
 ghost use Rattle.mtp2_words.specs.declared.requests.Warned.TheVariants.{Counted};
 
@@ -25,28 +25,27 @@ use turn_verify::LoadFault;
 /// The exit status for an accepted set with a warning, if warnings count.
 const WARNED: u8 = 1;
 
-/// The exit status for an accepted set with a warning.
-fn if_counted(warned: Warned) -> u8
-    ensures one { result ≡ 1 → warned ≡ Counted }
-    ensures zero { result ≡ 0 → warned ≡ Counted → ⊥ }
-    ensures status { (result ≡ 0) ⊎ (result ≡ 1) }
+/// The exit status for an accepted set, by whether it has a warning.
+fn warned_status(warned: Warned, some: bool) -> u8
+    ensures { result ≡ warned_status warned some }
 {
     match warned {
         Warned::Unsaid => DONE,
         Warned::Told => DONE,
-        Warned::Counted => WARNED,
+        Warned::Counted => { if some { WARNED } else { DONE } }
     }
 }
 
 /// Adds the lines of the warnings of an accepted text. Returns the exit status.
+#[tactic(auto, using(crate::proofs::Warnings::asked_by, crate::proofs::Warnings::counted_by, crate::proofs::Warnings::clean_by, crate::proofs::Warnings::ended_by))]
 fn add_warnings(alloc: Global, name: &str, text: &str, warned: Warned, told: &mut Vec<u8>) -> u8
+    ensures asked { result ≡ 1 → warned ≡ Counted }
     ensures counted { result ≡ 1 → IsWarned text.now }
     ensures clean { warned ≡ Counted → result ≡ 0 → IsUnwarned text.now }
     ensures status { (result ≡ 0) ⊎ (result ≡ 1) ⊎ (result ≡ 4) }
 {
     match push_warnings(alloc, told, name, text) {
-        Ok(true) => if_counted(warned),
-        Ok(false) => DONE,
+        Ok(some) => warned_status(warned, some),
         Err(_) => FAILED,
     }
 }
@@ -124,6 +123,7 @@ fn refuse_read<H: Eprint, W: Write>(
 }
 
 /// Runs `check` on a text that was read, and adds the lines of its warnings if it is accepted.
+#[tactic(auto, using(crate::proofs::CheckedSets::failed))]
 fn check_read<H: Eprint, W: Write>(
     alloc: Global,
     teller: &Teller<'_, H>,
@@ -150,6 +150,7 @@ fn check_read<H: Eprint, W: Write>(
 }
 
 /// Runs `check` on a text from a reader, and adds the lines of its warnings if it is accepted.
+#[tactic(auto, using(crate::proofs::CheckedSets::read_of_some, crate::proofs::CheckedSets::failed))]
 fn check_all<H: Eprint, S: Read + Drop, W: Write>(
     alloc: Global,
     teller: &Teller<'_, H>,
@@ -168,6 +169,7 @@ fn check_all<H: Eprint, S: Read + Drop, W: Write>(
 }
 
 /// Runs `check` on the set that the command line names, and adds the lines of its warnings if it is accepted.
+#[tactic(auto, using(crate::proofs::CheckedSets::of_own, crate::proofs::CheckedSets::failed))]
 pub fn run_told<R: Runtime + AllocGlobal, H: Eprint, W: Write>(
     rt: &R,
     teller: &Teller<'_, H>,

@@ -18,6 +18,7 @@ use std::alloc::{AllocError, Global};
 const MOST_SHOWN: usize = 1000;
 
 /// Where the token ends that begins at a place; one byte further if none does.
+#[tactic(auto, using(script_point::proofs::TokenEnds::skipped, script_point::proofs::TokenEnds::found))]
 fn token_end(tokens: &[Token], place: u32) -> usize
     ensures { result ≡ token_end tokens.now place }
 {
@@ -30,6 +31,7 @@ fn token_end(tokens: &[Token], place: u32) -> usize
 }
 
 /// Whether the line in which a place lies is too long to be printed with a warning.
+#[tactic(auto, using(crate::proofs::Warnings::is_long, crate::proofs::Warnings::is_short))]
 fn is_long(text: &[u8], place: usize) -> bool
     requires { place ≤ length text.now }
     ensures long { IsTrue result → IsLong text.now place }
@@ -48,7 +50,7 @@ fn point_whole(
     warning: Warning,
     said: String,
 ) -> Result<Vec<u8>, AllocError>
-    ensures { string_bytes said ≡ kind_text warning.kind → IfOk result (PointsWhole text.now tokens.now warning) }
+    ensures { string_bytes said ≡ kind_text warning.kind → IfOk result (λ v. PointsWhole text.now tokens.now warning v.items) }
 {
     let notes = Notes {
         said,
@@ -93,10 +95,12 @@ fn push_warning(
 {
     let lines = point_at(alloc, text, tokens, warning)?;
     told.extend_from_slice(name.as_bytes())?;
-    told.extend_from_slice(&lines)
+    told.extend_from_slice(&lines)?;
+    Ok(())
 }
 
 /// Appends the lines of these warnings.
+#[tactic(auto, using(crate::proofs::Warnings::none_told, crate::proofs::Warnings::more_told, crate::proofs::Warnings::all_told))]
 fn push_all(
     alloc: Global,
     told: &mut Vec<u8>,
@@ -114,6 +118,26 @@ fn push_all(
 }
 
 /// Appends the lines of the warnings of the block that a text with these tokens reads as. Returns whether there is one.
+#[tactic(auto, using(crate::proofs::Warnings::block_warned))]
+fn push_of_table(
+    alloc: Global,
+    told: &mut Vec<u8>,
+    name: &str,
+    text: &str,
+    tokens: &[Token],
+    table: &BlockTable,
+) -> Result<bool, AllocError>
+    requires lexed { Answers text.now (Ok tokens.now) }
+    requires reads { Reads tokens.now (block_of table.now) }
+    ensures { IfOk result (λ some. WarnsOf name.now text.now told.old.items told.new.items some) }
+{
+    let found = warnings(alloc, table)?;
+    push_all(alloc, told, name, text, tokens, &found)?;
+    let none = found.as_slice().is_empty();
+    Ok(!none)
+}
+
+/// As `push_of_table`, for a block without its tables.
 fn push_of_block(
     alloc: Global,
     told: &mut Vec<u8>,
@@ -127,11 +151,7 @@ fn push_of_block(
     ensures { IfOk result (λ some. WarnsOf name.now text.now told.old.items told.new.items some) }
 {
     match BlockTable::new(alloc, block) {
-        Ok(table) => {
-            let found = warnings(alloc, &table)?;
-            push_all(alloc, told, name, text, tokens, &found)?;
-            Ok(!found.is_empty())
-        }
+        Ok(table) => push_of_table(alloc, told, name, text, tokens, &table),
         Err(_) => Err(AllocError),
     }
 }

@@ -18,5 +18,5 @@ returns c = λ local.
     c.option_word-bits.ensures.rule c.option_word-bits.ensures.local c.in_ok-arg-3.ensures in
     let ahead = with_word _ (option_word (codes "ahead")) _ c.option_word-ahead.result c.in_ok-arg-4.field-0 bits
     c.option_word-ahead.ensures.rule c.option_word-ahead.ensures.local c.in_ok-arg-4.ensures in
-    IfOk-weaker c.arg-5.result _ _ (λ r a. with_word _ (flag_word (codes "no-test")) _ c.flag_word-no_test.result r ahead
-    c.flag_word-no_test.ensures.rule c.flag_word-no_test.ensures.local a) c.arg-5.ensures
+    IfOk-weaker c.arg-6.result _ _ (λ r a. with_word _ (flag_word (codes "no-test")) _ c.flag_word-no_test.result r ahead
+    c.flag_word-no_test.ensures.rule c.flag_word-no_test.ensures.local a) c.arg-6.ensures

@@ -1,6 +1,5 @@
-use Rattle.std.proofs.Common.{◌∙◌, ◌&&◌, ap, map}
+use Rattle.std.proofs.Common.{◌∙◌, ◌&&◌, ap, map, take_all}
 use Rattle.std.specs.List.{list_any}
-use Rattle.std.proofs.lemmas.List.{take_all}
 use Rattle.sdl_ast.specs.Plain.{PlainProcess}
 use Rattle.sdl_ast.specs.Views.{process_of}
 use Rattle.sdl_sound.specs.TableNames.{same_name}

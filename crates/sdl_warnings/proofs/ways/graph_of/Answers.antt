@@ -1,8 +1,7 @@
-use Rattle.std.proofs.Common.{◌∙◌, ℕ, List, ap, map}
+use Rattle.std.proofs.Common.{◌∙◌, ℕ, List, ap, map, take_all}
 use Rattle.std.specs.Prelude.{filter}
 use Rattle.std.specs.List.{list_any}
 use Rattle.std.specs.Global.{Vec}
-use Rattle.std.proofs.lemmas.List.{take_all}
 use Rattle.sdl_ast.specs.Views.{process_of}
 use Rattle.sdl_sound.specs.TableNames.{Input}
 use Rattle.sdl_tables.specs.Rows.{row_input, rows_inputs}

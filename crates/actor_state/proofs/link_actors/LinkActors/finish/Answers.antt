@@ -6,7 +6,7 @@ use Rattle.actor_state.proofs.link_actors.LinkActors.finish.Goals as goal
 
 pub lay_all-lost-requires-clause-names : goal.lay_all-lost-requires-clause-names
 lay_all-lost-requires-clause-names c =
-    settled_kept c.args.set.now.processes c.args.actor c.args.variables.now c.args.self.now.actors _ (ap (λ (w : Core). w.actors) c.start.ensures) c.requires.names
+    settled_kept c.args.set.now.processes c.args.actor.number c.args.variables.now c.args.self.now.actors _ (ap (λ (w : Core). w.actors) c.start.ensures) c.requires.names
 
 pub returns-clause-link : goal.returns-clause-link
 unfolding finished
