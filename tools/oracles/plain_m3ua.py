@@ -84,13 +84,23 @@ def parameters(body):
     return found
 
 
+def all_of(found, tag):
+    return [value for other, value in found if other == tag]
+
+
 def first(found, tag):
-    return next((value for other, value in found if other == tag), None)
+    return next(iter(all_of(found, tag)), None)
+
+
+def numbers(value):
+    """The numbers of four octets in a value, or none if there is no value."""
+    return [int.from_bytes(value[at : at + 4], "big") for at in range(0, len(value or b""), 4)]
 
 
 def decoded(octets):
-    """The name of a message and its parameters."""
-    if len(octets) < HEADER or struct.unpack(">I", octets[4:8])[0] != len(octets):
+    """The name of a message and its parameters. The header may leave out the last padding from the length (3.1.4)."""
+    counted = struct.unpack(">I", octets[4:8])[0] if len(octets) >= HEADER else 0
+    if counted < HEADER or len(octets) not in (counted, counted + -counted % 4):
         raise Fault(0x07)
     version, _, kind, number = octets[:4]
     if version != 1:
@@ -99,7 +109,7 @@ def decoded(octets):
         raise Fault(0x03)
     if (kind, number) not in NAMES:
         raise Fault(0x04)
-    name, found = NAMES[kind, number], parameters(octets[HEADER:])
+    name, found = NAMES[kind, number], parameters(octets[HEADER:counted])
     if any(first(found, tag) is None for tag in MANDATORY.get(name, [])):
         raise Fault(0x16)
     return name, found
@@ -179,28 +189,48 @@ class Gateway:
         info = {"INACTIVE": 2, "ACTIVE": 3, "PENDING": 4}[self.server]
         return self.send("NTFY", number(STATUS, 1 << 16 | info) + number(CONTEXT, self.context))
 
-    def unexpected(self, data=False):
+    def unexpected(self, found, data=False):
+        """ERR of an unexpected message, with its routing contexts (3.8.1)."""
         self.refused += data
-        return self.error(0x06) + ["refused"] * data
-
-    def ours(self, found):
         value = first(found, CONTEXT)
-        return value is None or value == struct.pack(">I", self.context)
+        return self.error(0x06, b"" if value is None else parameter(CONTEXT, value)) + ["refused"] * data
+
+    def malformed(self, code, octets):
+        """ERR of octets that are no message. Of an unknown class or type it has their first 40 (3.8.1)."""
+        return self.error(code, parameter(DIAGNOSTIC, octets[:40]) if code in (0x03, 0x04) else b"")
+
+    def others(self, found):
+        """The routing contexts of a message that aren't ours."""
+        return [it for it in numbers(first(found, CONTEXT)) if it != self.context]
+
+    def has_ours(self, found):
+        value = first(found, CONTEXT)
+        return value is None or self.context in numbers(value)
 
     def echoed(self, found):
         """Our routing context, where the message has one."""
         return b"" if first(found, CONTEXT) is None else number(CONTEXT, self.context)
 
     def not_ours(self, found):
-        return self.error(0x19, parameter(CONTEXT, first(found, CONTEXT)))
+        """ERR of the routing contexts that aren't ours, if there are some (3.8.1)."""
+        invalid = b"".join(struct.pack(">I", it) for it in self.others(found))
+        return self.error(0x19, parameter(CONTEXT, invalid)) if invalid else []
 
-    def availability(self, affected):
-        """DAVA or DUNA of a point code (3.4.1, 3.4.2)."""
-        there = self.reached and struct.unpack(">I", affected)[0] in self.destinations
-        return self.send("DAVA" if there else "DUNA", number(CONTEXT, self.context) + parameter(AFFECTED, affected))
+    def availability(self, affected, there):
+        """DAVA or DUNA of an affected point code (3.4.1, 3.4.2)."""
+        return self.send("DAVA" if there else "DUNA", number(CONTEXT, self.context) + number(AFFECTED, affected))
 
     def all_destinations(self):
-        return [line for code in self.destinations for line in self.availability(struct.pack(">I", code))]
+        return [line for code in self.destinations for line in self.availability(code & 0xFFFFFF, self.reached)]
+
+    def audited(self, affected):
+        """Each destination among the point codes that differ from this one in the lowest bits only, as many as the
+        mask says (3.4.1); DUNA of all of them where there is none."""
+        mask = min(affected >> 24, 24)
+        there = [it & 0xFFFFFF for it in self.destinations if (it & 0xFFFFFF) >> mask == (affected & 0xFFFFFF) >> mask]
+        if not there:
+            return self.availability(affected, False)
+        return [line for code in there for line in self.availability(code, self.reached)]
 
     def data_for(self, msu):
         opc, dpc, si, ni, mp, sls, user = protocol_of(msu)
@@ -235,59 +265,78 @@ class Gateway:
         try:
             name, found = decoded(octets)
         except Fault as fault:
+            kind = tuple(octets[2:4])
             # an ERR, however it is spoilt, is answered by none (3.8.1)
-            return [] if len(octets) >= 4 and tuple(octets[2:4]) == (0, 0) else self.error(fault.args[0])
+            if kind == NUMBERS["ERR"]:
+                return []
+            data = kind == NUMBERS["DATA"]
+            self.refused += data
+            return self.malformed(fault.args[0], octets) + ["refused"] * data
         if name == "ERR":
             return []
         if name == "BEAT":
-            data = first(found, HEARTBEAT)
-            return self.send("BEAT ACK", b"" if data is None else parameter(HEARTBEAT, data))
+            # all parameters, without any change (3.5.6), and each padded (3.2)
+            counted = struct.unpack(">I", octets[4:8])[0]
+            return self.send("BEAT ACK", octets[HEADER:counted] + bytes(-counted % 4))
         if name == "ASPUP":
-            return self.up()
+            return self.up(found)
         if name == "ASPDN":
             self.down()
             return self.send("ASPDN ACK")
         if name == "DATA":
             return self.data(found)
         if self.asp == "DOWN" or name not in ("ASPAC", "ASPIA", "DAUD", "REG REQ", "SCON"):
-            return self.unexpected()
+            return self.unexpected(found)
         if name in ("ASPAC", "ASPIA"):
             return self.traffic(name, found)
-        if name == "DAUD":
-            value = first(found, AFFECTED)
-            return [line for at in range(0, len(value), 4) for line in self.availability(value[at : at + 4])]
-        return self.register(found) if name == "REG REQ" else []
+        if name == "REG REQ":
+            return [line for key in all_of(found, KEY) for line in self.register(key)]
+        if self.others(found):
+            return self.not_ours(found)
+        if name == "SCON":
+            return []
+        # an ASP that isn't active should be sent no SSNM (4.3.1)
+        if self.asp != "ACTIVE":
+            return self.unexpected(found)
+        return [line for affected in numbers(first(found, AFFECTED)) for line in self.audited(affected)]
 
-    def up(self):
+    def up(self, found):
         was, self.asp = self.asp, "INACTIVE"
         lines = self.send("ASPUP ACK")
         if was == "ACTIVE":
-            return lines + self.error(0x06) + self.serves("PENDING")
+            return lines + self.unexpected(found) + self.serves("PENDING")
         if was == "INACTIVE":
             return lines
         if self.server == "DOWN":
             self.server = "INACTIVE"
         return lines + self.notify()
 
-    def register(self, found):
-        """The routing context that there is, for the first routing key (3.6.2)."""
+    def register(self, key):
+        """The result for a routing key (3.6.2): Successfully Registered with the routing context that there is, or
+        Invalid Routing Key where it has no identifier, which is mandatory (3.6.1)."""
         try:
-            identifier = first(parameters(first(found, KEY)), LOCAL) or bytes(4)
+            identifier = first(parameters(key), LOCAL)
         except Fault:
-            identifier = bytes(4)
-        value = parameter(LOCAL, identifier) + number(0x212, 0) + number(CONTEXT, self.context)
+            identifier = None
+        if identifier is None:
+            value = number(LOCAL, 0) + number(0x212, 4) + number(CONTEXT, 0)
+        else:
+            value = parameter(LOCAL, identifier) + number(0x212, 0) + number(CONTEXT, self.context)
         return self.send("REG RSP", parameter(REGISTRATION, value))
 
     def traffic(self, name, found):
-        if not self.ours(found):
+        """ASPAC and ASPIA: our context is acknowledged, the others are invalid (4.3.4.3, 4.3.4.4)."""
+        if not self.has_ours(found):
             return self.not_ours(found)
         if name == "ASPIA":
             was, self.asp = self.asp, "INACTIVE"
-            return self.send("ASPIA ACK", self.echoed(found)) + (self.serves("PENDING") if was == "ACTIVE" else [])
+            lines = self.send("ASPIA ACK", self.echoed(found)) + self.not_ours(found)
+            return lines + (self.serves("PENDING") if was == "ACTIVE" else [])
         mode = first(found, MODE)
         if mode is not None and struct.unpack(">I", mode)[0] not in (1, 2, 3):
             return self.error(0x05)
         lines = self.send("ASPAC ACK", (b"" if mode is None else parameter(MODE, mode)) + self.echoed(found))
+        lines += self.not_ours(found)
         if self.asp == "ACTIVE":
             return lines
         self.asp = "ACTIVE"
@@ -297,24 +346,27 @@ class Gateway:
 
     def data(self, found):
         if self.asp == "DOWN":
-            return self.unexpected(True)
-        if not self.ours(found):
+            return self.unexpected(found, True)
+        if self.others(found):
             self.refused += 1
             return self.not_ours(found) + ["refused"]
         if self.asp != "ACTIVE":
-            return self.unexpected(True)
-        msu = message(protocol(first(found, PROTOCOL)))
+            return self.unexpected(found, True)
+        fields = protocol(first(found, PROTOCOL))
+        msu = message(fields)
         if msu is None or msu[0] & 15 < 3:
             self.refused += 1
-            return self.error(0x12) + ["refused"]
+            # too many octets are a wrong length, all else is a wrong value (3.8.1)
+            return self.error(0x12 if len(fields[6]) > 268 else 0x11) + ["refused"]
         self.waiting.append(msu)
         return ["waits " + msu.hex().upper()]
 
     def delivered(self, msu):
-        """The set delivers a message."""
-        if len(msu) >= 5 and self.server == "ACTIVE":
+        """The set delivers a message. One without a label, or not for level 4, can't be DATA."""
+        fit = len(msu) >= 5 and msu[0] & 15 >= 3
+        if fit and self.server == "ACTIVE":
             return self.data_for(msu)
-        if len(msu) >= 5 and self.server == "PENDING" and len(self.kept) < 256:
+        if fit and self.server == "PENDING" and len(self.kept) < 256:
             self.kept.append(msu)
             return ["kept"]
         self.lost += 1
@@ -352,6 +404,10 @@ def life(words):
                 yield from (("asp " if at == 0 else "") + line for at, line in enumerate(told(kind, octets)))
                 yield from gateway.ended() if kind == "broken" else gateway.octets(octets)
                 stream = b"" if kind == "broken" else stream
+        elif word == "sctp":
+            octets = bytes.fromhex(given)
+            yield from (("asp " if at == 0 else "") + line for at, line in enumerate(told("message", octets)))
+            yield from gateway.octets(octets)
         elif word == "set":
             yield from gateway.delivered(bytes.fromhex(given))
         elif word in ("first", "take", "drop"):

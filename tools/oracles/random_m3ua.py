@@ -77,9 +77,12 @@ def said(dice, context):
     tags += [plain.CONTEXT] * (dice.random() < 0.6) + [plain.MODE] * (name == "ASPAC" and dice.random() < 0.4)
     tags += [dice.choice(plain.SHOWN)] * (dice.random() < 0.1)
     body = b""
+    tags += [plain.KEY] * (name == "REG REQ" and dice.random() < 0.3)
     for tag in tags:
         if tag == plain.CONTEXT and dice.random() < 0.8:
-            body += plain.number(tag, context)
+            several = dice.choices([context, 6, 7], [2, 1, 1], k=dice.randrange(1, 4))
+            given = several if dice.random() < 0.2 else [context]
+            body += plain.parameter(tag, b"".join(it.to_bytes(4, "big") for it in given))
         elif tag == plain.MODE and dice.random() < 0.8:
             body += plain.number(tag, dice.randrange(1, 4))
         elif tag == plain.KEY and dice.random() < 0.8:
@@ -88,11 +91,20 @@ def said(dice, context):
             label = bytes([0, 0, 0, 1, 0, 0, 0, 2, dice.choice([2, 3, 5]), dice.randrange(4), dice.randrange(4)])
             body += plain.parameter(tag, label + bytes([dice.randrange(3)]) + dice.randbytes(dice.randrange(9)))
         elif tag == plain.AFFECTED and dice.random() < 0.8:
-            body += plain.parameter(tag, bytes([0, 0, 0, dice.randrange(4)]) * dice.randrange(1, 4))
+            mask = dice.choice([0, 0, 0, 1, 2, 24, 255])
+            body += plain.parameter(tag, bytes([mask, 0, 0, dice.randrange(6)]) * dice.randrange(1, 4))
         else:
             body += plain.parameter(tag, value(dice, tag))
     octets = plain.encoded(name, body)
     return tampered(dice, octets) if dice.random() < 0.3 else octets
+
+
+def delivered(dice, context):
+    """A message as SCTP delivers it, whose header may leave out some octets of padding."""
+    octets = bytearray(said(dice, context))
+    if len(octets) >= 8 and dice.random() < 0.8:
+        octets[4:8] = max(len(octets) - dice.randrange(5), 0).to_bytes(4, "big")
+    return bytes(octets)
 
 
 def msu(dice):
@@ -115,6 +127,8 @@ def life(dice):
             octets = b"".join(said(dice, context) for _ in range(dice.choice([1, 1, 1, 2, 3])))
             cut = dice.randrange(1, len(octets)) if dice.random() < 0.1 else len(octets)
             words += [word for piece in (octets[:cut], octets[cut:]) if piece for word in ("m3ua", piece.hex().upper())]
+        elif chance < 0.65:
+            words += ["sctp", delivered(dice, context).hex().upper()]
         elif chance < 0.75:
             words += ["set", msu(dice).hex().upper()]
         elif chance < 0.9:

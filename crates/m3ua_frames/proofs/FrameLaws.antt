@@ -1,26 +1,28 @@
 -- Octets are those of at most one message, and the octets sent for a message are read.
-use Rattle.std.proofs.Common.{◌≡◌, ℕ, ◌+◌, ◌<◌, Bool, true, false, cond, eqb, ◌⊎◌, List, [], ◌∷◌, ◌++◌, length, drop, get_or, Option, Some, None, Result, Ok, Err, inl, inr, refl, sym, ap, subst, ◌∙◌, append_assoc, arith}
+use Rattle.std.proofs.Common.{◌≡◌, ℕ, ◌+◌, ◌-◌, ◌<◌, ◌≤◌, Bool, true, false, cond, eqb, leb, ◌⊎◌, List, [], ◌∷◌, ◌++◌, length, take, drop, get_or, Option, Some, None, Result, Ok, Err, inl, inr, refl, sym, ap, subst, ◌∙◌, append_assoc, arith}
 use Rattle.std.specs.Prelude.{replicate, slice_index, is_some, ◌&&◌}
 use Rattle.std.specs.Option.{option_map}
 use Rattle.std.specs.List.{AllByRecursion}
-use Rattle.std.proofs.lemmas.List.{at_drop_more, length-replicate}
+use Rattle.std.proofs.lemmas.Bool.{le-leb, lt-leb, eq-eqb}
+use Rattle.std.proofs.lemmas.List.{at_drop_more, length-replicate, take_all, length-drop}
 use Rattle.m3ua_frames.specs.declared.faults.Fault.{Fault}
 use Rattle.m3ua_frames.specs.declared.faults.Fault.TheVariants as fault
 use Rattle.m3ua_frames.specs.declared.kinds.Kind.{Kind}
 use Rattle.m3ua_frames.specs.declared.kinds.Kind.TheVariants as kind
 use Rattle.m3ua_frames.specs.Kinds.{class_of, type_of, kind_by, management, transfer, network, state, traffic, keys}
 use Rattle.m3ua_frames.specs.Parameters.{Parameter, IsFirst, IsParameter, AreParameters, padding_after, padded, all_padded, value_of}
-use Rattle.m3ua_frames.specs.Frame.{Message, IsFrame, Refuses, IsMessage, spelling, mandatory, has_all, kind_in, TellsLength, IsVersion1}
+use Rattle.m3ua_frames.specs.Laws.{EncodedIsRead}
+use Rattle.m3ua_frames.specs.Frame.{Message, header, IsFrame, Refuses, IsMessage, spelling, mandatory, has_all, kind_in, told_length, tells, tells_length, TellsLength, body, IsVersion1}
 use Rattle.m3ua_frames.proofs.ParameterLaws.{Good, one_list}
 
 same_kind : (r : Result Kind Fault) (a b : Kind) → r ≡ Ok a → r ≡ Ok b → a ≡ b
 same_kind r a b e f = let both = sym e ∙ f in cc
 
 same_message : (octets : List ℕ) (m n : Message) → kind_in octets ≡ Ok m.kind → kind_in octets ≡ Ok n.kind
-    → AreParameters (drop 8 octets) m.parameters → AreParameters (drop 8 octets) n.parameters → m ≡ n
+    → AreParameters (body octets) m.parameters → AreParameters (body octets) n.parameters → m ≡ n
 same_message octets m n m_kind n_kind m_list n_list =
     let kinds : m.kind ≡ n.kind = same_kind (kind_in octets) m.kind n.kind m_kind n_kind in
-    let lists : m.parameters ≡ n.parameters = one_list (drop 8 octets) m.parameters n.parameters m_list n_list in
+    let lists : m.parameters ≡ n.parameters = one_list (body octets) m.parameters n.parameters m_list n_list in
     ap (λ (x : Kind). record { kind = x; parameters = m.parameters }) kinds ∙ ap (λ (ps : List Parameter). record { kind = n.kind; parameters = ps }) lists
 
 pub one_message : (octets : List ℕ) (m n : Message) → IsFrame octets m → IsFrame octets n → m ≡ n
@@ -122,14 +124,35 @@ list_again : (ps : List Parameter) → AllByRecursion IsParameter ps → ArePara
 list_again [] h = refl
 list_again (p ∷ ps) h = (all_padded ps, first_again p (all_padded ps) h.0, list_again ps h.1)
 
+pub tells_all : (octets : List ℕ) → 8 ≤ length octets → told_length octets ≡ length octets → TellsLength octets
+tells_all octets long same =
+    let a : leb 8 (length octets) ≡ true = le-leb 8 (length octets) long in
+    let b : leb 8 (told_length octets) ≡ true = le-leb 8 (told_length octets) (omega (arith, long, same)) in
+    let c : eqb (told_length octets) (length octets) ≡ true = eq-eqb _ _ same in
+    rw (a, b, c) refl
+
+body_all : (octets : List ℕ) → told_length octets ≡ length octets → body octets ≡ drop 8 octets
+body_all octets same =
+    ap (λ (n : ℕ). take (n - 8) (drop 8 octets)) same ∙ take_all (length octets - 8) (drop 8 octets) (omega (arith, length-drop 8 octets))
+
+pub encoded_is_read : EncodedIsRead
+encoded_is_read k octets ps are few all =
+    let told : told_length (header k (length octets) ++ octets) ≡ length (header k (length octets) ++ octets) = omega (arith, few) in
+    record {
+      counted = tells_all (header k (length octets) ++ octets) (omega arith) told;
+      version = refl;
+      kind = kind_again k;
+      parameters = subst (λ (xs : List ℕ). AreParameters xs ps) (sym (body_all (header k (length octets) ++ octets) told)) are;
+      complete = all;
+    }
+
 pub spelled_is_read : (m : Message) → IsMessage m → IsFrame (spelling m) m
-spelled_is_read m h = record {
-  counted = (omega arith, omega (arith, h.fits));
-  version = refl;
-  kind = kind_again m.kind;
-  parameters = list_again m.parameters h.each;
-  complete = h.complete;
-}
+spelled_is_read m h = encoded_is_read m.kind (all_padded m.parameters) m.parameters (list_again m.parameters h.each) h.fits h.complete
+
+pub short_length : (octets : List ℕ) → length octets < 8 → TellsLength octets → ⊥
+short_length octets short e =
+    let no : leb 8 (length octets) ≡ false = lt-leb 8 (length octets) short in
+    let wrong : false ≡ true = ap (λ (b : Bool). b && tells (told_length octets) (length octets)) (sym no) ∙ e in cc
 
 -- ---- why there is no such message
 
@@ -204,13 +227,19 @@ pub all_from : (tags : List ℕ) (i t : ℕ) (ps : List Parameter) → i < lengt
 all_from tags i t ps lt at =
     at_drop_more (λ (ts : List ℕ). has_all ts ps) tags i 0 lt ∙ ap (λ (x : ℕ). is_some (value_of x ps) && has_all (drop (i + 1) tags) ps) (sym at)
 
-pub all_there : (octets : List ℕ) (kind : Kind) → TellsLength octets → IsVersion1 octets → kind_in octets ≡ Ok kind → Good (drop 8 octets)
-    → ((ps : List Parameter) → AreParameters (drop 8 octets) ps → true ≡ has_all (mandatory kind) ps)
-    → (ps : List Parameter) × AreParameters (drop 8 octets) ps × IsFrame octets (record { kind = kind; parameters = ps })
+pub all_there : (octets : List ℕ) (kind : Kind) → TellsLength octets → IsVersion1 octets → kind_in octets ≡ Ok kind → Good (body octets)
+    → ((ps : List Parameter) → AreParameters (body octets) ps → true ≡ has_all (mandatory kind) ps)
+    → (ps : List Parameter) × AreParameters (body octets) ps × IsFrame octets (record { kind = kind; parameters = ps })
 all_there octets kind counted version is g all =
     (g.0, g.1, record { counted = counted; version = version; kind = is; parameters = g.1; complete = sym (all g.0 g.1) })
 
-pub not_all_there : (octets : List ℕ) (kind : Kind) → TellsLength octets → IsVersion1 octets → kind_in octets ≡ Ok kind → Good (drop 8 octets)
-    → ((ps : List Parameter) → AreParameters (drop 8 octets) ps → false ≡ has_all (mandatory kind) ps) → Refuses octets fault.Missing
+pub not_all_there : (octets : List ℕ) (kind : Kind) → TellsLength octets → IsVersion1 octets → kind_in octets ≡ Ok kind → Good (body octets)
+    → ((ps : List Parameter) → AreParameters (body octets) ps → false ≡ has_all (mandatory kind) ps) → Refuses octets fault.Missing
 not_all_there octets kind counted version is g all =
     (counted, version, (record { kind = kind; parameters = g.0 }, is, g.1, sym (all g.0 g.1)))
+
+pub no_length : (octets : List ℕ) → tells_length octets ≡ false → TellsLength octets → ⊥
+no_length octets not_told told = let wrong : false ≡ true = sym not_told ∙ told in cc
+
+pub none_good_there : (octets : List ℕ) (kind : Kind) → TellsLength octets → IsVersion1 octets → kind_in octets ≡ Ok kind → (Good (body octets) → ⊥) → Refuses octets fault.Field
+none_good_there octets kind counted version is none = (counted, version, (kind, is), none)

@@ -1,4 +1,6 @@
 pub mod FrameLaws
+pub mod NumberLaws
+pub mod PaddingLaws
 pub mod ParameterLaws
 pub mod ProtocolLaws
 pub mod StreamLaws

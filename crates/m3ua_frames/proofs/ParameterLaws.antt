@@ -5,7 +5,7 @@ use Rattle.std.proofs.lemmas.Bool.{ltb-false, le-ltb, eqb-true}
 use Rattle.std.proofs.lemmas.List.{take_at, drop_at, take-append-drop, length-append, length-take, length-drop, nil_from_length}
 use Rattle.m3ua_frames.specs.Numbers.{number_2}
 use Rattle.m3ua_frames.specs.Tags.{is_sized}
-use Rattle.m3ua_frames.specs.Parameters.{Parameter, IsFirst, AreParameters, padding_after, value_of}
+use Rattle.m3ua_frames.specs.Parameters.{Parameter, IsFirst, AreParameters, IsNext, padding_after, value_of, values_of}
 use Rattle.m3ua_frames.specs.Reading.{past_padding, value_at, parameter_at}
 
 guard_none : {A : Type 0} (b : Bool) (x : Option A) (y : A) → cond b None x ≡ Some y → (b ≡ false) × (x ≡ Some y)
@@ -182,3 +182,33 @@ pub value_at_end : (tag : ℕ) (octets rest : List ℕ) → length rest ≡ 0
 value_at_end tag octets rest empty so_far ps a =
     let here = so_far ps a in
     sym (here.2 ∙ ap (value_of tag) (none_left rest here.0 empty here.1))
+
+-- ---- the values of a tag
+
+abbrev pub SameValues : ℕ → List ℕ → List ℕ → Type 0
+SameValues tag octets rest = (ps : List Parameter) → AreParameters octets ps → (qs : List Parameter) × AreParameters rest qs × (values_of tag ps ≡ values_of tag qs)
+
+pub values_behind : (tag : ℕ) (octets rest after : List ℕ) (p : Parameter) → parameter_at rest ≡ Some (p, after) → eqb p.tag tag ≡ false → SameValues tag octets rest → SameValues tag octets after
+values_behind tag octets rest after p e other so_far ps a =
+    let here = so_far ps a in
+    let b = behind_first rest p after here.0 e here.1 in
+    let skips : values_of tag (p ∷ b.0) ≡ values_of tag b.0 = ap (λ (t : Bool). cond t (p.value ∷ values_of tag b.0) (values_of tag b.0)) other in
+    (b.0, b.2, here.2 ∙ ap (values_of tag) b.1 ∙ skips)
+
+pub values_there : (tag : ℕ) (octets rest after : List ℕ) (p : Parameter) → parameter_at rest ≡ Some (p, after) → eqb p.tag tag ≡ true → SameValues tag octets rest
+    → (ps : List Parameter) → AreParameters octets ps → IsNext tag ps (Some (p.value, after))
+values_there tag octets rest after p e same so_far ps a =
+    let here = so_far ps a in
+    let b = behind_first rest p after here.0 e here.1 in
+    let takes : values_of tag (p ∷ b.0) ≡ p.value ∷ values_of tag b.0 = ap (λ (t : Bool). cond t (p.value ∷ values_of tag b.0) (values_of tag b.0)) same in
+    (b.0, b.2, here.2 ∙ ap (values_of tag) b.1 ∙ takes)
+
+pub values_nowhere : (tag : ℕ) (octets rest : List ℕ) → parameter_at rest ≡ None → SameValues tag octets rest → (ps : List Parameter) → AreParameters octets ps → values_of tag ps ≡ []
+values_nowhere tag octets rest e so_far ps a =
+    let here = so_far ps a in
+    here.2 ∙ ap (values_of tag) (none_first rest here.0 e here.1)
+
+pub values_at_end : (tag : ℕ) (octets rest : List ℕ) → length rest ≡ 0 → SameValues tag octets rest → (ps : List Parameter) → AreParameters octets ps → values_of tag ps ≡ []
+values_at_end tag octets rest empty so_far ps a =
+    let here = so_far ps a in
+    here.2 ∙ ap (values_of tag) (none_left rest here.0 empty here.1)

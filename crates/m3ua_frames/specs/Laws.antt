@@ -1,8 +1,11 @@
 -- Laws over the definitions of this crate, each the contract of a public function.
-use Rattle.std.specs.Prelude.{◌≡◌, ℕ, ◌^◌, ◌<◌, Some, List, slice_index}
+use Rattle.std.specs.Prelude.{◌≡◌, ℕ, ◌+◌, ◌^◌, ◌<◌, ◌++◌, true, Some, List, length, slice_index}
 use Rattle.std.specs.List.{concat}
 use Rattle.m3ua_frames.specs.declared.faults.Fault.{Fault}
+use Rattle.m3ua_frames.specs.declared.kinds.Kind.{Kind}
+use Rattle.m3ua_frames.specs.Parameters.{Parameter, AreParameters, completed}
 use Rattle.m3ua_frames.specs.Frame.{Message, IsFrame, Refuses, IsMessage, spelling}
+use Rattle.m3ua_frames.specs.Frame.{header, mandatory, has_all}
 use Rattle.m3ua_frames.specs.Protocol.{Protocol, protocol_in}
 use Rattle.m3ua_frames.specs.Stream.{Item, Stream, start, items_in, items_of_pieces}
 
@@ -19,6 +22,19 @@ OneReason =
 -- the octets sent for a message are its octets
 abbrev pub SpelledIsRead : Type 0
 SpelledIsRead = (m : Message) → IsMessage m → IsFrame (spelling m) m
+
+-- octets of parameters are those of a message, once its header stands before them
+abbrev pub EncodedIsRead : Type 0
+EncodedIsRead =
+    (k : Kind) (octets : List ℕ) (ps : List Parameter) → AreParameters octets ps
+    → length octets + 8 < 2 ^ 32 → has_all (mandatory k) ps ≡ true
+    → IsFrame (header k (length octets) ++ octets) (record { kind = k; parameters = ps })
+
+-- octets of parameters are those of the same parameters, once the last one has its padding
+abbrev pub CompletedIsRead : Type 0
+CompletedIsRead =
+    (octets : List ℕ) (ps : List Parameter) → AreParameters octets ps
+    → AreParameters (completed octets) ps
 
 -- protocol data is that of at most one MTP message
 abbrev pub AreOctets : List ℕ → Type 0

@@ -38,6 +38,18 @@ abbrev pub value_of : ℕ → List Parameter → Option (List ℕ)
 value_of tag [] = None
 value_of tag (p ∷ ps) = if p.tag == tag then Some p.value else value_of tag ps
 
+-- the values of the parameters with this tag, in order
+abbrev pub values_of : ℕ → List Parameter → List (List ℕ)
+values_of tag [] = []
+values_of tag (p ∷ ps) = if p.tag == tag then p.value ∷ values_of tag ps else values_of tag ps
+
+-- The first value with this tag among parameters, and the octets of the parameters after it.
+abbrev pub IsNext : ℕ → List Parameter → Option (List ℕ × List ℕ) → Type 0
+IsNext tag ps None = values_of tag ps ≡ []
+IsNext tag ps (Some x) =
+    (qs : List Parameter) × AreParameters x.1 qs
+    × (values_of tag ps ≡ x.0 ∷ values_of tag qs)
+
 -- ---- parameters in the form in which they are sent
 
 -- a parameter that can be sent
@@ -54,3 +66,7 @@ padded p =
 
 abbrev pub all_padded : List Parameter → List ℕ
 all_padded ps = flat_map padded ps
+
+-- octets of parameters, of which the last has its padding
+abbrev pub completed : List ℕ → List ℕ
+completed octets = octets ++ replicate (padding_after (length octets)) 0

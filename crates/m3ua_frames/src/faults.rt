@@ -5,7 +5,8 @@ ghost use Rattle.m3ua_frames.specs.Faults.{code_of};
 /// Why octets are no message: the first fault that applies.
 #[derive(Clone, Copy, Debug, PartialEq, Eq)]
 pub enum Fault {
-    /// The octets are fewer than a common header has, or not as many as the header says.
+    /// The octets are fewer than a common header has, or not as many as the header says, with or without the last
+    /// padding.
     Length,
     /// The version isn't 1.
     Version,

@@ -1,14 +1,14 @@
 //! Messages as octets.
-ghost use Rattle.std.specs.Prelude.{◌≡◌, ◌≤◌, ◌+◌, ◌++◌, List, Ok, IfOk, IfErr, IfSome, IsTrue, length};
+ghost use Rattle.std.specs.Prelude.{◌≡◌, ◌≤◌, ◌<◌, ◌+◌, ◌-◌, ◌^◌, ◌++◌, List, Ok, IfOk, IfErr, IfSome, IsTrue, length};
 ghost use Rattle.std.specs.Option.{option_map};
 ghost use Rattle.arrayvec.specs.ArrayVec.{array_vec_len};
 ghost use Rattle.m3ua_frames.specs.Parameters.{Parameter, AreParameters, value_of};
-ghost use Rattle.m3ua_frames.specs.Frame.{IsFrame, Refuses, TellsLength, mandatory, has_all, header};
+ghost use Rattle.m3ua_frames.specs.Frame.{IsFrame, Refuses, tells, tells_length, body, mandatory, has_all, header};
 
 use crate::faults::Fault;
 use crate::kinds::{Kind, kind_of};
 use crate::numbers::{number_4, push_4};
-use crate::parameters::{are_parameters, find};
+use crate::parameters::{are_parameters, find, padding_after};
 use crate::tag;
 use arrayvec::ArrayVec;
 
@@ -54,13 +54,48 @@ fn has_all(tags: &[u16], parameters: &[u8]) -> bool
     true
 }
 
+/// Whether a length in a header is that of so many octets, with or without the last padding.
+fn tells(told: usize, len: usize) -> bool
+    requires { told < 2 ^ 32 }
+    ensures { result ≡ tells told len }
+{
+    told >= 8 && (told == len || told + padding_after(told) == len)
+}
+
+/// Whether the header of octets tells their length.
+fn tells_length(octets: &[u8]) -> bool
+    ensures { result ≡ tells_length octets.now }
+{
+    octets.len() >= 8 && tells(number_4(octets, 4) as usize, octets.len())
+}
+
+/// The octets after a header that its length counts: those of the parameters, if they are a message.
+pub fn parameters_of(octets: &[u8]) -> &[u8]
+    ensures value { result.now ≡ body octets.now }
+    ensures within { length result.now ≤ length octets.now - 8 }
+{
+    if octets.len() < 8 {
+        return &[];
+    }
+    let told = number_4(octets, 4) as usize;
+    if told < 8 {
+        return &[];
+    }
+    let (_, behind) = octets.split_at(8);
+    if told - 8 > behind.len() {
+        return behind;
+    }
+    behind.split_at(told - 8).0
+}
+
 /// Decodes the octets of a message.
 ///
 /// # Errors
 ///
 /// The first of these that applies.
 ///
-/// - `Length` if there are fewer than 8 octets, or not as many as the header says (RFC 4666, 3.1.4).
+/// - `Length` if there are fewer than 8 octets, or not as many as the header says (RFC 4666, 3.1.4). The header may
+///   leave out the padding of the last parameter, though it is there.
 /// - `Version` if the version isn't 1 (3.1.1).
 /// - `UnknownClass` and `UnknownType` if there is no such class, or no such type in it (3.1.2).
 /// - `Field` if the octets after the header aren't parameters, or the length of one is wrong (3.2).
@@ -73,7 +108,7 @@ pub fn decode(octets: &[u8]) -> Result<Frame<'_>, Fault>
     if octets.len() < 8 {
         return Err(Fault::Length);
     }
-    if number_4(octets, 4) as usize != octets.len() {
+    if !tells_length(octets) {
         return Err(Fault::Length);
     }
     if octets[0] != 1 {
@@ -83,7 +118,7 @@ pub fn decode(octets: &[u8]) -> Result<Frame<'_>, Fault>
         Ok(kind) => kind,
         Err(fault) => return Err(fault),
     };
-    let parameters = &octets[8..];
+    let parameters = parameters_of(octets);
     if !are_parameters(parameters) {
         return Err(Fault::Field);
     }

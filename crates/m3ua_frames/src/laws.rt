@@ -1,5 +1,5 @@
 //! Laws over the definitions that the contracts of this crate cite. Each is the contract of a function without code.
-ghost use Rattle.m3ua_frames.specs.Laws.{OneMessage, OneReason, SpelledIsRead, OneCarrier, OneStream, AnyCut};
+ghost use Rattle.m3ua_frames.specs.Laws.{OneMessage, OneReason, SpelledIsRead, EncodedIsRead, CompletedIsRead, OneCarrier, OneStream, AnyCut};
 
 /// Octets are those of at most one message.
 pub fn one_message()
@@ -14,6 +14,16 @@ pub fn one_reason()
 /// The octets sent for a message are its octets.
 pub fn spelled_is_read()
     ensures { SpelledIsRead }
+{}
+
+/// What [`encode`](crate::encode) writes is read as the kind and the parameters that it was given.
+pub fn encoded_is_read()
+    ensures { EncodedIsRead }
+{}
+
+/// The padding of the last parameter changes no parameter.
+pub fn completed_is_read()
+    ensures { CompletedIsRead }
 {}
 
 /// Protocol data is that of at most one MTP message.

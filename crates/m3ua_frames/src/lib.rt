@@ -13,9 +13,11 @@ mod stream;
 pub mod tag;
 
 pub use faults::Fault;
-pub use frames::{Frame, decode, encode};
+pub use frames::{Frame, decode, encode, parameters_of};
 pub use kinds::Kind;
-pub use numbers::number_4;
-pub use parameters::{are_parameters, find, push_number, push_parameter};
+pub use numbers::{next_number, number_4, push_4};
+pub use parameters::{
+    are_parameters, find, find_next, push_number, push_parameter, push_parameters,
+};
 pub use protocol::{ProtocolData, message_of, protocol_data, protocol_data_of, push_protocol_data};
 pub use stream::{Deframer, Heard};

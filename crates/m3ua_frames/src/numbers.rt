@@ -1,7 +1,8 @@
 //! Numbers as octets.
-ghost use Rattle.std.specs.Prelude.{◌≡◌, ◌≤◌, ◌<◌, ◌+◌, ◌^◌, ◌++◌, length, replicate};
+ghost use Rattle.std.specs.Prelude.{◌≡◌, ◌≤◌, ◌<◌, ◌+◌, ◌^◌, ◌++◌, IfSome, length, replicate};
+ghost use Rattle.std.specs.Option.{option_map};
 ghost use Rattle.arrayvec.specs.ArrayVec.{array_vec_len};
-ghost use Rattle.m3ua_frames.specs.Numbers.{number_2, number_4, octets_2, octets_4};
+ghost use Rattle.m3ua_frames.specs.Numbers.{number_2, number_4, octets_2, octets_4, numbers_in, numbers_from};
 
 use arrayvec::ArrayVec;
 
@@ -22,6 +23,18 @@ pub fn number_4(octets: &[u8], at: usize) -> u32
     a as u32 * 0x0100_0000 + b as u32 * 0x0001_0000 + c as u32 * 0x0100 + d as u32
 }
 
+/// The number in the first four octets, and the octets after them; `None` if there are fewer than four.
+pub fn next_number(octets: &[u8]) -> Option<(u32, &[u8])>
+    ensures value { numbers_in octets.now ≡ numbers_from (option_map (λ x. (x.0, x.1.now)) result) }
+    ensures rest { IfSome result (λ x. length x.1.now + 4 ≡ length octets.now) }
+{
+    if octets.len() < 4 {
+        return None;
+    }
+    let (number, rest) = octets.split_at(4);
+    Some((number_4(number, 0), rest))
+}
+
 /// Appends a number as two octets.
 pub(crate) fn push_2<const N: usize>(octets: &mut ArrayVec<u8, N>, number: u16)
     requires { array_vec_len octets.old + 2 ≤ N }
@@ -32,7 +45,7 @@ pub(crate) fn push_2<const N: usize>(octets: &mut ArrayVec<u8, N>, number: u16)
 }
 
 /// Appends a number as four octets.
-pub(crate) fn push_4<const N: usize>(octets: &mut ArrayVec<u8, N>, number: u32)
+pub fn push_4<const N: usize>(octets: &mut ArrayVec<u8, N>, number: u32)
     requires { array_vec_len octets.old + 4 ≤ N }
     ensures { octets.new.items ≡ octets.old.items ++ octets_4 number }
 {

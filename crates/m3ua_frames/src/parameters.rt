@@ -1,10 +1,10 @@
 //! Parameters.
-ghost use Rattle.std.specs.Prelude.{◌≡◌, ◌≤◌, ◌<◌, ◌+◌, ◌^◌, ◌++◌, ◌==◌, ◌↔◌, List, Some, None, IsTrue, length};
+ghost use Rattle.std.specs.Prelude.{◌≡◌, ◌≤◌, ◌<◌, ◌+◌, ◌^◌, ◌++◌, ◌==◌, ◌↔◌, List, Some, None, IsTrue, IfSome, length};
 ghost use Rattle.std.specs.Option.{option_map};
 ghost use Rattle.arrayvec.specs.ArrayVec.{array_vec_len};
 ghost use Rattle.m3ua_frames.specs.Numbers.{octets_4};
 ghost use Rattle.m3ua_frames.specs.Tags.{is_sized};
-ghost use Rattle.m3ua_frames.specs.Parameters.{Parameter, IsParameter, AreParameters, padding_after, padded, value_of};
+ghost use Rattle.m3ua_frames.specs.Parameters.{Parameter, IsParameter, AreParameters, IsNext, padding_after, padded, completed, value_of};
 ghost use Rattle.m3ua_frames.specs.Reading.{past_padding, value_at, parameter_at};
 
 use crate::numbers::{number_2, push_2, push_4, push_zeros};
@@ -112,6 +112,37 @@ pub fn find(octets: &[u8], tag: u16) -> Option<&[u8]>
         }
     }
     None
+}
+
+/// The value of the first parameter with this tag, and the octets of the parameters after it.
+pub fn find_next(octets: &[u8], tag: u16) -> Option<(&[u8], &[u8])>
+    ensures found { (ps : List Parameter) → AreParameters octets.now ps
+        → IsNext tag ps (option_map (λ x. (x.0.now, x.1.now)) result) }
+    ensures shorter { IfSome result (λ x. length x.1.now < length octets.now) }
+{
+    let mut rest = octets;
+    while !rest.is_empty() {
+        match first_parameter(rest) {
+            None => return None,
+            Some((found, value, after)) => {
+                if found == tag {
+                    return Some((value, after));
+                }
+                rest = after;
+            }
+        }
+    }
+    None
+}
+
+/// Appends the octets of parameters, and the padding of the last one if it is missing.
+pub fn push_parameters<const N: usize>(octets: &mut ArrayVec<u8, N>, parameters: &[u8])
+    requires { array_vec_len octets.old + length parameters.now + 3 ≤ N }
+    ensures items { octets.new.items ≡ octets.old.items ++ completed parameters.now }
+    ensures len { array_vec_len octets.new ≤ array_vec_len octets.old + length parameters.now + 3 }
+{
+    octets.try_extend_from_slice(parameters).unwrap();
+    push_zeros(octets, padding_after(parameters.len()));
 }
 
 /// Appends a parameter with its padding of zeros.

@@ -89,7 +89,8 @@ impl Deframer {
 
     /// The octets of the message completed last, or of the header of one too long, or of a message not complete yet.
     pub fn octets(&self) -> &[u8]
-        ensures { result.now ≡ self.now.octets }
+        ensures value { result.now ≡ self.now.octets }
+        ensures within { length result.now ≤ 4096 }
     {
         self.octets.as_slice()
     }

@@ -1,6 +1,9 @@
 pub mod AskingLaws
+pub mod ContextLaws
 pub mod HearingLaws
 pub mod LifeLaws
+pub mod MovingLaws
+pub mod OrderLaws
 pub mod QueueLaws
 pub mod SendingLaws
 pub mod TableLaws

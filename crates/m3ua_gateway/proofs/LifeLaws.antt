@@ -10,10 +10,10 @@ use Rattle.m3ua_gateway.specs.declared.states.State.{State}
 use Rattle.m3ua_gateway.specs.declared.states.State.TheVariants as state
 use Rattle.m3ua_gateway.specs.declared.table.Action.{Action}
 use Rattle.m3ua_gateway.specs.Table.{step}
-use Rattle.m3ua_gateway.specs.Life.{Holds, Deed, happens, comes, delivers, takes, drops, Life, standing, joined, counted, Account, account_of, strange_in, is_release, is_loss, Within, none, same, more, after_happening, after_coming, after_delivery, is_labelled, is_unlabelled, for_delivery, after_taking, after_dropping, is_of, first_of, without_first, lived, life_of, is_data, IsUpward, IsDownward, IsInOrder, IsLabelled, IsEachData, IsKept, MOST_KEPT}
+use Rattle.m3ua_gateway.specs.Life.{Holds, Deed, happens, comes, delivers, takes, drops, Life, standing, joined, counted, Account, account_of, strange_in, is_release, is_loss, Within, none, same, more, after_happening, after_coming, after_delivery, is_fit, is_unfit, for_delivery, after_taking, after_dropping, is_of, first_of, without_first, lived, life_of, is_data, IsUpward, IsDownward, IsInOrder, AreFit, IsEachData, IsKept, MOST_KEPT}
 use Rattle.m3ua_gateway.specs.States.{server_in, is_pending, is_active}
 use Rattle.m3ua_gateway.specs.Laws.{Followed}
-use Rattle.m3ua_gateway.proofs.TableLaws.{messages_moved}
+use Rattle.m3ua_gateway.proofs.MovingLaws.{messages_moved}
 use Rattle.m3ua_gateway.specs.declared.table.Happening.{Happening}
 use Rattle.m3ua_gateway.specs.declared.table.Happening.TheVariants as happening
 
@@ -194,7 +194,7 @@ kept_lived : (l : Life) (d : Deed) → IsKept l → IsKept (lived l d)
 unfolding lived
 kept_lived l (happens h) k = kept_happening l h (strange_in h) k
 kept_lived l (comes m) k = kept_coming l m l.holds.state k
-kept_lived l (delivers m) k = kept_labelled (is_labelled m) l m k
+kept_lived l (delivers m) k = kept_labelled (is_fit m) l m k
 kept_lived l (takes n) k = kept_taking l n (first_of n l.holds.waiting) k
 kept_lived l (drops n) k = kept_dropping l n (first_of n l.holds.waiting) k
 
@@ -204,7 +204,7 @@ within_same : (ms : List Msu) → Within ms ms
 within_same [] = none []
 within_same (m ∷ ms) = same m ms ms (within_same ms)
 
-within_later : (ms ns : List Msu) (m : Msu) → Within ms ns → Within ms (ns ++ m ∷ [])
+pub within_later : (ms ns : List Msu) (m : Msu) → Within ms ns → Within ms (ns ++ m ∷ [])
 within_later _ _ m (none ns) = none (ns ++ m ∷ [])
 within_later _ _ m (same n ms ns w) = same n ms (ns ++ m ∷ []) (within_later ms ns m w)
 within_later _ _ m (more n ms ns w) = more n ms (ns ++ m ∷ []) (within_later ms ns m w)
@@ -213,7 +213,7 @@ within_end : (ns : List Msu) (m : Msu) → Within (m ∷ []) (ns ++ m ∷ [])
 within_end [] m = same m [] [] (none [])
 within_end (n ∷ ns) m = more n (m ∷ []) (ns ++ m ∷ []) (within_end ns m)
 
-within_push : (ms ns : List Msu) (m : Msu) → Within ms ns → Within (ms ++ m ∷ []) (ns ++ m ∷ [])
+pub within_push : (ms ns : List Msu) (m : Msu) → Within ms ns → Within (ms ++ m ∷ []) (ns ++ m ∷ [])
 within_push _ _ m (none ns) = within_end ns m
 within_push _ _ m (same n ms ns w) = same n (ms ++ m ∷ []) (ns ++ m ∷ []) (within_push ms ns m w)
 within_push _ _ m (more n ms ns w) = more n (ms ++ m ∷ []) (ns ++ m ∷ []) (within_push ms ns m w)
@@ -276,7 +276,7 @@ order_lived : (l : Life) (d : Deed) → IsKept l → IsInOrder l → IsInOrder (
 unfolding lived
 order_lived l (happens h) k w = order_by (list_any is_release (step l.holds.state h).1) (list_any is_loss (step l.holds.state h).1) l.sent l.holds.kept l.delivered w
 order_lived l (comes m) k w = order_coming l m l.holds.state w
-order_lived l (delivers m) k w = order_labelled (is_labelled m) l m k w
+order_lived l (delivers m) k w = order_labelled (is_fit m) l m k w
 order_lived l (takes n) k w = order_taking l n (first_of n l.holds.waiting) w
 order_lived l (drops n) k w = order_dropping l n (first_of n l.holds.waiting) w
 
@@ -296,46 +296,46 @@ label_by true c test sent kept h = omega (arith, join test sent kept, h)
 label_by false true test sent kept h = omega (arith, join test sent [], h)
 label_by false false test sent kept h = omega (arith, join test sent [], h)
 
-label_coming : (l : Life) (m : Msu) (s : State) → IsLabelled l → IsLabelled (after_coming l m s)
+label_coming : (l : Life) (m : Msu) (s : State) → AreFit l → AreFit (after_coming l m s)
 label_coming l m state.Down h = h
 label_coming l m state.Inactive h = h
 label_coming l m state.Active h = h
 label_coming l m state.DownPending h = h
 label_coming l m state.InactivePending h = h
 
-label_pending : (b : Bool) (l : Life) (m : Msu) → is_unlabelled m ≡ false → IsLabelled l
-    → IsLabelled (cond b (record l { holds = record l.holds { kept = l.holds.kept ++ m ∷ [] }; delivered = l.delivered ++ m ∷ [] }) (record l { delivered = l.delivered ++ m ∷ []; lost = l.lost ++ m ∷ [] }))
-label_pending true l m has h = omega (arith, h, push is_unlabelled l.holds.kept m, ap (λ (b : Bool). cond {A = ℕ} b 1 0) has)
+label_pending : (b : Bool) (l : Life) (m : Msu) → is_unfit m ≡ false → AreFit l
+    → AreFit (cond b (record l { holds = record l.holds { kept = l.holds.kept ++ m ∷ [] }; delivered = l.delivered ++ m ∷ [] }) (record l { delivered = l.delivered ++ m ∷ []; lost = l.lost ++ m ∷ [] }))
+label_pending true l m has h = omega (arith, h, push is_unfit l.holds.kept m, ap (λ (b : Bool). cond {A = ℕ} b 1 0) has)
 label_pending false l m has h = h
 
-label_delivery : (l : Life) (m : Msu) (s : State) → is_unlabelled m ≡ false → IsLabelled l → IsLabelled (after_delivery l m s)
+label_delivery : (l : Life) (m : Msu) (s : State) → is_unfit m ≡ false → AreFit l → AreFit (after_delivery l m s)
 label_delivery l m state.Down has h = h
 label_delivery l m state.Inactive has h = h
-label_delivery l m state.Active has h = omega (arith, h, push is_unlabelled l.sent m, ap (λ (b : Bool). cond {A = ℕ} b 1 0) has)
+label_delivery l m state.Active has h = omega (arith, h, push is_unfit l.sent m, ap (λ (b : Bool). cond {A = ℕ} b 1 0) has)
 label_delivery l m state.DownPending has h = label_pending (ltb (length l.holds.kept) MOST_KEPT) l m has h
 label_delivery l m state.InactivePending has h = label_pending (ltb (length l.holds.kept) MOST_KEPT) l m has h
 
-label_labelled : (b : Bool) (l : Life) (m : Msu) → is_labelled m ≡ b → IsLabelled l → IsLabelled (after_delivery l m (cond b l.holds.state state.Down))
+label_labelled : (b : Bool) (l : Life) (m : Msu) → is_fit m ≡ b → AreFit l → AreFit (after_delivery l m (cond b l.holds.state state.Down))
 label_labelled true l m has h = label_delivery l m l.holds.state (ap not has) h
 label_labelled false l m has h = h
 
-label_taking : (l : Life) (n : ℕ) (o : Option Msu) → IsLabelled l → IsLabelled (after_taking l n o)
+label_taking : (l : Life) (n : ℕ) (o : Option Msu) → AreFit l → AreFit (after_taking l n o)
 label_taking l n None h = h
 label_taking l n (Some m) h = h
 
-label_dropping : (l : Life) (n : ℕ) (o : Option Msu) → IsLabelled l → IsLabelled (after_dropping l n o)
+label_dropping : (l : Life) (n : ℕ) (o : Option Msu) → AreFit l → AreFit (after_dropping l n o)
 label_dropping l n None h = h
 label_dropping l n (Some m) h = h
 
-label_lived : (l : Life) (d : Deed) → IsLabelled l → IsLabelled (lived l d)
+label_lived : (l : Life) (d : Deed) → AreFit l → AreFit (lived l d)
 unfolding lived
-label_lived l (happens h) k = label_by (list_any is_release (step l.holds.state h).1) (list_any is_loss (step l.holds.state h).1) is_unlabelled l.sent l.holds.kept k
+label_lived l (happens h) k = label_by (list_any is_release (step l.holds.state h).1) (list_any is_loss (step l.holds.state h).1) is_unfit l.sent l.holds.kept k
 label_lived l (comes m) k = label_coming l m l.holds.state k
-label_lived l (delivers m) k = label_labelled (is_labelled m) l m refl k
+label_lived l (delivers m) k = label_labelled (is_fit m) l m refl k
 label_lived l (takes n) k = label_taking l n (first_of n l.holds.waiting) k
 label_lived l (drops n) k = label_dropping l n (first_of n l.holds.waiting) k
 
-pub labelled : (ds : List Deed) → IsLabelled (life_of ds)
+pub labelled : (ds : List Deed) → AreFit (life_of ds)
 labelled [] = refl
 labelled (d ∷ ds) = label_lived (life_of ds) d (labelled ds)
 
@@ -360,10 +360,14 @@ data_happening happening.Expired = refl
 data_happening happening.Up = refl
 data_happening happening.Down = refl
 data_happening happening.Active = refl
+data_happening happening.ActiveWithOthers = refl
 data_happening happening.Inactive = refl
+data_happening happening.InactiveWithOthers = refl
 data_happening happening.Data = refl
 data_happening happening.OtherData = refl
+data_happening happening.LongData = refl
 data_happening happening.StrayData = refl
+data_happening happening.RefusedData = refl
 data_happening happening.Stray = refl
 data_happening happening.OtherMode = refl
 data_happening happening.Beat = refl

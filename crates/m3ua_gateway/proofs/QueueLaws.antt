@@ -13,9 +13,9 @@ use Rattle.m3ua_gateway.specs.declared.table.Action.{Action}
 use Rattle.m3ua_gateway.specs.declared.table.Happening.{Happening}
 use Rattle.m3ua_gateway.specs.States.{server_in, is_pending, is_active}
 use Rattle.m3ua_gateway.specs.Table.{step}
-use Rattle.m3ua_gateway.specs.Life.{Holds, Life, standing, lived, happens, comes, delivers, takes, drops, is_release, is_loss, strange_in, after_delivery, while_pending, after_taking, after_dropping, is_labelled, MOST_KEPT, GREATEST, counted, Account, account_with, account_after, result_of}
+use Rattle.m3ua_gateway.specs.Life.{Holds, Life, standing, lived, happens, comes, delivers, takes, drops, is_release, is_loss, strange_in, after_delivery, while_pending, after_taking, after_dropping, is_fit, MOST_KEPT, GREATEST, counted, Account, account_with, account_after, result_of}
 use Rattle.m3ua_gateway.specs.Holding.{place_of, dropped_in}
-use Rattle.m3ua_gateway.proofs.TableLaws.{messages_moved}
+use Rattle.m3ua_gateway.proofs.MovingLaws.{messages_moved}
 
 pub record Stands (s : ℕ) (ms : List Msu) (i : ℕ) (d : Msu) : Type 0 where
   pub there : i < length ms
@@ -253,7 +253,7 @@ when_idle l m state.Active e f = absurd cc
 when_idle l m state.DownPending e f = absurd cc
 when_idle l m state.InactivePending e f = absurd cc
 
-pub when_labelled : (a : Account) (m : Msu) (b : Bool) → is_labelled m ≡ b → after_delivery (standing a.holds) m (cond b a.holds.state state.Down) ≡ result_of a (delivers m)
+pub when_labelled : (a : Account) (m : Msu) (b : Bool) → is_fit m ≡ b → after_delivery (standing a.holds) m (cond b a.holds.state state.Down) ≡ result_of a (delivers m)
 unfolding lived
 when_labelled a m b e = ap (λ (x : Bool). after_delivery (standing a.holds) m (cond x a.holds.state state.Down)) (sym e)
 

@@ -4,9 +4,8 @@ use Rattle.std.specs.Prelude.{◌⊎◌, Option, Some, None, List, length, slice
 use Rattle.resend_store.specs.declared.messages.Msu.{Msu}
 use Rattle.m3ua_frames.specs.declared.faults.Fault.{Fault}
 use Rattle.m3ua_frames.specs.Faults.{code_of}
-use Rattle.m3ua_frames.specs.Numbers.{number_4}
-use Rattle.m3ua_frames.specs.Parameters.{Parameter, AreParameters, value_of}
-use Rattle.m3ua_frames.specs.Tags.{PROTOCOL_DATA, ROUTING_KEY, LOCAL_KEY}
+use Rattle.m3ua_frames.specs.Parameters.{value_of}
+use Rattle.m3ua_frames.specs.Tags.{PROTOCOL_DATA}
 use Rattle.m3ua_frames.specs.Frame.{Message, IsFrame, Refuses}
 use Rattle.m3ua_gateway.specs.declared.table.Happening.{Happening}
 use Rattle.m3ua_gateway.specs.declared.table.Happening.TheVariants as happening
@@ -18,30 +17,24 @@ abbrev pub is_error : List ℕ → Bool
 is_error octets =
     nat_le 4 (length octets) && ((slice_index octets 2 == 0) && (slice_index octets 3 == 0))
 
+-- octets that have the class and the type of DATA
+abbrev pub is_transfer : List ℕ → Bool
+is_transfer octets =
+    nat_le 4 (length octets) && ((slice_index octets 2 == 1) && (slice_index octets 3 == 1))
+
 -- octets that are no message
 abbrev pub refusal : List ℕ → Happening
-refusal octets = if is_error octets then happening.Error else happening.Refused
+refusal octets =
+    if is_error octets then happening.Error
+    else (if is_transfer octets then happening.RefusedData else happening.Refused)
 
--- the identifier among the parameters of a routing key (3.6.1), 0 if there is none
-abbrev pub identifier_of : Option (List ℕ) → ℕ
-identifier_of None = 0
-identifier_of (Some value) = if nat_le 4 (length value) then number_4 value 0 else 0
-
--- the identifier of a routing key whose octets these are
-abbrev pub IsIdentifier : Option (List ℕ) → ℕ → Type 0
-IsIdentifier None key = key ≡ 0
-IsIdentifier (Some value) key =
-    ((ps : List Parameter) → AreParameters value ps → key ≡ identifier_of (value_of LOCAL_KEY ps))
-    × ((((ps : List Parameter) × AreParameters value ps) → ⊥) → key ≡ 0)
-
--- What octets ask: the message that they are, with the MTP message that it carries and the
--- identifier of its first routing key; or a refusal with the code of what is wrong with them.
-abbrev pub Asks : ℕ → List ℕ → Happening → Option Msu → ℕ → ℕ → Type 0
-Asks context octets h m code key =
+-- What octets ask: the message that they are, with the MTP message that it carries; or a refusal
+-- with the code of what is wrong with them.
+abbrev pub Asks : ℕ → List ℕ → Happening → Option Msu → ℕ → Type 0
+Asks context octets h m code =
     ((message : Message) × IsFrame octets message
     × (h ≡ happening_by context message.kind message.parameters m)
-    × IsCarriedBy (value_of PROTOCOL_DATA message.parameters) m
-    × IsIdentifier (value_of ROUTING_KEY message.parameters) key)
+    × IsCarriedBy (value_of PROTOCOL_DATA message.parameters) m)
     ⊎ ((fault : Fault) × Refuses octets fault × (h ≡ refusal octets) × (m ≡ None)
     × (code ≡ code_of fault))
 

@@ -14,7 +14,8 @@ use Rattle.m3ua_gateway.specs.declared.table.Happening.TheVariants as happening
 use Rattle.m3ua_gateway.specs.States.{asp_in, server_in, is_pending, is_active}
 use Rattle.m3ua_gateway.specs.Table.{step}
 use Rattle.m3ua_gateway.specs.Life.{Deed, is_release, is_loss, life_of, IsUpward, IsInOrder}
-use Rattle.m3ua_gateway.specs.Life.{IsLabelled, IsDownward, IsEachData, IsKept, joined}
+use Rattle.m3ua_gateway.specs.Life.{AreFit, IsDownward, IsInOrderDown, IsEachData, IsKept}
+use Rattle.m3ua_gateway.specs.Life.{joined}
 use Rattle.m3ua_gateway.specs.Life.{account_of, result_of, account_after}
 
 -- ---- tests
@@ -69,7 +70,9 @@ takes _ _ = false
 abbrev pub refuses : State → Happening → Bool
 refuses s happening.Data = not (is_active s)
 refuses s happening.OtherData = true
+refuses s happening.LongData = true
 refuses s happening.StrayData = true
+refuses s happening.RefusedData = true
 refuses _ _ = false
 
 -- What was kept is sent as a pending AS becomes active, and lost as it leaves AS-PENDING otherwise.
@@ -91,6 +94,10 @@ ToldOfChanges =
     → is_down (asp_in (step s h).0) ≡ false
     → list_any (tells (server_in (step s h).0)) (step s h).1 ≡ true
 
+-- An ASP is never told that its AS is down: no status says so (3.8.2).
+abbrev pub NeverToldOfDown : Type 0
+NeverToldOfDown = (s : State) (h : Happening) → list_any (tells server.Down) (step s h).1 ≡ false
+
 -- the state after happenings, the latest first
 abbrev pub state_after : List Happening → State
 state_after [] = state.Down
@@ -101,14 +108,15 @@ abbrev pub AllReached : Type 0
 AllReached = (s : State) → (hs : List Happening) × (state_after hs ≡ s)
 
 -- Over a life each message that the set delivered was sent, is kept or was lost. Those that were
--- sent or are kept have a label, and are in the order of delivery. Each message that came as DATA
--- was taken by the set, waits or was refused, and so was each other DATA. Something is kept only
--- while the AS is pending.
+-- sent or are kept have a label, are for level 4, and are in the order of delivery. Each message
+-- that came as DATA was taken by the set, waits or was refused, and each other DATA was refused. In
+-- each selection those that were taken or wait are in the order in which they came. Something is
+-- kept only while the AS is pending.
 abbrev pub Accounted : Type 0
 Accounted =
     (ds : List Deed)
-    → IsUpward (life_of ds) × IsInOrder (life_of ds) × IsLabelled (life_of ds)
-    × IsDownward (life_of ds) × IsEachData ds × IsKept (life_of ds)
+    → IsUpward (life_of ds) × IsInOrder (life_of ds) × AreFit (life_of ds)
+    × IsDownward (life_of ds) × IsInOrderDown (life_of ds) × IsEachData ds × IsKept (life_of ds)
 
 -- What a gateway knows follows its life: each deed adds what comes of it from the gateway's account
 -- on.

@@ -1,8 +1,11 @@
 pub mod Asking
+pub mod Contexts
+pub mod Destinations
 pub mod Hearing
 pub mod Holding
 pub mod Laws
 pub mod Life
+pub mod Registering
 pub mod Sending
 pub mod States
 pub mod Table

@@ -1,9 +1,9 @@
 -- The life of a gateway: what happens to it, and what becomes of the messages of both directions.
-use Rattle.std.specs.Prelude.{◌≡◌, ℕ, ◌+◌, ◌/◌, ◌≤◌, ◌==◌, min, nat_lt, nat_le, not, Bool}
-use Rattle.std.specs.Prelude.{true, false}
+use Rattle.std.specs.Prelude.{◌≡◌, ℕ, ◌+◌, ◌/◌, ◌%◌, ◌≤◌, ◌==◌, ◌&&◌, min, nat_lt, nat_le, not}
+use Rattle.std.specs.Prelude.{Bool, true, false}
 use Rattle.std.specs.Prelude.{if◌then◌else◌, count_by}
 use Rattle.std.specs.Prelude.{Option, Some, None, List, [], ◌∷◌, ◌++◌, length}
-use Rattle.std.specs.List.{list_any}
+use Rattle.std.specs.List.{filter, list_any}
 use Rattle.resend_store.specs.declared.messages.Msu.{Msu}
 use Rattle.m3ua_gateway.specs.declared.states.State.{State}
 use Rattle.m3ua_gateway.specs.declared.states.State.TheVariants as state
@@ -32,7 +32,7 @@ pub record Holds : Type 0 where
 
 -- what may happen
 pub data Deed : Type 0 where
-  -- a happening of the table, except DATA that carries a message for level 4
+  -- a happening of the table; DATA that carries a message for level 4 comes instead
   happens : Happening → Deed
   -- DATA with our routing context, or with none, that carries this message for level 4
   comes : Msu → Deed
@@ -84,10 +84,14 @@ is_loss _ = false
 abbrev pub if_some : (Action → Bool) → List Action → List Msu → List Msu
 if_some test actions kept = if list_any test actions then kept else []
 
--- DATA that is refused whatever the state is: no message for level 4, or another routing context
+-- DATA that is refused whatever the state is: no message for level 4, another routing context,
+-- octets that are no message; and DATA whose message doesn't come
 abbrev pub strange_in : Happening → ℕ
+strange_in happening.Data = 1
 strange_in happening.OtherData = 1
+strange_in happening.LongData = 1
 strange_in happening.StrayData = 1
+strange_in happening.RefusedData = 1
 strange_in _ = 0
 
 -- What was kept is sent, is thrown away, or stays.
@@ -134,13 +138,14 @@ after_delivery l m state.Down =
 after_delivery l m state.Inactive =
     record l { delivered = l.delivered ++ m ∷ []; lost = l.lost ++ m ∷ [] }
 
--- whether a message has a routing label (Q.704, 2.2): one without can't be DATA
-abbrev pub is_labelled : Msu → Bool
-is_labelled m = nat_le 4 (length m.sif.items)
+-- whether a message can be DATA: it has a routing label (Q.704, 2.2), and a service indicator of 3
+-- or more, so that it is for level 4 (Q.704, 14.2.1)
+abbrev pub is_fit : Msu → Bool
+is_fit m = nat_le 4 (length m.sif.items) && nat_le 3 (m.sio % 16)
 
--- A message without a label is lost in each state.
+-- A message that can't be DATA is lost in each state.
 abbrev pub for_delivery : Msu → State → State
-for_delivery m s = if is_labelled m then s else state.Down
+for_delivery m s = if is_fit m then s else state.Down
 
 -- ---- queues
 
@@ -267,6 +272,13 @@ pub data Within : List Msu → List Msu → Type 0 where
 abbrev pub IsInOrder : Life → Type 0
 IsInOrder l = Within (l.sent ++ l.holds.kept) l.delivered
 
+-- In each selection, what the set took, and then what waits, is in the order in which it came.
+abbrev pub IsInOrderDown : Life → Type 0
+IsInOrderDown l =
+    (selection : ℕ)
+    → Within (filter (is_of selection) l.taken ++ filter (is_of selection) l.holds.waiting)
+    (filter (is_of selection) l.came)
+
 -- Something is kept only while the AS is pending, and never more than may be.
 abbrev pub IsKeptWhilePending : State → List Msu → Type 0
 IsKeptWhilePending s kept =
@@ -275,12 +287,12 @@ IsKeptWhilePending s kept =
 abbrev pub IsKept : Life → Type 0
 IsKept l = IsKeptWhilePending l.holds.state l.holds.kept
 
--- Each message that was sent or is kept has a label, so that it can be DATA.
-abbrev pub is_unlabelled : Msu → Bool
-is_unlabelled m = not (is_labelled m)
+-- Each message that was sent or is kept has a label and is for level 4.
+abbrev pub is_unfit : Msu → Bool
+is_unfit m = not (is_fit m)
 
-abbrev pub IsLabelled : Life → Type 0
-IsLabelled l = count_by is_unlabelled l.sent + count_by is_unlabelled l.holds.kept ≡ 0
+abbrev pub AreFit : Life → Type 0
+AreFit l = count_by is_unfit l.sent + count_by is_unfit l.holds.kept ≡ 0
 
 -- ---- DATA
 

@@ -56,6 +56,21 @@ on_active state.InactivePending = (
       ∷ action.Release ∷ [],
 )
 
+-- ASPAC with our routing context and others (4.3.4.3)
+abbrev pub on_active_with_others : State → State × List Action
+on_active_with_others state.Down = (state.Down, action.Error 6 ∷ [])
+on_active_with_others state.Inactive = (
+  state.Active,
+  action.ActiveAck ∷ action.Error 0x19 ∷ action.Notify server.Active ∷ action.Destinations ∷ [],
+)
+on_active_with_others state.Active = (state.Active, action.ActiveAck ∷ action.Error 0x19 ∷ [])
+on_active_with_others state.DownPending = (state.DownPending, action.Error 6 ∷ [])
+on_active_with_others state.InactivePending = (
+  state.Active,
+  action.ActiveAck ∷ action.Error 0x19 ∷ action.Notify server.Active ∷ action.Destinations
+      ∷ action.Release ∷ [],
+)
+
 -- ASPIA (4.3.4.4)
 abbrev pub on_inactive : State → State × List Action
 on_inactive state.Down = (state.Down, action.Error 6 ∷ [])
@@ -65,6 +80,19 @@ on_inactive state.Active =
 on_inactive state.DownPending = (state.DownPending, action.Error 6 ∷ [])
 on_inactive state.InactivePending = (state.InactivePending, action.InactiveAck ∷ [])
 
+-- ASPIA with our routing context and others (4.3.4.4)
+abbrev pub on_inactive_with_others : State → State × List Action
+on_inactive_with_others state.Down = (state.Down, action.Error 6 ∷ [])
+on_inactive_with_others state.Inactive =
+    (state.Inactive, action.InactiveAck ∷ action.Error 0x19 ∷ [])
+on_inactive_with_others state.Active = (
+  state.InactivePending,
+  action.InactiveAck ∷ action.Error 0x19 ∷ action.Notify server.Pending ∷ [],
+)
+on_inactive_with_others state.DownPending = (state.DownPending, action.Error 6 ∷ [])
+on_inactive_with_others state.InactivePending =
+    (state.InactivePending, action.InactiveAck ∷ action.Error 0x19 ∷ [])
+
 -- DATA for level 4 (3.3.1)
 abbrev pub on_data : State → State × List Action
 on_data state.Down = (state.Down, action.Error 6 ∷ action.Count ∷ [])
@@ -73,13 +101,21 @@ on_data state.Active = (state.Active, action.Take ∷ [])
 on_data state.DownPending = (state.DownPending, action.Error 6 ∷ action.Count ∷ [])
 on_data state.InactivePending = (state.InactivePending, action.Error 6 ∷ action.Count ∷ [])
 
--- DATA that no MTP message for level 4 can carry
+-- DATA that no MTP message for level 4 can carry, because of a value in it
 abbrev pub on_other_data : State → State × List Action
 on_other_data state.Down = (state.Down, action.Error 6 ∷ action.Count ∷ [])
 on_other_data state.Inactive = (state.Inactive, action.Error 6 ∷ action.Count ∷ [])
-on_other_data state.Active = (state.Active, action.Error 0x12 ∷ action.Count ∷ [])
+on_other_data state.Active = (state.Active, action.Error 0x11 ∷ action.Count ∷ [])
 on_other_data state.DownPending = (state.DownPending, action.Error 6 ∷ action.Count ∷ [])
 on_other_data state.InactivePending = (state.InactivePending, action.Error 6 ∷ action.Count ∷ [])
+
+-- DATA with more octets than an MTP message can carry
+abbrev pub on_long_data : State → State × List Action
+on_long_data state.Down = (state.Down, action.Error 6 ∷ action.Count ∷ [])
+on_long_data state.Inactive = (state.Inactive, action.Error 6 ∷ action.Count ∷ [])
+on_long_data state.Active = (state.Active, action.Error 0x12 ∷ action.Count ∷ [])
+on_long_data state.DownPending = (state.DownPending, action.Error 6 ∷ action.Count ∷ [])
+on_long_data state.InactivePending = (state.InactivePending, action.Error 6 ∷ action.Count ∷ [])
 
 -- DATA with another routing context
 abbrev pub on_stray_data : State → State × List Action
@@ -89,7 +125,15 @@ on_stray_data state.Active = (state.Active, action.Error 0x19 ∷ action.Count �
 on_stray_data state.DownPending = (state.DownPending, action.Error 6 ∷ action.Count ∷ [])
 on_stray_data state.InactivePending = (state.InactivePending, action.Error 0x19 ∷ action.Count ∷ [])
 
--- ASPAC and ASPIA with another routing context
+-- octets of DATA that are no message
+abbrev pub on_refused_data : State → State × List Action
+on_refused_data state.Down = (state.Down, action.Refuse ∷ action.Count ∷ [])
+on_refused_data state.Inactive = (state.Inactive, action.Refuse ∷ action.Count ∷ [])
+on_refused_data state.Active = (state.Active, action.Refuse ∷ action.Count ∷ [])
+on_refused_data state.DownPending = (state.DownPending, action.Refuse ∷ action.Count ∷ [])
+on_refused_data state.InactivePending = (state.InactivePending, action.Refuse ∷ action.Count ∷ [])
+
+-- ASPAC and ASPIA without our routing context, DAUD and SCON with another one
 abbrev pub on_stray : State → State × List Action
 on_stray state.Down = (state.Down, action.Error 6 ∷ [])
 on_stray state.Inactive = (state.Inactive, action.Error 0x19 ∷ [])
@@ -113,13 +157,13 @@ on_beat state.Active = (state.Active, action.BeatAck ∷ [])
 on_beat state.DownPending = (state.DownPending, action.BeatAck ∷ [])
 on_beat state.InactivePending = (state.InactivePending, action.BeatAck ∷ [])
 
--- DAUD (4.5.3)
+-- DAUD (4.5.3); an ASP that isn't active is told of no destination (4.3.1)
 abbrev pub on_audit : State → State × List Action
 on_audit state.Down = (state.Down, action.Error 6 ∷ [])
-on_audit state.Inactive = (state.Inactive, action.Audited ∷ [])
+on_audit state.Inactive = (state.Inactive, action.Error 6 ∷ [])
 on_audit state.Active = (state.Active, action.Audited ∷ [])
 on_audit state.DownPending = (state.DownPending, action.Error 6 ∷ [])
-on_audit state.InactivePending = (state.InactivePending, action.Audited ∷ [])
+on_audit state.InactivePending = (state.InactivePending, action.Error 6 ∷ [])
 
 -- REG REQ (4.4.1)
 abbrev pub on_register : State → State × List Action
@@ -153,7 +197,7 @@ on_other state.Active = (state.Active, action.Error 6 ∷ [])
 on_other state.DownPending = (state.DownPending, action.Error 6 ∷ [])
 on_other state.InactivePending = (state.InactivePending, action.Error 6 ∷ [])
 
--- octets that are no message, and no ERR
+-- octets that are no message, and neither those of ERR nor of DATA
 abbrev pub on_refused : State → State × List Action
 on_refused state.Down = (state.Down, action.Refuse ∷ [])
 on_refused state.Inactive = (state.Inactive, action.Refuse ∷ [])
@@ -177,10 +221,14 @@ step s happening.Expired = on_expired s
 step s happening.Up = on_up s
 step s happening.Down = on_down s
 step s happening.Active = on_active s
+step s happening.ActiveWithOthers = on_active_with_others s
 step s happening.Inactive = on_inactive s
+step s happening.InactiveWithOthers = on_inactive_with_others s
 step s happening.Data = on_data s
 step s happening.OtherData = on_other_data s
+step s happening.LongData = on_long_data s
 step s happening.StrayData = on_stray_data s
+step s happening.RefusedData = on_refused_data s
 step s happening.Stray = on_stray s
 step s happening.OtherMode = on_other_mode s
 step s happening.Beat = on_beat s

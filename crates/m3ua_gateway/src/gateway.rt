@@ -1,15 +1,15 @@
 //! A gateway with the messages that it holds.
-ghost use Rattle.std.specs.Prelude.{◌≡◌, ◌+◌, ◌<◌, ◌≤◌, ◌&&◌, not, [], length, Some, IfOk, if◌then◌else◌};
+ghost use Rattle.std.specs.Prelude.{◌≡◌, ◌+◌, ◌<◌, ◌≤◌, ◌&&◌, not, true, false, [], length, Some, IfOk, IsTrue, is_some, if◌then◌else◌};
 ghost use Rattle.std.specs.Vec.{vec_capacity};
 ghost use Rattle.std.specs.Option.{option_copied};
 ghost use Rattle.m3ua_gateway.specs.States.{server_in, is_pending, is_active};
 ghost use Rattle.m3ua_gateway.specs.Table.{step};
-ghost use Rattle.m3ua_gateway.specs.Life.{happens, comes, delivers, takes, drops, born, counted, strange_in, is_labelled, first_of, without_first, account_of, account_with, account_after, result_of, standing, while_pending, after_delivery, GREATEST};
+ghost use Rattle.m3ua_gateway.specs.Life.{happens, comes, delivers, takes, drops, born, counted, strange_in, is_fit, first_of, without_first, account_of, account_with, account_after, result_of, standing, while_pending, after_delivery, GREATEST};
 ghost use Rattle.m3ua_gateway.specs.declared.states.State.TheVariants as state;
 ghost use Rattle.m3ua_gateway.specs.Holding.{sent_in, lost_in};
 ghost use Rattle.m3ua_gateway.specs.Asking.{is_data, deed_of};
 
-use crate::queue::{first_in, is_labelled, place_in};
+use crate::queue::{first_in, is_fit, place_in};
 use crate::states::State;
 use crate::table::{Action, Happening};
 use resend_store::Msu;
@@ -29,7 +29,7 @@ pub enum Delivery {
     Send(Msu),
     /// It is kept: the AS is pending.
     Kept,
-    /// It is lost: it has no label, or no AS is there for it, or there is no room.
+    /// It is lost: it can't be DATA, or no AS is there for it, or there is no room.
     Lost,
 }
 
@@ -68,9 +68,11 @@ fn strange_in(happening: Happening) -> usize
     ensures { result ≡ strange_in happening }
 {
     match happening {
-        Happening::OtherData | Happening::StrayData => 1,
+        Happening::Data | Happening::OtherData | Happening::LongData => 1,
+        Happening::StrayData | Happening::RefusedData => 1,
         Happening::Ended | Happening::Expired | Happening::Up | Happening::Down => 0,
-        Happening::Active | Happening::Inactive | Happening::Data | Happening::Stray => 0,
+        Happening::Active | Happening::ActiveWithOthers | Happening::Inactive => 0,
+        Happening::InactiveWithOthers | Happening::Stray => 0,
         Happening::OtherMode | Happening::Beat | Happening::Audit | Happening::Register => 0,
         Happening::Congestion | Happening::Error | Happening::Other | Happening::Refused => 0,
         Happening::Reach => 0,
@@ -107,21 +109,6 @@ fn count_if(yes: bool, messages: &[Msu]) -> usize
     ensures { result ≡ (if yes then length messages.now else 0) }
 {
     if yes { messages.len() } else { 0 }
-}
-
-/// Whether a happening is DATA that carries a message for level 4.
-fn is_data(happening: Happening) -> bool
-    ensures { result ≡ is_data happening }
-{
-    match happening {
-        Happening::Data => true,
-        Happening::Ended | Happening::Expired | Happening::Up | Happening::Down => false,
-        Happening::Active | Happening::Inactive | Happening::OtherData | Happening::StrayData =>
-            false,
-        Happening::Stray | Happening::OtherMode | Happening::Beat | Happening::Audit => false,
-        Happening::Register | Happening::Congestion | Happening::Error | Happening::Other => false,
-        Happening::Refused | Happening::Reach => false,
-    }
 }
 
 impl Gateway {
@@ -166,6 +153,19 @@ impl Gateway {
         self.waiting.as_slice().len()
     }
 
+    /// Whether something that happens can be heard: DATA for level 4 only while fewer than 1,024 messages wait.
+    pub fn has_room(&self, happening: Happening) -> bool
+        ensures room { IsTrue result → is_data happening ≡ true → length self.now.holds.waiting < 1024 }
+        ensures open { length self.now.holds.waiting < 1024 → IsTrue result }
+        ensures others { is_data happening ≡ false → IsTrue result }
+    {
+        if happening.is_data() {
+            self.waiting() < MOST_WAITING
+        } else {
+            true
+        }
+    }
+
     /// How many messages of the set were lost.
     pub fn lost(&self) -> u64
         ensures { result ≡ self.now.lost }
@@ -202,6 +202,7 @@ impl Gateway {
     /// Something happens, but no DATA that carries a message for level 4. What [`released`](Gateway::released) says is
     /// to be sent before.
     pub fn happens(&mut self, happening: Happening)
+        requires { is_data happening ≡ false }
         ensures { self.new ≡ account_after self.old (happens happening) }
     {
         let (state, _) = self.state.step(happening);
@@ -229,10 +230,10 @@ impl Gateway {
 
     /// Something happens, and a message carries this MTP message.
     fn hears_with(&mut self, happening: Happening, msu: Msu)
-        requires room { length self.old.holds.waiting < 1024 }
+        requires room { is_data happening ≡ true → length self.old.holds.waiting < 1024 }
         ensures { self.new ≡ account_after self.old (deed_of happening (Some msu)) }
     {
-        if is_data(happening) {
+        if happening.is_data() {
             self.comes(msu);
         } else {
             self.happens(happening);
@@ -240,9 +241,10 @@ impl Gateway {
     }
 
     /// Something happens. `message` is the MTP message that the ASP's message carries, if it carries one. At `Data` it
-    /// [`comes`](Gateway::comes), otherwise it is passed over.
+    /// [`comes`](Gateway::comes), and there must be one, and room for it; otherwise it is passed over.
     pub fn hears(&mut self, happening: Happening, message: Option<Msu>)
-        requires room { length self.old.holds.waiting < 1024 }
+        requires carried { is_data happening ≡ true → is_some message ≡ true }
+        requires room { is_data happening ≡ true → length self.old.holds.waiting < 1024 }
         ensures { self.new ≡ account_after self.old (deed_of happening message) }
     {
         match message {
@@ -280,7 +282,7 @@ impl Gateway {
         }
     }
 
-    /// Passes on a message with a label, by the state.
+    /// Passes on a message that can be DATA, by the state.
     fn passes(&mut self, msu: Msu) -> Delivery
         ensures account { self.new ≡ account_with self.old (after_delivery (standing self.old.holds) msu self.old.holds.state) }
         ensures sent { sent_in result ≡ (after_delivery (standing self.old.holds) msu self.old.holds.state).sent }
@@ -295,13 +297,14 @@ impl Gateway {
         }
     }
 
-    /// The set delivers a message for level 4 (service indicator 3 or more).
+    /// The set delivers a message. One without a routing label, or with a service indicator under 3, is lost: it isn't
+    /// for level 4 (Q.704, 14.2.1).
     pub fn delivers(&mut self, msu: Msu) -> Delivery
         ensures account { self.new ≡ account_after self.old (delivers msu) }
         ensures sent { sent_in result ≡ (result_of self.old (delivers msu)).sent }
         ensures lost { lost_in result ≡ length (result_of self.old (delivers msu)).lost }
     {
-        if is_labelled(&msu) {
+        if is_fit(&msu) {
             self.passes(msu)
         } else {
             self.lose(&msu)

@@ -1,13 +1,13 @@
 //! What a message of the ASP is.
 ghost use Rattle.std.specs.Prelude.{◌≡◌, ◌&&◌, nat_le, List, Some, if◌then◌else◌};
 ghost use Rattle.m3ua_frames.specs.Parameters.{Parameter, AreParameters, value_of};
-ghost use Rattle.m3ua_frames.specs.Tags.{ROUTING_CONTEXT, TRAFFIC_MODE, PROTOCOL_DATA, ROUTING_KEY};
-ghost use Rattle.m3ua_gateway.specs.Asking.{IsIdentifier};
-ghost use Rattle.m3ua_gateway.specs.Hearing.{is_ours, is_mode, IsCarriedBy, data_by, happening_by};
-ghost use Rattle.m3ua_gateway.specs.declared.table.Happening.TheVariants.{Active, Inactive, OtherMode, Stray, StrayData};
+ghost use Rattle.m3ua_frames.specs.Tags.{TRAFFIC_MODE, PROTOCOL_DATA};
+ghost use Rattle.m3ua_gateway.specs.Hearing.{is_mode, is_long, IsCarriedBy, data_by, happening_by};
+ghost use Rattle.m3ua_gateway.specs.declared.table.Happening.TheVariants.{Active, ActiveWithOthers, Inactive, InactiveWithOthers, OtherMode, Stray, StrayData};
 
+use crate::contexts::{has_others, has_ours};
 use crate::table::Happening;
-use m3ua_frames::{Frame, Kind, are_parameters, find, message_of, number_4, protocol_data, tag};
+use m3ua_frames::{Frame, Kind, find, message_of, number_4, protocol_data, tag};
 use resend_store::Msu;
 
 /// What the octets of a message ask of a gateway.
@@ -19,18 +19,6 @@ pub struct Request {
     pub message: Option<Msu>,
     /// The code of what is wrong with octets that are no message, 0 otherwise.
     pub code: u32,
-    /// The identifier of its first routing key, 0 if there is none.
-    pub key: u32,
-}
-
-/// Whether there is no routing context, or one, which is ours.
-fn is_ours(context: u32, parameters: &[u8]) -> bool
-    ensures { (ps : List Parameter) → AreParameters parameters.now ps → result ≡ is_ours context (value_of ROUTING_CONTEXT ps) }
-{
-    match find(parameters, tag::ROUTING_CONTEXT) {
-        None => true,
-        Some(value) => value.len() == 4 && number_4(value, 0) == context,
-    }
 }
 
 /// Whether a traffic mode is override, loadshare or broadcast.
@@ -75,69 +63,75 @@ fn carried(parameters: &[u8]) -> Option<Msu>
     }
 }
 
+/// Whether protocol data among parameters has more than 268 octets of user data.
+fn is_long(parameters: &[u8]) -> bool
+    ensures { (ps : List Parameter) → AreParameters parameters.now ps → result ≡ is_long (value_of PROTOCOL_DATA ps) }
+{
+    match find(parameters, tag::PROTOCOL_DATA) {
+        None => false,
+        Some(value) => value.len() > 280,
+    }
+}
+
 /// What ASPAC is.
-fn active_by(ours: bool, mode: bool) -> Happening
-    ensures { result ≡ (if ours then (if mode then Active else OtherMode) else Stray) }
+fn active_by(ours: bool, mode: bool, others: bool) -> Happening
+    ensures { result ≡ (if ours then (if mode then (if others then ActiveWithOthers else Active) else OtherMode) else Stray) }
 {
     if !ours {
         Happening::Stray
-    } else if mode {
-        Happening::Active
-    } else {
+    } else if !mode {
         Happening::OtherMode
+    } else if others {
+        Happening::ActiveWithOthers
+    } else {
+        Happening::Active
     }
 }
 
 /// What ASPIA is.
-fn inactive_by(ours: bool) -> Happening
-    ensures { result ≡ (if ours then Inactive else Stray) }
-{
-    if ours {
-        Happening::Inactive
-    } else {
-        Happening::Stray
-    }
-}
-
-/// What DATA is, with this message.
-fn data_by(ours: bool, message: &Option<Msu>) -> Happening
-    ensures { result ≡ (if ours then data_by message.now else StrayData) }
+fn inactive_by(ours: bool, others: bool) -> Happening
+    ensures { result ≡ (if ours then (if others then InactiveWithOthers else Inactive) else Stray) }
 {
     if !ours {
-        return Happening::StrayData;
-    }
-    match message {
-        None => Happening::OtherData,
-        Some(_) => Happening::Data,
+        Happening::Stray
+    } else if others {
+        Happening::InactiveWithOthers
+    } else {
+        Happening::Inactive
     }
 }
 
-/// The identifier in a routing key, 0 if there is none.
-fn identifier(value: &[u8]) -> u32
-    ensures { IsIdentifier (Some value.now) result }
+/// What DAUD or SCON is, which is this if all its routing contexts are ours.
+fn unless_stray(others: bool, happening: Happening) -> Happening
+    ensures { result ≡ (if others then Stray else happening) }
 {
-    if !are_parameters(value) {
-        return 0;
-    }
-    match find(value, tag::LOCAL_KEY) {
-        None => 0,
-        Some(number) => {
-            if number.len() >= 4 {
-                number_4(number, 0)
+    if others { Happening::Stray } else { happening }
+}
+
+/// What DATA with our routing context is, with this message.
+fn data_by(message: &Option<Msu>, long: bool) -> Happening
+    ensures { result ≡ data_by long message.now }
+{
+    match message {
+        Some(_) => Happening::Data,
+        None => {
+            if long {
+                Happening::LongData
             } else {
-                0
+                Happening::OtherData
             }
         }
     }
 }
 
-/// The identifier of the first routing key among parameters, 0 if there is none.
-fn key_in(parameters: &[u8]) -> u32
-    ensures { (ps : List Parameter) → AreParameters parameters.now ps → IsIdentifier (value_of ROUTING_KEY ps) result }
+/// What DATA is, with this message.
+fn data_unless_stray(others: bool, message: &Option<Msu>, long: bool) -> Happening
+    ensures { result ≡ (if others then StrayData else data_by long message.now) }
 {
-    match find(parameters, tag::ROUTING_KEY) {
-        None => 0,
-        Some(value) => identifier(value),
+    if others {
+        Happening::StrayData
+    } else {
+        data_by(message, long)
     }
 }
 
@@ -147,23 +141,22 @@ pub(crate) fn hear(frame: &Frame<'_>, context: u32) -> Request
         → result.happening ≡ happening_by context frame.now.kind ps result.message }
     ensures message { (ps : List Parameter) → AreParameters frame.now.parameters.now ps
         → IsCarriedBy (value_of PROTOCOL_DATA ps) result.message }
-    ensures key { (ps : List Parameter) → AreParameters frame.now.parameters.now ps
-        → IsIdentifier (value_of ROUTING_KEY ps) result.key }
 {
     let message = carried(frame.parameters);
-    let key = key_in(frame.parameters);
-    let ours = is_ours(context, frame.parameters);
+    let ours = has_ours(context, frame.parameters);
+    let others = has_others(context, frame.parameters);
     let mode = is_mode(frame.parameters);
+    let long = is_long(frame.parameters);
     let happening = match frame.kind {
         Kind::Error => Happening::Error,
-        Kind::Data => data_by(ours, &message),
-        Kind::Daud => Happening::Audit,
-        Kind::Scon => Happening::Congestion,
+        Kind::Data => data_unless_stray(others, &message, long),
+        Kind::Daud => unless_stray(others, Happening::Audit),
+        Kind::Scon => unless_stray(others, Happening::Congestion),
         Kind::Up => Happening::Up,
         Kind::Down => Happening::Down,
         Kind::Beat => Happening::Beat,
-        Kind::Active => active_by(ours, mode),
-        Kind::Inactive => inactive_by(ours),
+        Kind::Active => active_by(ours, mode, others),
+        Kind::Inactive => inactive_by(ours, others),
         Kind::Register => Happening::Register,
         Kind::Notify | Kind::Duna | Kind::Dava | Kind::Dupu | Kind::Drst => Happening::Other,
         Kind::UpAck | Kind::DownAck | Kind::BeatAck | Kind::ActiveAck => Happening::Other,
@@ -174,6 +167,5 @@ pub(crate) fn hear(frame: &Frame<'_>, context: u32) -> Request
         happening,
         message,
         code: 0,
-        key,
     }
 }

@@ -1,5 +1,5 @@
 //! Laws of the table and of a life. Each is the contract of a function without code.
-ghost use Rattle.m3ua_gateway.specs.Laws.{ActiveTogether, AllReached, NoErrorForAnError, TakenWhileActive, MessagesMoved, ToldOfChanges, Accounted, Followed};
+ghost use Rattle.m3ua_gateway.specs.Laws.{ActiveTogether, AllReached, NoErrorForAnError, TakenWhileActive, MessagesMoved, ToldOfChanges, NeverToldOfDown, Accounted, Followed};
 
 /// The ASP is active exactly while the AS is.
 pub fn active_together()
@@ -29,6 +29,11 @@ pub fn messages_moved()
 /// An ASP that isn't down is told of each change of its AS (RFC 4666, 4.3.4.5).
 pub fn told_of_changes()
     ensures { ToldOfChanges }
+{}
+
+/// An ASP is never told that its AS is down.
+pub fn never_told_of_down()
+    ensures { NeverToldOfDown }
 {}
 
 /// Over a life each message that the set delivered was sent, is kept or was lost, and each DATA was taken by the set,

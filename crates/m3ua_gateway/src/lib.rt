@@ -3,17 +3,23 @@
 #![tactic(auto)]
 
 mod asking;
+mod contexts;
+mod destinations;
 mod gateway;
 mod hearing;
 pub mod laws;
 mod queue;
+mod registering;
 mod sending;
 mod states;
 mod table;
+mod traffic;
 
-pub use asking::{parameters_of, request_of};
+pub use asking::request_of;
+pub use destinations::{Status, statuses};
 pub use gateway::{Delivery, Gateway, MOST_KEPT, MOST_WAITING};
 pub use hearing::Request;
-pub use sending::{answer, data, destination, is_reached};
+pub use registering::registered;
+pub use sending::{answer, data, destination};
 pub use states::{Asp, Server, State};
 pub use table::{Action, Happening};

@@ -1,7 +1,7 @@
 //! Messages that wait, by their selections.
 ghost use Rattle.std.specs.Prelude.{◌≡◌, ◌<◌, ◌++◌, ◌∷◌, None, IfSome, IfNone, length, take, drop, slice_get, Some};
 ghost use Rattle.std.specs.Option.{option_copied};
-ghost use Rattle.m3ua_gateway.specs.Life.{selection_in, is_of, is_labelled, first_of};
+ghost use Rattle.m3ua_gateway.specs.Life.{selection_in, is_of, is_fit, first_of};
 ghost use Rattle.m3ua_gateway.specs.Holding.{place_of};
 
 use resend_store::Msu;
@@ -16,11 +16,11 @@ fn selection_in(field: &[u8]) -> u8
     }
 }
 
-/// Whether a message has a routing label.
-pub(crate) fn is_labelled(msu: &Msu) -> bool
-    ensures { result ≡ is_labelled msu.now }
+/// Whether a message has a routing label, and is for level 4.
+pub(crate) fn is_fit(msu: &Msu) -> bool
+    ensures { result ≡ is_fit msu.now }
 {
-    msu.sif.as_slice().len() >= 4
+    msu.sif.as_slice().len() >= 4 && msu.sio % 16 >= 3
 }
 
 /// Whether a message is of a selection.

@@ -1,24 +1,27 @@
 //! The messages that a gateway sends.
-ghost use Rattle.std.specs.Prelude.{◌≡◌, ◌≤◌, ◌<◌, ◌+◌, ◌++◌, [], ◌∷◌, List, length, if◌then◌else◌};
+ghost use Rattle.std.specs.Prelude.{◌≡◌, ◌≤◌, ◌<◌, ◌+◌, ◌++◌, [], ◌∷◌, true, List, length, take, if◌then◌else◌};
 ghost use Rattle.std.specs.Option.{option_map};
 ghost use Rattle.arrayvec.specs.ArrayVec.{array_vec_len};
+ghost use Rattle.m3ua_frames.specs.Frame.{body};
 ghost use Rattle.m3ua_frames.specs.Parameters.{Parameter, AreParameters, value_of, all_padded};
 ghost use Rattle.m3ua_frames.specs.Protocol.{protocol_of, view};
-ghost use Rattle.m3ua_frames.specs.Tags.{ROUTING_CONTEXT, TRAFFIC_MODE, ERROR_CODE, STATUS, REGISTRATION, HEARTBEAT};
+ghost use Rattle.m3ua_frames.specs.Tags.{ROUTING_CONTEXT, TRAFFIC_MODE, ERROR_CODE, STATUS, DIAGNOSTIC};
 ghost use Rattle.m3ua_frames.specs.declared.kinds.Kind.TheVariants as kind;
-ghost use Rattle.m3ua_gateway.specs.Sending.{status_of, number, own_context, same_mode, same_value, of_error, registration, octets_of, answer, data_octets, destination_octets, is_reached, sent};
+ghost use Rattle.m3ua_gateway.specs.Contexts.{others_in};
+ghost use Rattle.m3ua_gateway.specs.Sending.{status_of, number, numbers, own_context, same_mode, same_value, has_contexts, of_error, is_diagnosed, diagnostic, octets_of, beat_octets, acknowledgement, answer, AreRead, data_octets, destination_octets, sent};
 
+use crate::contexts::push_others;
 use crate::states::Server;
 use crate::table::Action;
 use arrayvec::ArrayVec;
 use m3ua_frames::{
-    Kind, ProtocolData, encode, find, number_4, protocol_data_of, push_number, push_parameter,
-    push_protocol_data, tag,
+    Kind, ProtocolData, encode, find, number_4, parameters_of, protocol_data_of, push_number,
+    push_parameter, push_parameters, push_protocol_data, tag,
 };
 use resend_store::Msu;
 
-/// The tag of Registration Status.
-const REGISTRATION_STATUS: u16 = 0x0212;
+/// The code of Unexpected Message.
+const UNEXPECTED: u32 = 0x06;
 
 /// The code of Invalid Routing Context.
 const INVALID_CONTEXT: u32 = 0x19;
@@ -136,56 +139,57 @@ fn bare_error(code: u32, octets: &mut ArrayVec<u8, 4160>)
     encode(Kind::Error, body.as_slice(), octets);
 }
 
-/// ERR with a code and these routing contexts.
-fn context_error(code: u32, contexts: &[u8], octets: &mut ArrayVec<u8, 4160>)
-    requires { length contexts.now ≤ 4088 }
-    ensures { octets.new.items ≡ octets_of kind.Error (number ERROR_CODE code ∷ record { tag = ROUTING_CONTEXT; value = contexts.now } ∷ []) }
+/// ERR with a code, and another parameter.
+fn error_with(code: u32, tag: u16, value: &[u8], octets: &mut ArrayVec<u8, 4160>)
+    requires { length value.now ≤ 4096 }
+    ensures { octets.new.items ≡ octets_of kind.Error (number ERROR_CODE code ∷ record { tag = tag; value = value.now } ∷ []) }
 {
     let mut body: ArrayVec<u8, 4120> = ArrayVec::new();
     push_number(&mut body, tag::ERROR_CODE, code);
-    push_parameter(&mut body, tag::ROUTING_CONTEXT, contexts);
+    push_parameter(&mut body, tag, value);
     encode(Kind::Error, body.as_slice(), octets);
 }
 
-/// BEAT ACK with this heartbeat data.
-fn beat_ack_with(heartbeat: &[u8], octets: &mut ArrayVec<u8, 4160>)
-    requires { length heartbeat.now ≤ 4088 }
-    ensures { octets.new.items ≡ octets_of kind.BeatAck (record { tag = HEARTBEAT; value = heartbeat.now } ∷ []) }
+/// BEAT ACK, with the parameters of the message.
+fn beat_ack(heard: &[u8], octets: &mut ArrayVec<u8, 4160>)
+    requires { length heard.now ≤ 4096 }
+    ensures { octets.new.items ≡ beat_octets heard.now }
 {
     let mut body: ArrayVec<u8, 4120> = ArrayVec::new();
-    push_parameter(&mut body, tag::HEARTBEAT, heartbeat);
+    push_parameters(&mut body, parameters_of(heard));
     encode(Kind::BeatAck, body.as_slice(), octets);
 }
 
-/// BEAT ACK, with the heartbeat data of the message if it has some.
-fn beat_ack(parameters: &[u8], octets: &mut ArrayVec<u8, 4160>)
-    requires { length parameters.now ≤ 4088 }
-    ensures { (ps : List Parameter) → AreParameters parameters.now ps
-        → octets.new.items ≡ octets_of kind.BeatAck (same_value HEARTBEAT (value_of HEARTBEAT ps)) }
+/// ERR of an invalid routing context, with those that aren't ours among these.
+fn invalid_among(context: u32, contexts: &[u8], octets: &mut ArrayVec<u8, 4160>)
+    requires { length contexts.now ≤ 4088 }
+    ensures { octets.new.items ≡ octets_of kind.Error (number ERROR_CODE 0x19 ∷ numbers ROUTING_CONTEXT (others_in context (Some contexts.now))) }
 {
-    match find(parameters, tag::HEARTBEAT) {
-        None => bare(Kind::BeatAck, octets),
-        Some(value) => {
-            if value.len() <= MOST_VALUE {
-                beat_ack_with(value, octets);
-            } else {
-                bare(Kind::BeatAck, octets);
-            }
-        }
+    let mut others: ArrayVec<u8, 4096> = ArrayVec::new();
+    push_others(&mut others, context, contexts);
+    if others.is_empty() {
+        bare_error(INVALID_CONTEXT, octets);
+    } else {
+        error_with(
+            INVALID_CONTEXT,
+            tag::ROUTING_CONTEXT,
+            others.as_slice(),
+            octets,
+        );
     }
 }
 
-/// ERR of an invalid routing context, with the routing contexts of the message if it has some.
-fn invalid_context(parameters: &[u8], octets: &mut ArrayVec<u8, 4160>)
+/// ERR of an invalid routing context, with those of the message that aren't ours.
+fn invalid_context(context: u32, parameters: &[u8], octets: &mut ArrayVec<u8, 4160>)
     requires { length parameters.now ≤ 4088 }
     ensures { (ps : List Parameter) → AreParameters parameters.now ps
-        → octets.new.items ≡ octets_of kind.Error (number ERROR_CODE 0x19 ∷ same_value ROUTING_CONTEXT (value_of ROUTING_CONTEXT ps)) }
+        → octets.new.items ≡ octets_of kind.Error (number ERROR_CODE 0x19 ∷ numbers ROUTING_CONTEXT (others_in context (value_of ROUTING_CONTEXT ps))) }
 {
     match find(parameters, tag::ROUTING_CONTEXT) {
         None => bare_error(INVALID_CONTEXT, octets),
         Some(value) => {
             if value.len() <= MOST_VALUE {
-                context_error(INVALID_CONTEXT, value, octets);
+                invalid_among(context, value, octets);
             } else {
                 bare_error(INVALID_CONTEXT, octets);
             }
@@ -193,45 +197,73 @@ fn invalid_context(parameters: &[u8], octets: &mut ArrayVec<u8, 4160>)
     }
 }
 
-/// ERR, with the routing contexts of the message if the code says that they are wrong.
-fn error(code: u32, parameters: &[u8], octets: &mut ArrayVec<u8, 4160>)
+/// ERR of an unexpected message, with the routing contexts of the message.
+fn unexpected(parameters: &[u8], octets: &mut ArrayVec<u8, 4160>)
     requires { length parameters.now ≤ 4088 }
     ensures { (ps : List Parameter) → AreParameters parameters.now ps
-        → octets.new.items ≡ octets_of kind.Error (number ERROR_CODE code ∷ of_error code ps) }
+        → octets.new.items ≡ octets_of kind.Error (number ERROR_CODE 0x06 ∷ same_value ROUTING_CONTEXT (value_of ROUTING_CONTEXT ps)) }
+{
+    match find(parameters, tag::ROUTING_CONTEXT) {
+        None => bare_error(UNEXPECTED, octets),
+        Some(value) => {
+            if value.len() <= MOST_VALUE {
+                error_with(UNEXPECTED, tag::ROUTING_CONTEXT, value, octets);
+            } else {
+                bare_error(UNEXPECTED, octets);
+            }
+        }
+    }
+}
+
+/// ERR, with the routing contexts of the message that the code speaks of.
+fn error(code: u32, context: u32, heard: &[u8], octets: &mut ArrayVec<u8, 4160>)
+    requires { length heard.now ≤ 4096 }
+    ensures { (ps : List Parameter) → (has_contexts code ≡ true → AreParameters (body heard.now) ps)
+        → octets.new.items ≡ octets_of kind.Error (number ERROR_CODE code ∷ of_error context code ps) }
 {
     if code == INVALID_CONTEXT {
-        invalid_context(parameters, octets);
+        invalid_context(context, parameters_of(heard), octets);
+    } else if code == UNEXPECTED {
+        unexpected(parameters_of(heard), octets);
     } else {
         bare_error(code, octets);
     }
 }
 
-/// REG RSP: our routing context for the routing key with this identifier.
-fn registered(context: u32, key: u32, octets: &mut ArrayVec<u8, 4160>)
-    ensures { octets.new.items ≡ octets_of kind.Registered (record { tag = REGISTRATION; value = all_padded (registration context key) } ∷ []) }
+/// At most the first 40 octets.
+fn beginning(octets: &[u8]) -> &[u8]
+    ensures value { result.now ≡ take 40 octets.now }
+    ensures within { length result.now ≤ 40 }
 {
-    let mut result: ArrayVec<u8, 64> = ArrayVec::new();
-    push_number(&mut result, tag::LOCAL_KEY, key);
-    push_number(&mut result, REGISTRATION_STATUS, 0);
-    push_number(&mut result, tag::ROUTING_CONTEXT, context);
-    let mut body: ArrayVec<u8, 64> = ArrayVec::new();
-    push_parameter(&mut body, tag::REGISTRATION, result.as_slice());
-    encode(Kind::Registered, body.as_slice(), octets);
+    if octets.len() <= 40 {
+        octets
+    } else {
+        octets.split_at(40).0
+    }
 }
 
-/// Replaces `octets` by the message that an action sends, if it sends one message. It answers a message with these
-/// parameters, and reports `code` where the octets were no message. `key` is the identifier of a routing key.
-pub fn answer(
-    action: Action,
-    context: u32,
-    code: u32,
-    key: u32,
-    parameters: &[u8],
-    octets: &mut ArrayVec<u8, 4160>,
-) -> bool
-    requires { length parameters.now ≤ 4088 }
-    ensures { (ps : List Parameter) → AreParameters parameters.now ps
-        → sent result octets.new.items ≡ answer context code key action ps }
+/// Whether ERR with this code has the beginning of the message.
+fn is_diagnosed(code: u32) -> bool
+    ensures { result ≡ is_diagnosed code }
+{
+    code == 0x03 || code == 0x04
+}
+
+/// ERR of octets that are no message.
+fn refuse(code: u32, heard: &[u8], octets: &mut ArrayVec<u8, 4160>)
+    ensures { octets.new.items ≡ octets_of kind.Error (number ERROR_CODE code ∷ diagnostic code heard.now) }
+{
+    if is_diagnosed(code) {
+        error_with(code, tag::DIAGNOSTIC, beginning(heard), octets);
+    } else {
+        bare_error(code, octets);
+    }
+}
+
+/// Replaces `octets` by the acknowledgement that an action sends, if it sends one.
+fn acknowledge(action: Action, context: u32, heard: &[u8], octets: &mut ArrayVec<u8, 4160>) -> bool
+    requires { length heard.now ≤ 4096 }
+    ensures { (ps : List Parameter) → AreRead action heard.now ps → sent result octets.new.items ≡ acknowledgement context heard.now action ps }
 {
     match action {
         Action::UpAck => {
@@ -243,33 +275,21 @@ pub fn answer(
             true
         }
         Action::BeatAck => {
-            beat_ack(parameters, octets);
+            beat_ack(heard, octets);
             true
         }
         Action::ActiveAck => {
-            active_ack(context, parameters, octets);
+            active_ack(context, parameters_of(heard), octets);
             true
         }
         Action::InactiveAck => {
-            inactive_ack(context, parameters, octets);
+            inactive_ack(context, parameters_of(heard), octets);
             true
         }
-        Action::Notify(server) => {
-            notify(server, context, octets);
-            true
-        }
-        Action::Error(number) => {
-            error(number, parameters, octets);
-            true
-        }
-        Action::Refuse => {
-            bare_error(code, octets);
-            true
-        }
-        Action::Registered => {
-            registered(context, key, octets);
-            true
-        }
+        Action::Notify(_) => false,
+        Action::Error(_) => false,
+        Action::Refuse => false,
+        Action::Registered => false,
         Action::Destinations => false,
         Action::Audited => false,
         Action::Take => false,
@@ -279,11 +299,44 @@ pub fn answer(
     }
 }
 
-/// Whether a point code is one of the destinations, and these are reached.
-pub fn is_reached(destinations: &[u32], reached: bool, affected: u32) -> bool
-    ensures { result ≡ is_reached destinations.now reached affected }
+/// Replaces `octets` by the message that an action sends, if it sends one message. It answers the octets that were
+/// heard, or reports `code` where they are no message. Says whether it sends one.
+pub fn answer(
+    action: Action,
+    context: u32,
+    code: u32,
+    heard: &[u8],
+    octets: &mut ArrayVec<u8, 4160>,
+) -> bool
+    requires { length heard.now ≤ 4096 }
+    ensures { (ps : List Parameter) → AreRead action heard.now ps → sent result octets.new.items ≡ answer context code heard.now action ps }
 {
-    reached && destinations.contains(&affected)
+    match action {
+        Action::Notify(server) => {
+            notify(server, context, octets);
+            true
+        }
+        Action::Error(number) => {
+            error(number, context, heard, octets);
+            true
+        }
+        Action::Refuse => {
+            refuse(code, heard, octets);
+            true
+        }
+        Action::UpAck => acknowledge(action, context, heard, octets),
+        Action::DownAck => acknowledge(action, context, heard, octets),
+        Action::BeatAck => acknowledge(action, context, heard, octets),
+        Action::ActiveAck => acknowledge(action, context, heard, octets),
+        Action::InactiveAck => acknowledge(action, context, heard, octets),
+        Action::Registered => false,
+        Action::Destinations => false,
+        Action::Audited => false,
+        Action::Take => false,
+        Action::Count => false,
+        Action::Release => false,
+        Action::Lose => false,
+    }
 }
 
 /// Replaces `octets` by DAVA of a point code if it is available, by DUNA otherwise.

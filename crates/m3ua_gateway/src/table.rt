@@ -1,8 +1,13 @@
 //! The table of states.
 ghost use Rattle.std.specs.Prelude.{◌≡◌};
-ghost use Rattle.m3ua_gateway.specs.Table.{step, on_ended, on_expired, on_up, on_down, on_active, on_inactive, on_data, on_other_data, on_stray_data, on_stray, on_other_mode, on_beat, on_audit, on_register, on_congestion, on_error, on_other, on_refused, on_reach};
+ghost use Rattle.m3ua_gateway.specs.Asking.{is_data};
+ghost use Rattle.m3ua_gateway.specs.Table.{step, on_ended, on_expired, on_up, on_down, on_beat, on_audit, on_register, on_congestion, on_error, on_other, on_refused, on_reach};
 
 use crate::states::{Server, State};
+use crate::traffic::{
+    on_active, on_active_with_others, on_data, on_inactive, on_inactive_with_others, on_long_data,
+    on_other_data, on_other_mode, on_refused_data, on_stray, on_stray_data,
+};
 
 /// What happens to the gateway.
 #[derive(Clone, Copy, Debug, PartialEq, Eq)]
@@ -17,32 +22,40 @@ pub enum Happening {
     Down,
     /// ASPAC with our routing context, or with none.
     Active,
+    /// ASPAC with our routing context and others.
+    ActiveWithOthers,
     /// ASPIA with our routing context, or with none.
     Inactive,
+    /// ASPIA with our routing context and others.
+    InactiveWithOthers,
     /// DATA with our routing context, or with none, whose protocol data is an MTP message with a service indicator of 3
     /// or more.
     Data,
-    /// DATA with our routing context, or with none, whose protocol data is none.
+    /// DATA with our routing context, or with none, whose protocol data is none because of a value in it.
     OtherData,
+    /// DATA with our routing context, or with none, with more than 268 octets of user data.
+    LongData,
     /// DATA with another routing context.
     StrayData,
-    /// ASPAC or ASPIA with another routing context.
+    /// Octets with the class and the type of DATA that are no message.
+    RefusedData,
+    /// ASPAC or ASPIA without our routing context; DAUD or SCON with another one.
     Stray,
-    /// ASPAC with a traffic mode that isn't override, loadshare or broadcast.
+    /// ASPAC with our routing context, and a traffic mode that isn't override, loadshare or broadcast.
     OtherMode,
     /// BEAT.
     Beat,
-    /// DAUD.
+    /// DAUD with our routing context, or with none.
     Audit,
     /// REG REQ.
     Register,
-    /// SCON.
+    /// SCON with our routing context, or with none.
     Congestion,
     /// ERR.
     Error,
     /// Any other message.
     Other,
-    /// Octets that are no message, and no ERR.
+    /// Octets that are no message, and neither those of ERR nor of DATA.
     Refused,
     /// The destinations become reached, or are no longer reached.
     Reach,
@@ -55,7 +68,7 @@ pub enum Action {
     UpAck,
     /// Sends ASPDN ACK.
     DownAck,
-    /// Sends BEAT ACK with the same data.
+    /// Sends BEAT ACK with the same parameters.
     BeatAck,
     /// Sends ASPAC ACK.
     ActiveAck,
@@ -69,9 +82,9 @@ pub enum Action {
     Refuse,
     /// Sends DAVA or DUNA of each destination.
     Destinations,
-    /// Sends DAVA or DUNA of each point code that was asked for.
+    /// Sends DAVA or DUNA of each destination that was asked for.
     Audited,
-    /// Sends REG RSP with the routing context that there is.
+    /// Sends REG RSP for each routing key.
     Registered,
     /// Takes the message into the queue of its selection.
     Take,
@@ -147,111 +160,6 @@ fn on_down(state: State) -> (State, &'static [Action])
     }
 }
 
-fn on_active(state: State) -> (State, &'static [Action])
-    ensures { (result.0, result.1.now) ≡ on_active state }
-{
-    match state {
-        State::Down => (State::Down, &[Action::Error(6)]),
-        State::Inactive => (
-            State::Active,
-            &[
-                Action::ActiveAck,
-                Action::Notify(Server::Active),
-                Action::Destinations,
-            ],
-        ),
-        State::Active => (State::Active, &[Action::ActiveAck]),
-        State::DownPending => (State::DownPending, &[Action::Error(6)]),
-        State::InactivePending => (
-            State::Active,
-            &[
-                Action::ActiveAck,
-                Action::Notify(Server::Active),
-                Action::Destinations,
-                Action::Release,
-            ],
-        ),
-    }
-}
-
-fn on_inactive(state: State) -> (State, &'static [Action])
-    ensures { (result.0, result.1.now) ≡ on_inactive state }
-{
-    match state {
-        State::Down => (State::Down, &[Action::Error(6)]),
-        State::Inactive => (State::Inactive, &[Action::InactiveAck]),
-        State::Active => (
-            State::InactivePending,
-            &[Action::InactiveAck, Action::Notify(Server::Pending)],
-        ),
-        State::DownPending => (State::DownPending, &[Action::Error(6)]),
-        State::InactivePending => (State::InactivePending, &[Action::InactiveAck]),
-    }
-}
-
-fn on_data(state: State) -> (State, &'static [Action])
-    ensures { (result.0, result.1.now) ≡ on_data state }
-{
-    match state {
-        State::Down => (State::Down, &[Action::Error(6), Action::Count]),
-        State::Inactive => (State::Inactive, &[Action::Error(6), Action::Count]),
-        State::Active => (State::Active, &[Action::Take]),
-        State::DownPending => (State::DownPending, &[Action::Error(6), Action::Count]),
-        State::InactivePending => (State::InactivePending, &[Action::Error(6), Action::Count]),
-    }
-}
-
-fn on_other_data(state: State) -> (State, &'static [Action])
-    ensures { (result.0, result.1.now) ≡ on_other_data state }
-{
-    match state {
-        State::Down => (State::Down, &[Action::Error(6), Action::Count]),
-        State::Inactive => (State::Inactive, &[Action::Error(6), Action::Count]),
-        State::Active => (State::Active, &[Action::Error(0x12), Action::Count]),
-        State::DownPending => (State::DownPending, &[Action::Error(6), Action::Count]),
-        State::InactivePending => (State::InactivePending, &[Action::Error(6), Action::Count]),
-    }
-}
-
-fn on_stray_data(state: State) -> (State, &'static [Action])
-    ensures { (result.0, result.1.now) ≡ on_stray_data state }
-{
-    match state {
-        State::Down => (State::Down, &[Action::Error(6), Action::Count]),
-        State::Inactive => (State::Inactive, &[Action::Error(0x19), Action::Count]),
-        State::Active => (State::Active, &[Action::Error(0x19), Action::Count]),
-        State::DownPending => (State::DownPending, &[Action::Error(6), Action::Count]),
-        State::InactivePending => (
-            State::InactivePending,
-            &[Action::Error(0x19), Action::Count],
-        ),
-    }
-}
-
-fn on_stray(state: State) -> (State, &'static [Action])
-    ensures { (result.0, result.1.now) ≡ on_stray state }
-{
-    match state {
-        State::Down => (State::Down, &[Action::Error(6)]),
-        State::Inactive => (State::Inactive, &[Action::Error(0x19)]),
-        State::Active => (State::Active, &[Action::Error(0x19)]),
-        State::DownPending => (State::DownPending, &[Action::Error(6)]),
-        State::InactivePending => (State::InactivePending, &[Action::Error(0x19)]),
-    }
-}
-
-fn on_other_mode(state: State) -> (State, &'static [Action])
-    ensures { (result.0, result.1.now) ≡ on_other_mode state }
-{
-    match state {
-        State::Down => (State::Down, &[Action::Error(6)]),
-        State::Inactive => (State::Inactive, &[Action::Error(5)]),
-        State::Active => (State::Active, &[Action::Error(5)]),
-        State::DownPending => (State::DownPending, &[Action::Error(6)]),
-        State::InactivePending => (State::InactivePending, &[Action::Error(5)]),
-    }
-}
-
 fn on_beat(state: State) -> (State, &'static [Action])
     ensures { (result.0, result.1.now) ≡ on_beat state }
 {
@@ -269,10 +177,10 @@ fn on_audit(state: State) -> (State, &'static [Action])
 {
     match state {
         State::Down => (State::Down, &[Action::Error(6)]),
-        State::Inactive => (State::Inactive, &[Action::Audited]),
+        State::Inactive => (State::Inactive, &[Action::Error(6)]),
         State::Active => (State::Active, &[Action::Audited]),
         State::DownPending => (State::DownPending, &[Action::Error(6)]),
-        State::InactivePending => (State::InactivePending, &[Action::Audited]),
+        State::InactivePending => (State::InactivePending, &[Action::Error(6)]),
     }
 }
 
@@ -348,6 +256,24 @@ fn on_reach(state: State) -> (State, &'static [Action])
     }
 }
 
+impl Happening {
+    /// Whether it is DATA that carries a message for level 4.
+    pub fn is_data(self) -> bool
+        ensures { result ≡ is_data self }
+    {
+        match self {
+            Happening::Data => true,
+            Happening::Ended | Happening::Expired | Happening::Up | Happening::Down => false,
+            Happening::Active | Happening::ActiveWithOthers | Happening::Inactive => false,
+            Happening::InactiveWithOthers | Happening::OtherData | Happening::LongData => false,
+            Happening::StrayData | Happening::RefusedData | Happening::Stray => false,
+            Happening::OtherMode | Happening::Beat | Happening::Audit => false,
+            Happening::Register | Happening::Congestion | Happening::Error => false,
+            Happening::Other | Happening::Refused | Happening::Reach => false,
+        }
+    }
+}
+
 impl State {
     /// Where the gateway is after what happens, and what it does, in this order.
     pub fn step(self, happening: Happening) -> (State, &'static [Action])
@@ -359,10 +285,14 @@ impl State {
             Happening::Up => on_up(self),
             Happening::Down => on_down(self),
             Happening::Active => on_active(self),
+            Happening::ActiveWithOthers => on_active_with_others(self),
             Happening::Inactive => on_inactive(self),
+            Happening::InactiveWithOthers => on_inactive_with_others(self),
             Happening::Data => on_data(self),
             Happening::OtherData => on_other_data(self),
+            Happening::LongData => on_long_data(self),
             Happening::StrayData => on_stray_data(self),
+            Happening::RefusedData => on_refused_data(self),
             Happening::Stray => on_stray(self),
             Happening::OtherMode => on_other_mode(self),
             Happening::Beat => on_beat(self),

@@ -1,25 +1,15 @@
 //! The life of a gateway, as the words of a line tell it.
-ghost use Rattle.std.specs.Prelude.{◌≤◌, length};
+ghost use Rattle.std.specs.Prelude.{◌≡◌, false};
+ghost use Rattle.m3ua_gateway.specs.Asking.{is_data};
 
+use crate::desk::{Desk, happens, hears};
 use crate::reading::{number_of, octets_of};
-use crate::shown::{show_heard, show_message, show_sent, show_state};
+use crate::shown::{show_message, show_state};
 use arrayvec::ArrayVec;
-use m3ua_frames::{Deframer, Heard, find, number_4, tag};
-use m3ua_gateway::{
-    Action, Delivery, Gateway, Happening, MOST_WAITING, Request, answer, data, destination,
-    is_reached, parameters_of, request_of,
-};
+use m3ua_frames::{Deframer, Heard};
+use m3ua_gateway::{Delivery, Gateway, Happening, Request};
 use resend_store::Msu;
 use std::alloc::{AllocError, Global};
-
-/// What a gateway needs to answer: its routing context, its destinations, and octets to write to.
-#[derive(Drop)]
-struct Desk {
-    context: u32,
-    destinations: Vec<u32>,
-    reached: bool,
-    octets: ArrayVec<u8, 4160>,
-}
 
 /// A gateway with the stream of its ASP.
 #[derive(Drop)]
@@ -42,6 +32,8 @@ pub enum Verb {
     Reach,
     /// A piece of the stream.
     Stream,
+    /// A message as SCTP delivers it.
+    Message,
     /// The set delivers a message.
     Deliver,
     /// The first message of a selection that waits.
@@ -63,6 +55,7 @@ pub fn verb_of(word: &str) -> Verb {
         "destination" => Verb::Destination,
         "reach" => Verb::Reach,
         "m3ua" => Verb::Stream,
+        "sctp" => Verb::Message,
         "set" => Verb::Deliver,
         "first" => Verb::First,
         "take" => Verb::Take,
@@ -73,139 +66,15 @@ pub fn verb_of(word: &str) -> Verb {
     }
 }
 
-impl Desk {
-    /// Tells of a point code.
-    fn tell(&mut self, text: &mut String, affected: u32) -> Result<(), AllocError> {
-        let available = is_reached(self.destinations.as_slice(), self.reached, affected);
-        destination(self.context, available, affected, &mut self.octets);
-        show_sent(text, self.octets.as_slice())
-    }
-
-    /// Tells of each destination.
-    fn tell_all(&mut self, text: &mut String) -> Result<(), AllocError> {
-        for place in 0..self.destinations.len() {
-            if let Some(affected) = self.destinations.get(place) {
-                let affected = *affected;
-                self.tell(text, affected)?;
-            }
-        }
-        Ok(())
-    }
-
-    /// Tells of each point code that an audit asks for.
-    fn tell_audited(&mut self, text: &mut String, parameters: &[u8]) -> Result<(), AllocError> {
-        if let Some(value) = find(parameters, tag::AFFECTED) {
-            for affected in value.chunks(4) {
-                if affected.len() == 4 {
-                    self.tell(text, number_4(affected, 0))?;
-                }
-            }
-        }
-        Ok(())
-    }
-
-    /// Sends a message as DATA.
-    fn send(&mut self, text: &mut String, msu: &Msu) -> Result<(), AllocError> {
-        if data(self.context, msu, &mut self.octets) {
-            show_sent(text, self.octets.as_slice())
-        } else {
-            text.push_str("no label\n")
-        }
-    }
-
-    /// Sends messages as DATA.
-    fn send_all(&mut self, text: &mut String, messages: &[Msu]) -> Result<(), AllocError> {
-        for msu in messages {
-            self.send(text, msu)?;
-        }
-        Ok(())
-    }
-
-    /// Does what an action says.
-    fn act(
-        &mut self,
-        text: &mut String,
-        gateway: &Gateway,
-        action: Action,
-        request: &Request,
-        parameters: &[u8],
-    ) -> Result<(), AllocError>
-        requires { length parameters.now ≤ 4088 }
-    {
-        match action {
-            Action::Destinations => self.tell_all(text),
-            Action::Audited => self.tell_audited(text, parameters),
-            Action::Release => self.send_all(text, gateway.released(request.happening)),
-            Action::Lose => {
-                let kept = gateway.kept();
-                writeln!(text, "lost {kept}")
-            }
-            Action::Count => text.push_str("refused\n"),
-            Action::Take => show_message(text, "waits ", request.message.as_ref()),
-            _ => self.reply(text, action, request, parameters),
-        }
-    }
-
-    /// Sends the message of an action that sends one.
-    fn reply(
-        &mut self,
-        text: &mut String,
-        action: Action,
-        request: &Request,
-        parameters: &[u8],
-    ) -> Result<(), AllocError>
-        requires { length parameters.now ≤ 4088 }
-    {
-        let (code, key) = (request.code, request.key);
-        if answer(
-            action,
-            self.context,
-            code,
-            key,
-            parameters,
-            &mut self.octets,
-        ) {
-            show_sent(text, self.octets.as_slice())
-        } else {
-            Ok(())
-        }
-    }
-}
-
-/// Does all that a request asks for.
-fn happens(
-    text: &mut String,
-    gateway: &mut Gateway,
-    desk: &mut Desk,
-    request: Request,
-    parameters: &[u8],
-) -> Result<(), AllocError>
-    requires { length parameters.now ≤ 4088 }
-{
-    if gateway.waiting() >= MOST_WAITING {
-        return text.push_str("full\n");
-    }
-    for action in gateway.actions(request.happening) {
-        desk.act(text, gateway, *action, &request, parameters)?;
-    }
-    let Request {
-        happening,
-        message,
-        ..
-    } = request;
-    if gateway.waiting() < MOST_WAITING {
-        gateway.hears(happening, message);
-    }
-    Ok(())
-}
-
 /// A request without a message of the ASP.
-fn event(happening: Happening) -> Request {
+fn event(happening: Happening) -> Request
+    requires { is_data happening ≡ false }
+    ensures { is_data result.happening ≡ false }
+{
     Request {
         happening,
         message: None,
         code: 0,
-        key: 0,
     }
 }
 
@@ -228,12 +97,7 @@ impl Life {
     /// A gateway whose ASP is down.
     pub fn new(alloc: Global) -> Result<Life, AllocError> {
         let gateway = Gateway::new(alloc)?;
-        let desk = Desk {
-            context: 0,
-            destinations: Vec::new(alloc),
-            reached: false,
-            octets: ArrayVec::new(),
-        };
+        let desk = Desk::new(alloc);
         Ok(Life {
             gateway,
             deframer: Deframer::new(),
@@ -242,8 +106,16 @@ impl Life {
     }
 
     /// Something happens that is no message of the ASP.
-    fn event(&mut self, text: &mut String, happening: Happening) -> Result<(), AllocError> {
+    fn event(
+        &mut self,
+        alloc: Global,
+        text: &mut String,
+        happening: Happening,
+    ) -> Result<(), AllocError>
+        requires { is_data happening ≡ false }
+    {
         happens(
+            alloc,
             text,
             &mut self.gateway,
             &mut self.desk,
@@ -253,31 +125,48 @@ impl Life {
     }
 
     /// The stream ends.
-    fn end(&mut self, text: &mut String) -> Result<(), AllocError> {
+    fn end(&mut self, alloc: Global, text: &mut String) -> Result<(), AllocError> {
         self.deframer = Deframer::new();
-        self.event(text, Happening::Ended)
+        self.event(alloc, text, Happening::Ended)
     }
 
     /// A message came, or the header of one that is too long.
-    fn message(&mut self, text: &mut String, heard: Heard) -> Result<(), AllocError> {
+    fn message(
+        &mut self,
+        alloc: Global,
+        text: &mut String,
+        heard: Heard,
+    ) -> Result<(), AllocError> {
         let octets = self.deframer.octets();
-        show_heard(text, heard, octets)?;
-        let request = request_of(octets, self.desk.context);
-        let parameters = parameters_of(octets);
-        happens(text, &mut self.gateway, &mut self.desk, request, parameters)
+        let (gateway, desk) = (&mut self.gateway, &mut self.desk);
+        hears(alloc, text, gateway, desk, heard, octets)
+    }
+
+    /// SCTP delivers a message.
+    fn delivered(
+        &mut self,
+        alloc: Global,
+        text: &mut String,
+        octets: &[u8],
+    ) -> Result<(), AllocError> {
+        if octets.len() > 4096 {
+            return text.push_str("too long\n");
+        }
+        let (gateway, desk) = (&mut self.gateway, &mut self.desk);
+        hears(alloc, text, gateway, desk, Heard::Message, octets)
     }
 
     /// A piece of the stream comes.
-    fn piece(&mut self, text: &mut String, piece: &[u8]) -> Result<(), AllocError> {
+    fn piece(&mut self, alloc: Global, text: &mut String, piece: &[u8]) -> Result<(), AllocError> {
         let mut rest = piece;
         while !rest.is_empty() {
             let (used, heard) = self.deframer.take(rest);
             match heard {
                 Heard::Nothing => {}
-                Heard::Message | Heard::TooLong => self.message(text, heard)?,
+                Heard::Message | Heard::TooLong => self.message(alloc, text, heard)?,
                 Heard::Broken => {
                     text.push_str("asp broken\n")?;
-                    return self.end(text);
+                    return self.end(alloc, text);
                 }
             }
             rest = &rest[used..];
@@ -298,16 +187,32 @@ impl Life {
     }
 
     /// The destinations are reached, or not.
-    fn reach(&mut self, text: &mut String, reached: bool) -> Result<(), AllocError> {
+    fn reach(&mut self, alloc: Global, text: &mut String, reached: bool) -> Result<(), AllocError> {
         self.desk.reached = reached;
-        self.event(text, Happening::Reach)
+        self.event(alloc, text, Happening::Reach)
     }
 
     /// The stream ends, or T(r) runs out.
-    fn other(&mut self, text: &mut String, word: &str) -> Result<(), AllocError> {
+    fn other(&mut self, alloc: Global, text: &mut String, word: &str) -> Result<(), AllocError> {
         match word {
-            "end" => self.end(text),
-            _ => self.event(text, Happening::Expired),
+            "end" => self.end(alloc, text),
+            _ => self.event(alloc, text, Happening::Expired),
+        }
+    }
+
+    /// Shows the first message of a selection that waits, which the set takes or refuses, if it does.
+    fn select(&mut self, text: &mut String, verb: Verb, word: &str) -> Result<(), AllocError> {
+        let selection = (number_of(word) % 16) as u8;
+        match verb {
+            Verb::Take => {
+                let message = self.gateway.take_first(selection);
+                show_message(text, "took ", message.as_ref())
+            }
+            Verb::Refuse => {
+                let message = self.gateway.drop_first(selection);
+                show_message(text, "dropped ", message.as_ref())
+            }
+            _ => show_message(text, "first ", self.gateway.first(selection)),
         }
     }
 
@@ -329,30 +234,21 @@ impl Life {
                 self.desk.destinations.push(number_of(word))?;
                 Ok(())
             }
-            Verb::Reach => self.reach(text, word == "on"),
+            Verb::Reach => self.reach(alloc, text, word == "on"),
             Verb::Stream => {
                 let octets = octets_of(alloc, word)?;
-                self.piece(text, octets.as_slice())
+                self.piece(alloc, text, octets.as_slice())
+            }
+            Verb::Message => {
+                let octets = octets_of(alloc, word)?;
+                self.delivered(alloc, text, octets.as_slice())
             }
             Verb::Deliver => {
                 let octets = octets_of(alloc, word)?;
                 self.deliver(text, octets.as_slice())
             }
-            Verb::First => {
-                let selection = number_of(word) % 16;
-                show_message(text, "first ", self.gateway.first(selection as u8))
-            }
-            Verb::Take => {
-                let selection = number_of(word) % 16;
-                let message = self.gateway.take_first(selection as u8);
-                show_message(text, "took ", message.as_ref())
-            }
-            Verb::Refuse => {
-                let selection = number_of(word) % 16;
-                let message = self.gateway.drop_first(selection as u8);
-                show_message(text, "dropped ", message.as_ref())
-            }
-            Verb::Happens => self.other(text, word),
+            Verb::First | Verb::Take | Verb::Refuse => self.select(text, verb, word),
+            Verb::Happens => self.other(alloc, text, word),
             Verb::Show => show_state(text, &self.gateway),
         }
     }

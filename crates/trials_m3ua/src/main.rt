@@ -5,6 +5,7 @@
 //! sends after `asp`, what the gateway sends after `gateway` with its octets, and what becomes of messages.
 #![tactic(auto)]
 
+mod desk;
 mod life;
 mod reading;
 mod shown;

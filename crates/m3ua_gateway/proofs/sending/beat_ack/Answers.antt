@@ -1,15 +1,11 @@
-use Rattle.std.proofs.Common.{ℕ, List, Option, sym, ap, ◌∙◌, arith}
+use Rattle.std.proofs.Common.{◌≡◌, ℕ, List, ◌++◌, length, ap, ◌∙◌}
 use Rattle.m3ua_frames.specs.declared.kinds.Kind.TheVariants as kind
-use Rattle.m3ua_frames.specs.Tags.{HEARTBEAT}
-use Rattle.m3ua_gateway.specs.Sending.{same_value, octets_of}
-use Rattle.m3ua_gateway.proofs.AskingLaws.{within}
+use Rattle.m3ua_frames.specs.Parameters.{completed}
+use Rattle.m3ua_frames.specs.Frame.{header, body}
 use Rattle.m3ua_gateway.proofs.sending.beat_ack.Goals as goal
 
-pub returns-in-None : goal.returns-in-None
-returns-in-None c = λ ps are. c.bare.ensures ∙ ap (λ (o : Option (List ℕ)). octets_of kind.BeatAck (same_value HEARTBEAT o)) (c.in-None.ensures ps are)
-
-pub returns-then-value-le-MOST_VALUE : goal.returns-then-value-le-MOST_VALUE
-returns-then-value-le-MOST_VALUE c = λ ps are. c.beat_ack_with.ensures ∙ ap (λ (o : Option (List ℕ)). octets_of kind.BeatAck (same_value HEARTBEAT o)) (c.in-Some.ensures ps are)
-
-pub returns-else-value-le-MOST_VALUE : goal.returns-else-value-le-MOST_VALUE
-returns-else-value-le-MOST_VALUE c = λ ps are. absurd (omega (arith, within HEARTBEAT c.args.parameters.now ps c.in-Some.value.now are (sym (c.in-Some.ensures ps are)), c.requires))
+pub returns : goal.returns
+returns c =
+    let same : c.as_slice.result.now ≡ completed (body c.args.heard.now) =
+    c.as_slice.ensures.value ∙ c.push_parameters.ensures.items ∙ ap (λ (xs : List ℕ). xs ++ completed c.parameters_of.result.now) c.new-body.ensures ∙ ap completed c.parameters_of.ensures.value in
+    c.encode.ensures ∙ ap (λ (xs : List ℕ). header kind.BeatAck (length xs) ++ xs) same
