@@ -48,7 +48,7 @@ def taken(text, word, name, script):
     """The turns, answers, decisions and statements that a script takes. None for a script that isn't run here."""
     try:
         seen, _ = plain_trace.seen_of(text, script)
-    except (plain_term.BadLine, SystemExit, ValueError, KeyError, UnicodeDecodeError, Refusal):
+    except (plain_term.BadLine, plain_term.OutOfRange, SystemExit, ValueError, KeyError, UnicodeDecodeError, Refusal):
         return None
     it = seen.taken
     return it.turns, it.answers, it.asked, it.passed, it.thrown

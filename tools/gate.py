@@ -36,10 +36,14 @@ def steps():
     yield "lines", OUT / "mtp2_play"
     yield "ends", OUT / "mtp2_play"
     yield "sets", OUT / "mtp2_play"
+    yield "readers", OUT / "mtp2_play"
     yield "captures", OUT / "mtp2_play"
     yield "traces", OUT / "mtp2_play"
     yield "acceptance", OUT / "mtp2_play"
     yield "refused_memory", OUT / "mtp2_play"
+    yield "level3", OUT / "mtp2_play"
+    yield "cards", OUT / "mtp2_play"
+    yield "package", OUT / "mtp2_play"
     yield "tended", ROOT / "crates" / "trials" / "out" / "trials"
 
 

@@ -13,6 +13,8 @@ import re
 import sys
 
 CRATES = pathlib.Path(__file__).parent.parent / "crates"
+# A SYNONYM takes how its expressions are read; what has one in it reads them whole.
+WHOLE = "expression_at whole_trees"
 CALLS = "token optional separated separated_from list_in_parentheses many choice give".split()
 
 
@@ -47,7 +49,13 @@ def given(found, name):
     """Whether a reading is given how expressions are read (e)."""
     if name not in found:
         return "e" if name == "expression" else ""
-    return "e" if any(given(found, other) for other in re.findall(r"\b(\w+)_syntax\b", found[name].steps)) else ""
+    return (
+        "e"
+        if any(
+            other != "synonyms" and given(found, other) for other in re.findall(r"\b(\w+)_syntax\b", found[name].steps)
+        )
+        else ""
+    )
 
 
 def renamed(steps, plain):
@@ -66,7 +74,9 @@ def reading(found, production):
     """The definition of the reading."""
 
     def plain(name):
-        return {"expression": "e", "text": "text_at whole_texts"}.get(name) or f"{name}_at {given(found, name)}".strip()
+        return {"expression": "e", "text": "text_at whole_texts", "synonyms": f"synonyms_at ({WHOLE})"}.get(
+            name
+        ) or f"{name}_at {given(found, name)}".strip()
 
     steps = renamed(f"={production.steps}", plain).removeprefix("=")
     kind = {"e": "At Tree → ", "": ""}[production.given] + production.own
@@ -102,7 +112,12 @@ def kept(found, step):
     """That one step gives no more tokens back than it got."""
 
     def plain(name):
-        said = {"expression": "k", "names": "keeps_separated name_keeps", "text": "text_keeps whole_texts"}
+        said = {
+            "expression": "k",
+            "names": "keeps_separated name_keeps",
+            "text": "text_keeps whole_texts",
+            "synonyms": f"synonyms_keeps ({WHOLE}) (expression_keeps whole_trees)",
+        }
         return said.get(name) or f"{name}_keeps" + {"e": " e k", "": ""}[given(found, name)]
 
     step = re.sub(r"^give .*", "keeps_give _", step)
@@ -118,6 +133,8 @@ def taken(found, step):
     if step.startswith("token "):
         return f"(shortens_{step})"
     name = step.removesuffix("_syntax")
+    if name == "synonyms":
+        return f"(synonyms_takes ({WHOLE}) (expression_keeps whole_trees))"
     return bracketed(f"{name}_takes" + {"e": " e k", "": ""}[given(found, name)])
 
 

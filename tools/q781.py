@@ -15,8 +15,8 @@ usage: tools/q781 [SET] [NAME ..]
 The program is crates/mtp2_play/out/mtp2_play, where that is built, or the one that MTP2_PLAY names, else the one that
 bin/mtp2 takes. SET is `q703` (also if none is named), `standard`, or a file, looked up from the current folder: a
 text that has the names of a terminal. A word with which a test's name begins is a NAME; write `./7` for a file of that
-name. Test x.26 has an N2 of 3,000 octets, and a file 8,192, so it is skipped unless --n2 says 2,731 to 3,003. Status 1:
-a test failed that known.txt doesn't list, or passed that it lists; a change wasn't seen. 2: there is no
+name. Test x.26 has an N2 of 3,000 octets; on a file it is skipped unless the text or --n2 says 2,731 to 3,003.
+Status 1: a test failed that known.txt doesn't list, or passed that it lists; a change wasn't seen. 2: there is no
 such file, its text is refused, or there is no program. 3: no test has such a name, or the words are wrong.
 
 A script is a black box: units, octets of the line, commands and time go in; the script expects the units sent, the
@@ -30,16 +30,16 @@ import subprocess
 import sys
 import tempfile
 
-from tools.oracles.plain_term import play
+from tools.oracles.plain_term import OutOfRange, limits_over, play
 from tools.steps.built import PLAY, ROOT, Run, side_by_side
 
 TESTS = ROOT / "examples" / "q781"
 TEXT = ROOT / "examples" / "q703.sdl"
 # The sets of the program's own.
 OWN = ("standard", "q703")
-# The test of N2 if nothing is chosen, and the N2 with which it passes. The N2 that may be chosen, and that of a file.
+# The test of N2 if nothing is chosen, and the N2 with which it passes. The N2 that may be chosen.
 OF_N2, ITS_N2 = "x.26", range(2731, 3004)
-CHOICE, USUAL_N2 = range(300, 8193), 8192
+CHOICE = range(300, 8193)
 
 
 class Wrong(Exception):
@@ -91,6 +91,12 @@ def fault(plain, word, name, n2=None):
     return f"{said}: after `{asked}` `{done[-1].removeprefix('expect ')}` was expected, and `{came}` came"
 
 
+def n2_of(word):
+    """The N2 over a set where none is chosen."""
+    text = ROOT / "examples" / f"{word}.sdl" if word in OWN else pathlib.Path(word)
+    return limits_over(text.read_bytes(), "cyclic")[1]
+
+
 def known(word):
     """The tests that are known to fail on a set."""
     said = [it.split(" ", 2) for it in (TESTS / "known.txt").read_text().split("\n") if it and not it.startswith("#")]
@@ -99,7 +105,7 @@ def known(word):
 
 def tests(plain, word, names, n2):
     """Plays them, and prints the results. Returns the exit status."""
-    skipped = [] if word in OWN or n2 in ITS_N2 else [it for it in scripts(names) if it == OF_N2]
+    skipped = [] if word in OWN or (n2 or n2_of(word)) in ITS_N2 else [it for it in scripts(names) if it == OF_N2]
     wanted, expected = [it for it in scripts(names) if it not in skipped], known(word)
     failed = []
     for name, why in zip(wanted, side_by_side(fault, [(plain, word, it, n2) for it in wanted])):
@@ -107,7 +113,7 @@ def tests(plain, word, names, n2):
         failed += [name] if why else []
     for name in skipped:
         print(
-            f"{name} {title(name)}: skipped, for it has an N2 of 3,000 octets and not {n2 or USUAL_N2:,}: --n2 "
+            f"{name} {title(name)}: skipped, for it has an N2 of 3,000 octets and not {n2 or n2_of(word):,}: --n2 "
             "3000 plays it"
         )
     strange = [it for it in wanted if (it in failed) != (it in expected)]
@@ -197,6 +203,10 @@ def check_text(plain, word):
     lines, status, said = played(plain, word, b"terminal basic\n")
     if status:
         raise Wrong(2, f"{word}: {' '.join(lines) or f'status {status}'}\n{said}".rstrip("\n"))
+    try:
+        n2_of(word)
+    except OutOfRange as why:
+        raise Wrong(2, f"{word}: {why} is out of its range") from None
 
 
 def run(words):

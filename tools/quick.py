@@ -4,8 +4,8 @@ line is `N passed, M failed`, and the status 0 only if nothing failed.
 
 usage: tools/quick            all steps
        tools/quick STEP ..
-           only these: ready, table, examples, plain, commands, lines, ends, streams, refused_memory, captures,
-           acceptance
+           only these: ready, table, examples, plain, commands, lines, ends, sets, readers, streams, refused_memory,
+           captures, acceptance, level3, cards
 
 - ready, table: the faults that the gate refuses before any proof is tried, and whether the input of the program trials
   is the one that its tables make.
@@ -17,6 +17,8 @@ usage: tools/quick            all steps
 - streams: reads, writes and threads that fail, and input that is cut or changed, a few of each kind; the gate tries
   more.
 - refused_memory: requests for memory that fail, a few of each kind.
+- level3: the programs of examples/level3, attached to two ends of a set. cards: a set on channels that behave as those
+  of a card, and by a socket. (The package is left to the gate.)
 
 MTP2_PLAY names another program for all steps. Tests that need the programs of tests, as two terminals over a noisy line
 or an hour of two link sets, are left to the gate."""
@@ -43,9 +45,12 @@ STEPS = {
     "commands": ["steps/commands"],
     "captures": ["steps/captures"],
     "sets": ["steps/sets"],
+    "readers": ["steps/readers"],
     "acceptance": ["steps/acceptance", "q703", "standard"],
     "plain": ["steps/examples", "--plain"],
     "refused_memory": ["steps/refused_memory", "--few"],
+    "level3": ["steps/level3"],
+    "cards": ["steps/cards"],
 }
 # How many steps run at once: each has parts that run one after another.
 SIDE_BY_SIDE = 3

@@ -2,8 +2,7 @@
 """Two ends of a set of links, each a process of `mtp2_play set`, tied by FIFOs at 64 kbit/s, with faults by order. `two_ends` beside this file, bench/set_faults
 and bench/set_ss7 drive them.
 
-usage: none of its own; MTP2_PLAY names another program than bin/mtp2"""
-import collections
+usage: none of its own; of bin/mtp2, of the installed `mtp2` if there is no such file, or of the program that MTP2_PLAY names"""
 import os
 import pathlib
 import random
@@ -14,7 +13,8 @@ import threading
 import time
 
 HERE = pathlib.Path(__file__).resolve().parent
-PLAY = os.environ.get("MTP2_PLAY", str(HERE.parents[1] / "bin" / "mtp2"))
+NEAR = HERE.parents[1] / "bin" / "mtp2"
+PLAY = os.environ.get("MTP2_PLAY", str(NEAR) if NEAR.exists() else "mtp2")
 
 PACE = 8  # octets a millisecond on each way
 BEAT = 0.002  # seconds between two looks at the lines
@@ -89,12 +89,14 @@ class Ended(Exception):
 
 
 class End:
-    """One end: its process, its orders and its reports."""
+    """One end: its process, its orders and its reports. While it is `stopped`, nobody reads its reports."""
+
+    stopped = False
 
     def __init__(self, room, name, own, peer, links, more, user):
         self.name, self.own, self.peer, self.room, self.user = name, own, peer, room, user
         self.told, self.came, self.sent, self.refused = [], [], [], 0
-        self.asked, self.again, self.held = collections.deque(), [], None
+        self.asked, self.again, self.held = {}, [], None
         self.burst, self.seen = 1, 0
         self.orders, self.reports = room / f"{name}.orders", room / f"{name}.reports"
         for path in (self.orders, self.reports):
@@ -115,6 +117,8 @@ class End:
         """Reads its reports, up to an empty line, which `end` puts after all others."""
         rest = b""
         while True:
+            while self.stopped:
+                time.sleep(0.01)
             *lines, rest = (rest + os.read(self.back, ROOM)).split(b"\n")
             for line in lines:
                 if not line:
@@ -127,11 +131,11 @@ class End:
             self.came.append(bytes.fromhex(words[3]))
         elif words[1] == "ok" and words[2] == "send":
             self.sent.append(bytes.fromhex(words[3]))
-            self.asked.popleft()
+            self.asked.pop(words[3])
         elif words[1] == "refused":
+            # (its last word is the message, by which its order is known: answers of several selections come in any order)
             self.refused += 1
-            self.again.append(self.asked[0])
-            self.asked.popleft()
+            self.again.append(self.asked.pop(words[-1]))
         elif words[1] == "ok":
             pass
         elif words[2:3] == ["held"]:
@@ -164,10 +168,15 @@ class End:
         if len(self.asked) >= OUT:
             return False
         number = self.again.pop(0)
-        self.asked.append(number)
-        label = (self.peer + self.own * 2**14 + number % 16 * 2**28).to_bytes(4, "little")
-        self.order("send " + (bytes([self.user]) + label + number.to_bytes(4, "big")).hex().upper())
+        message = self.message(number).hex().upper()
+        self.asked[message] = number
+        self.order(f"send {message}")
         return True
+
+    def message(self, number):
+        """The message of a number: its selection is the number's rest by 16."""
+        label = (self.peer + self.own * 2**14 + number % 16 * 2**28).to_bytes(4, "little")
+        return bytes([self.user]) + label + number.to_bytes(4, "big")
 
     def has_told(self, text, times=1):
         return sum(line.split(" ", 1)[1] == text for line in self.told) >= times
@@ -205,6 +214,7 @@ class End:
         if self.process.poll() is None:
             os.killpg(self.process.pid, signal.SIGKILL)
             self.process.wait()
+        self.stopped = False
         os.write(self.back, b"\n\n")
         self.listener.join()
         os.close(self.to)

@@ -38,7 +38,7 @@ TODAY = {
     "no clause says": (0, 0),
     "who of them": (0, 0),
     "its own affair": (0, 0),
-    "alone": (0, 1),
+    "alone": (0, 0),
     "The same": (0, 1),
     "that may": (0, 0),
 }

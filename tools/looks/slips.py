@@ -121,10 +121,17 @@ class Changes:
     def __init__(self, text):
         self.text, self.plain, self.found = text, masked(text), []
         self.process, self.states, self.heard, self.places = "", [], "", {}
+        # What synonyms stand for, by the process that has them, "" for the block's.
+        self.synonyms = {}
         every = list(statements(text))
         for it in every:
             if it.word == "PROCESS":
                 self.process = self.body(it).split()[0]
+            if it.word == "SYNONYM":
+                for name, number in re.findall(r"(\w+)\s*=\s*(\d+)", self.body(it)):
+                    self.synonyms[self.process, name] = int(number)
+            if it.word == "ENDPROCESS":
+                self.process = ""
             if it.word == "STATE":
                 names = [name.strip() for name in self.body(it).split(",")]
                 self.places.setdefault(self.process, []).extend(
@@ -177,11 +184,22 @@ class Changes:
             at = spans.index(span)
             self.change(kind, (span[0], spans[1][0]) if at == 0 else (spans[at - 1][1], span[1]), "", what)
 
+    def constants(self, span):
+        """Each number and each synonym in a place: where it stands, and its value."""
+        for it in re.finditer(r"\b\w+\b", self.plain[slice(*span)]):
+            value = (
+                int(it[0])
+                if it[0].isdigit()
+                else self.synonyms.get((self.process, it[0]), self.synonyms.get(("", it[0])))
+            )
+            if value is not None:
+                yield (span[0] + it.start(), span[0] + it.end()), value
+
     def numbers(self, kind, span, what):
         """Each constant in a place is another one."""
-        for it in NUMBER.finditer(self.plain, *span):
-            for other in {int(it[0]) + 1, abs(int(it[0]) - 1)}:
-                self.change(kind, it.span(), str(other), f"{other} for {it[0]} in {what}")
+        for at, value in self.constants(span):
+            for other in {value + 1, abs(value - 1)}:
+                self.change(kind, at, str(other), f"{other} for {self.plain[slice(*at)]} in {what}")
         for it in re.finditer(r"\b(TRUE|FALSE)\b", self.plain[slice(*span)]):
             other = "FALSE" if it[0] == "TRUE" else "TRUE"
             self.change(kind, (span[0] + it.start(), span[0] + it.end()), other, f"{other} in {what}")
@@ -203,10 +221,9 @@ class Changes:
 
     def of_set(self, it, _):
         self.timer(it)
-        for number in NUMBER.finditer(self.plain, *it.body):
-            value = int(number[0])
+        for at, value in self.constants((it.body[0], self.plain.rindex(",", *it.body))):
             for other in [*RANGES.get(value, ()), value // 10]:
-                self.change("times", number.span(), str(other), f"{self.plain[it.start : it.end]} with {other}")
+                self.change("times", at, str(other), f"{self.plain[it.start : it.end]} with {other}")
 
     def of_reset(self, it, _):
         self.timer(it)
@@ -248,7 +265,7 @@ class Changes:
     def of_decision(self, it, _):
         span = stripped(self.plain, it.body)
         name = self.plain[slice(*span)]
-        if NUMBER.search(name) or re.search(r"\b(AND|OR|NOT)\b", name) or name.lower() in BOOLEANS:
+        if [*self.constants(span)] or re.search(r"\b(AND|OR|NOT)\b", name) or name.lower() in BOOLEANS:
             for other in ("TRUE", "FALSE"):
                 self.change("decisions", span, other, f"{other} for {name}")
         self.numbers("decisions", span, name)

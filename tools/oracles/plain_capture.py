@@ -147,8 +147,8 @@ def of_links(records, every):
     return [it for place, it in enumerate(records) if place in chosen]
 
 
-def script_capture(text, script, every=False, say=lambda line: None, usual=()):
-    """The capture of a script on a text, and the status; with these N1 and N2 if it says none."""
+def script_capture(text, script, every=False, say=lambda line: None):
+    """The capture of a script on a text, and the status."""
     watch = Watch()
     base_in, base_out = plain_term.Terminal.line_in, plain_term.Terminal.unit_out
     links = []
@@ -187,7 +187,7 @@ def script_capture(text, script, every=False, say=lambda line: None, usual=()):
 
     plain_term.Terminal.line_in, plain_term.Terminal.unit_out, plain_term.Terminal.__init__ = line_in, unit_out, make
     try:
-        status = plain_group.play_text(text, script, say, usual)
+        status = plain_group.play_text(text, script, say)
     finally:
         plain_term.Terminal.line_in, plain_term.Terminal.unit_out, plain_term.Terminal.__init__ = (
             base_in,
@@ -226,10 +226,7 @@ def main(words):
         return 0
     if words[:1] == ["--script"] and len(words) in (3, 4):
         found, status = script_capture(
-            plain_term.text_of(words[1]).encode(),
-            pathlib.Path(words[2]).read_bytes(),
-            "--every" in words,
-            usual=plain_term.USUAL.get(words[1], ()),
+            plain_term.text_of(words[1]).encode(), pathlib.Path(words[2]).read_bytes(), "--every" in words
         )
         sys.stdout.buffer.write(found)
         return status

@@ -8,7 +8,8 @@ import pathlib
 import sys
 
 from tools.oracles.plain_limits import Measures, refuse_limits
-from tools.oracles.plain_reader import P, Refusal, bodies, first, lex, lo, refusal
+from tools.oracles.plain_reader import P, Refusal, block_synonyms, bodies, constant, divisor, first, lex, lo
+from tools.oracles.plain_reader import process_synonyms, refusal, stands_for
 from tools.oracles.plain_unset import refuse_unset
 
 __all__ = ["P", "Refusal", "check", "lex", "lo"]
@@ -74,6 +75,10 @@ class Text:
             self.twice(names)
         self.known = {lo(name): (name[0], sorts) for name, sorts in reversed(self.signals)}
         self.names, self.paths = {lo(it[0]) for it in trees}, []
+        synonyms = [it for entity in entities if entity[0] == "synonyms" for it in entity[1]]
+        self.twice([it[0] for it in synonyms])
+        Synonyms(self, {}).declare(synonyms)
+        self.synonyms = block_synonyms(entities)
         for route in routes:
             self.route(route)
         self.processes = [Process(self, it) for it in trees]
@@ -108,33 +113,8 @@ class Text:
             raise refusal(f"S{number} {NAMES[number]}", self.octets, at)
 
 
-class Process:
-    """A process: what it declares, and what is wrong in it, which goes to the text's."""
-
-    def __init__(self, text, tree):
-        self.text, self.tree, self.wrong, self.name = text, tree, text.wrong, lo(tree[0])
-        declared = [it for it in tree[1] if it[0] == "dcl"]
-        self.variables = [(name, it[2], it[3]) for it in declared for name in it[1]]
-        self.timers = [name for it in tree[1] if it[0] == "timer" for name in it[1]]
-        self.connections = {lo(it[1]): it for it in reversed(tree[4])}
-        self.sorts = {lo(name): sort for name, sort, _ in reversed(self.variables)}
-        self.own_timers = {lo(it) for it in self.timers}
-        # (a state's name as it is written first, and its inputs: signal, variables, list, place, name of its part)
-        self.states = {}
-        for names, _ in tree[3]:
-            for name in names:
-                self.states.setdefault(lo(name), (name[0], []))
-        for names in ([it[0] for it in self.variables], self.timers, [it[1] for it in tree[4]]):
-            text.twice(names)
-        for timer in self.timers:
-            if lo(timer) in text.known:
-                self.wrong(1, timer[1])
-        for it in declared:
-            if it[3] and it[3][0] != it[2]:
-                self.wrong(3, it[3][2])
-        self.joined()
-        self.listed_whole(tree[2][0], tree[2][1], None)
-        self.stimuli()
+class Sorts:
+    """The sorts of expressions by those of the variables (`sorts`) and of the synonyms (`known`, with values)."""
 
     def sort_of(self, it):
         """The sort of an expression; nothing where it can't be told."""
@@ -143,6 +123,8 @@ class Process:
             return "INTEGER"
         if kind == "bool":
             return "BOOLEAN"
+        if kind == "var" and lo(it[1]) in self.known:
+            return self.known[lo(it[1])][0]
         if kind == "var":
             if lo(it[1]) not in self.sorts:
                 self.wrong(2, it[1][1])
@@ -163,7 +145,7 @@ class Process:
         sort = "BOOLEAN" if operator in ("AND", "OR", "XOR") else "INTEGER"
         self.want(left, sort)
         self.want(right, sort)
-        if operator in ("/", "MOD", "REM") and not (right[0] == "num" and right[1] >= 1):
+        if operator in ("/", "MOD", "REM") and divisor(right, self.known) < 1:
             self.wrong(9, first(right))
         return "BOOLEAN" if operator in TRUTHS else "INTEGER"
 
@@ -172,8 +154,75 @@ class Process:
         if found and found != sort:
             self.wrong(3, first(it))
 
+
+class Synonyms(Sorts):
+    """Synonyms, each of which may name those before it; what is wrong in them goes to the text's."""
+
+    def __init__(self, text, known):
+        self.wrong, self.sorts, self.known = text.wrong, {}, dict(known)
+
+    def declare(self, synonyms):
+        for name, sort, value in synonyms:
+            found = self.sort_of(value)
+            if sort and found and found != sort:
+                self.wrong(3, first(value))
+            self.known.setdefault(lo(name), stands_for(sort, value, self.known))
+
+
+class Process(Sorts):
+    """A process: what it declares, and what is wrong in it, which goes to the text's."""
+
+    def __init__(self, text, tree):
+        self.text, self.tree, self.wrong, self.name = text, tree, text.wrong, lo(tree[0])
+        self.known = process_synonyms(tree, text.synonyms)
+        declared = [it for it in tree[1] if it[0] == "dcl"]
+        self.variables = [(name, it[2], it[3]) for it in declared for name in it[1]]
+        self.timers = [name for it in tree[1] if it[0] == "timer" for name in it[1]]
+        self.connections = {lo(it[1]): it for it in reversed(tree[4])}
+        self.sorts = {lo(name): sort for name, sort, _ in reversed(self.variables)}
+        self.own_timers = {lo(it) for it in self.timers}
+        # (a state's name as it is written first, and its inputs: signal, variables, list, place, name of its part)
+        self.states = {}
+        for names, _ in tree[3]:
+            for name in names:
+                self.states.setdefault(lo(name), (name[0], []))
+        synonyms = [it for own in tree[1] if own[0] == "synonyms" for it in own[1]]
+        for names in (self.nouns(), self.timers, [it[1] for it in tree[4]]):
+            text.twice(names)
+        hidden = {lo(it[0]) for it in [*synonyms, *self.variables]}
+        Synonyms(text, {name: it for name, it in text.synonyms.items() if name not in hidden}).declare(synonyms)
+        for timer in self.timers:
+            if lo(timer) in text.known:
+                self.wrong(1, timer[1])
+        for it in declared:
+            value = it[3] and self.constant(it[3])
+            if value and value[0] != it[2]:
+                self.wrong(3, value[2])
+        self.joined()
+        self.listed_whole(tree[2][0], tree[2][1], None)
+        self.stimuli()
+
+    def nouns(self):
+        """The names of the variables and synonyms, in their order."""
+        for it in self.tree[1]:
+            if it[0] == "dcl":
+                yield from it[1]
+            if it[0] == "synonyms":
+                yield from (own[0] for own in it[1])
+
+    def constant(self, it):
+        """A constant with its value."""
+        if it[0] == "name":
+            if lo(it[2]) not in self.known:
+                self.wrong(2, it[2][1])
+            elif it[1] and self.known[lo(it[2])][0] == "BOOLEAN":
+                self.wrong(3, it[2][1])
+        return constant(it, self.known)
+
     def is_truth(self, it):
         """Whether an expression is of BOOLEAN, as it is written."""
+        if it[0] == "var" and lo(it[1]) in self.known:
+            return self.known[lo(it[1])][0] == "BOOLEAN"
         if it[0] == "var":
             return self.sorts.get(lo(it[1])) == "BOOLEAN"
         return it[0] == "bool" or it[0] == "un" and it[1] == "NOT" or it[0] == "bin" and it[1] in TRUTHS
@@ -292,7 +341,7 @@ class Process:
         if sort == "INTEGER" and otherwise is None:
             self.wrong(8, at)
         if sort == "BOOLEAN":
-            values = [it[1] for ranges, _ in answers for it in ranges if it[0] == "val"]
+            values = [constant(it[1], self.known) for ranges, _ in answers for it in ranges if it[0] == "val"]
             named = [it[1] for it in values if it[0] == "BOOLEAN"]
             both = sorted(named) == ["FALSE", "TRUE"]
             if not (len(named) < 2 if otherwise is not None else both):
@@ -300,7 +349,7 @@ class Process:
 
     def range(self, it, sort):
         """A range of an answer, which has the sort of the question."""
-        constants = {"val": it[1:2], "rel": it[2:3]}.get(it[0], it[1:3])
+        constants = [self.constant(one) for one in {"val": it[1:2], "rel": it[2:3]}.get(it[0], it[1:3])]
         is_value = it[0] == "val" and constants[0][0] == "BOOLEAN"
         if sort == "BOOLEAN" and not is_value or sort == "INTEGER" and any(one[0] != "INTEGER" for one in constants):
             self.wrong(3, it[-1])

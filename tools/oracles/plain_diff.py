@@ -9,7 +9,7 @@ import sys
 
 from tools.oracles.plain_check import check, lo
 from tools.oracles.plain_play import Book
-from tools.oracles.plain_reader import P, Refusal, lex
+from tools.oracles.plain_reader import P, Refusal, lex, meant
 from tools.oracles.plain_term import WANTED, has
 
 
@@ -20,7 +20,7 @@ class Side:
         lines, book = check(text), Book(text, 64, 1024, 65536)
         self.terminal = next((f"no {it}" for it in WANTED if not has(book, it)), "yes")
         self.costs = [line.rsplit(" budget ", 1) for line in lines[:-1]]
-        entities = P(text, lex(text)).block()
+        entities = meant(P(text, lex(text)).block())
         self.signals = [s for e in entities if e[0] == "signals" for s in e[1]]
         self.processes = [e[1] for e in entities if e[0] == "process"]
         self.paths = [path for e in entities if e[0] == "route" for path in e[2]]
@@ -203,12 +203,14 @@ class Written:
         self.meaning = Meaning(side, process)
 
     def value(self, x, level=0):
-        if x[0] in ("num", "bool"):
+        if x[0] == "num":
+            return f"({x[1]})" if x[1] < 0 and level > 5 else str(x[1])
+        if x[0] == "bool":
             return str(x[1])
         if x[0] == "var":
             return self.variables[lo(x[1])]
         if x[0] == "un":
-            said = ("-" if x[1] == "-" else "NOT ") + self.value(x[2], 5)
+            said = ("-" if x[1] == "-" else "NOT ") + self.value(x[2], 6)
             return f"({said})" if level > 5 else said
         own = next(at for at, signs in enumerate(LEVELS) if x[1] in signs)
         said = f"{self.value(x[2], 3 if own == 2 else own)} {x[1]} {self.value(x[3], own + 1)}"

@@ -565,13 +565,19 @@ def run(player, commands, say):
 
 def play(word, script, say):
     """Plays a script of any kind on a set of processes, and gives the status."""
-    return play_text(plain_term.text_of(word).encode(), script, say, plain_term.USUAL.get(word, ()))
+    return play_text(plain_term.text_of(word).encode(), script, say)
 
 
-def play_text(text, script, say, usual=()):
-    """Plays a script of any kind on a text, and gives the status; with these N1 and N2 if it says none."""
+def player(text, script):
+    """A set over a text, as the first line of a script has it."""
+    cyclic, links = head(script)
+    return Player(text, cyclic, links, *plain_term.limits_over(text, "cyclic" if cyclic else "basic"))
+
+
+def play_text(text, script, say):
+    """Plays a script of any kind on a text, and gives the status."""
     if head(script) is None:
-        return plain_term.play_text(text, script, say, usual)
+        return plain_term.play_text(text, script, say)
     try:
         text.decode()
         check(text)
@@ -585,13 +591,17 @@ def play_text(text, script, say, usual=()):
         except BadLine:
             say(f"refused X1 BadLine line {at}")
             return 2
-    player = Player(text, *head(script), *usual)
-    lacking = plain_term.lacking_in(player.group.links[0].book)
+    try:
+        made = player(text, script)
+    except plain_term.OutOfRange as why:
+        say(f"refused X2 NoName {why}")
+        return 2
+    lacking = plain_term.lacking_in(made.group.links[0].book)
     if lacking:
         say(f"refused X2 NoName {lacking[0]}")
         return 2
     try:
-        run(player, commands, say)
+        run(made, commands, say)
     except Failed as why:
         say(f"failed line {why}")
         return 1

@@ -9,6 +9,7 @@ import re
 import sys
 
 from tools.oracles.plain_check import P, Refusal, check, lex, lo
+from tools.oracles.plain_reader import meant
 from tools.oracles.plain_turn import GREATEST, LEAST, Refused, Turn, constant
 
 LONGEST = 262144
@@ -68,7 +69,7 @@ class Book:
     """A link's actors, ports, timers, clock, and what they gave to the environment."""
 
     def __init__(self, text, ports, env, journal):
-        entities = P(text, lex(text)).block()
+        entities = meant(P(text, lex(text)).block())
         self.signals = {lo(name): (name[0], sorts) for it in entities if it[0] == "signals" for name, sorts in it[1]}
         processes = [Process(it[1], self.signals) for it in entities if it[0] == "process"]
         self.actors = [Actor(it, number) for it in processes for number in range(1, it.instances + 1)]

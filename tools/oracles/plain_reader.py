@@ -5,7 +5,8 @@ sys.setrecursionlimit(100000)
 RES = set(
     """BLOCK ENDBLOCK SIGNAL SIGNALROUTE FROM TO WITH ENV CONNECT PROCESS ENDPROCESS DCL TIMER START STATE ENDSTATE
     INPUT SAVE CONNECTION ENDCONNECTION TASK OUTPUT SENDER SET RESET NOW DECISION ELSE ENDDECISION NEXTSTATE STOP JOIN
-    COMMENT NOT AND OR XOR MOD REM INTEGER BOOLEAN TRUE FALSE PROCEDURE ENDPROCEDURE CALL FPAR IN RETURN""".split()
+    COMMENT NOT AND OR XOR MOD REM INTEGER BOOLEAN TRUE FALSE PROCEDURE ENDPROCEDURE CALL FPAR IN RETURN
+    SYNONYM""".split()
 )
 
 
@@ -132,6 +133,8 @@ class P:
         s.high = None
         s.inner = [0]
         s.opened = {}
+        # whether a name may stand for a constant
+        s.with_synonyms = any(it[0] == "SYNONYM" for it in toks)
 
     def k(s):
         return s.t[s.i][0] if s.i < len(s.t) else "end"
@@ -210,6 +213,8 @@ class P:
                 s.take("AND")
                 s.names()
                 s.end()
+            elif k == "SYNONYM":
+                ents.append(("synonyms", s.synonyms()))
             elif k == "PROCESS":
                 ents.append(("process", s.process()))
             else:
@@ -220,6 +225,23 @@ class P:
         if s.i < len(s.t):
             s.fail()
         return ents
+
+    def synonyms(s):
+        # name, sort if it is written, expression
+        s.take("SYNONYM")
+        found = []
+        while True:
+            n = s.name()
+            so = s.sort() if s.k() in ("INTEGER", "BOOLEAN") else None
+            s.take("=")
+            x = s.expr()
+            if s.high is None and height(x) > 32:
+                s.high = n[1]
+            found.append((n, so, x))
+            if not s.opt(","):
+                break
+        s.end()
+        return found
 
     def sig(s):
         n = s.name()
@@ -283,7 +305,10 @@ class P:
 
     def declarations(s):
         decls = []
-        while s.k() in ("DCL", "TIMER"):
+        while s.k() in ("DCL", "TIMER", "SYNONYM"):
+            if s.k() == "SYNONYM":
+                decls.append(("synonyms", s.synonyms()))
+                continue
             if s.opt("DCL"):
                 while True:
                     ns = s.names()
@@ -329,10 +354,15 @@ class P:
             s.end()
         return (ns, cl)
 
+    def synonym(s):
+        return s.k() == "name" and s.with_synonyms
+
     def const(s):
         at = s.at()
         if s.opt("-"):
-            return ("INTEGER", -s.take("num")[1], at)
+            return ("name", True, s.name(), at) if s.synonym() else ("INTEGER", -s.take("num")[1], at)
+        if s.synonym():
+            return ("name", False, s.name(), at)
         if s.k() == "num":
             return ("INTEGER", s.take("num")[1], at)
         if s.k() in ("TRUE", "FALSE"):
@@ -510,3 +540,138 @@ class P:
             s.take(")")
             return x[:4] + (at,) if x[0] == "bin" else x[:3] + (at,) if x[0] == "un" else x[:2] + (at,)
         s.fail()
+
+
+# ---- synonyms: what each stands for, by names that are looked up where they stand
+def wrap(n):
+    return (n + 2**31) % 2**32 - 2**31
+
+
+DIVISIONS = ("/", "MOD", "REM")
+
+
+def divisor(x, env):
+    """the number right of a division, 0 for all that may not stand there"""
+    if x[0] == "num":
+        return x[1]
+    so, v = env.get(x[1][0].lower(), (None, 0)) if x[0] == "var" else (None, 0)
+    return v if so == "INTEGER" else 0
+
+
+def worked(x, env):
+    """the sort and the value of a constant expression, none where it has none"""
+    if x[0] == "num":
+        return ("INTEGER", x[1])
+    if x[0] == "bool":
+        return ("BOOLEAN", x[1] == "TRUE")
+    if x[0] == "var":
+        return env.get(x[1][0].lower())
+    a = worked(x[2], env)
+    if a is None:
+        return None
+    if x[0] == "un":
+        if (x[1] == "NOT") != (a[0] == "BOOLEAN"):
+            return None
+        return ("BOOLEAN", not a[1]) if x[1] == "NOT" else ("INTEGER", wrap(-a[1]))
+    if x[1] in DIVISIONS:
+        k = divisor(x[3], env)
+        if a[0] != "INTEGER" or k < 1:
+            return None
+        cut = abs(a[1]) // k * (1 if a[1] >= 0 else -1)
+        return ("INTEGER", cut if x[1] == "/" else a[1] % k if x[1] == "MOD" else a[1] - cut * k)
+    b = worked(x[3], env)
+    if b is None or a[0] != b[0]:
+        return None
+    p, q = a[1], b[1]
+    if x[1] == "=":
+        return ("BOOLEAN", p == q)
+    if x[1] == "/=":
+        return ("BOOLEAN", p != q)
+    if x[1] in ("AND", "OR", "XOR"):
+        return (
+            None if a[0] != "BOOLEAN" else ("BOOLEAN", p and q if x[1] == "AND" else p or q if x[1] == "OR" else p != q)
+        )
+    if a[0] != "INTEGER":
+        return None
+    if x[1] in ("<", "<=", ">", ">="):
+        return ("BOOLEAN", {"<": p < q, "<=": p <= q, ">": p > q, ">=": p >= q}[x[1]])
+    return ("INTEGER", wrap(p + q if x[1] == "+" else p - q if x[1] == "-" else p * q))
+
+
+def root_sort(x, env):
+    """the sort that an expression has by its outermost operator, none for a name that is none"""
+    if x[0] == "num":
+        return "INTEGER"
+    if x[0] == "bool":
+        return "BOOLEAN"
+    if x[0] == "var":
+        return env.get(x[1][0].lower(), (None, None))[0]
+    return "INTEGER" if x[1] in ("+", "-", "*") + DIVISIONS else "BOOLEAN"
+
+
+def stands_for(so, x, env):
+    """The value of a synonym with this written sort, or none; 0 or FALSE if its expression has no value of it."""
+    so = so or root_sort(x, env) or "INTEGER"
+    v = worked(x, env)
+    return v if v is not None and v[0] == so else (so, 0 if so == "INTEGER" else False)
+
+
+def block_synonyms(ents):
+    env = {}
+    for n, so, x in [d for e in ents if e[0] == "synonyms" for d in e[1]]:
+        v = stands_for(so, x, env)
+        env.setdefault(n[0].lower(), v)
+    return env
+
+
+def process_synonyms(p, outer):
+    """what may be named in a process: its own names hide those of the block"""
+    mine = [d for e in p[1] if e[0] == "synonyms" for d in e[1]]
+    hidden = {n[0].lower() for e in p[1] if e[0] == "dcl" for n in e[1]} | {n[0].lower() for n, _, _ in mine}
+    env = {n: v for n, v in outer.items() if n not in hidden}
+    own = set()
+    for n, so, x in mine:
+        v = stands_for(so, x, env)
+        if n[0].lower() not in own:
+            env[n[0].lower()] = v
+            own.add(n[0].lower())
+    return env
+
+
+def constant(c, env):
+    """a constant of a range or an initial value, with its value in the place of a name"""
+    if c is None or c[0] != "name":
+        return c
+    so, v = env.get(c[2][0].lower(), ("INTEGER", 0))
+    if c[1]:
+        so, v = "INTEGER", wrap(-v) if so == "INTEGER" else 0
+    return (so, v if so == "INTEGER" else "TRUE" if v else "FALSE", c[3])
+
+
+def valued(x, env, opened):
+    """a tree or a part of one with a number or truth value in the place of each synonym; the new lists have the places
+    of the old ones in `opened`"""
+    if isinstance(x, list):
+        made = [valued(y, env, opened) for y in x]
+        if id(x) in opened:
+            opened[id(made)] = opened[id(x)]
+        return made
+    if not isinstance(x, tuple):
+        return x
+    if len(x) == 4 and x[0] == "name":
+        return constant(x, env)
+    if len(x) == 3 and x[0] == "var" and x[1][0].lower() in env:
+        so, v = env[x[1][0].lower()]
+        return ("num", v, x[2]) if so == "INTEGER" else ("bool", "TRUE" if v else "FALSE", x[2])
+    return tuple(valued(y, env, opened) for y in x)
+
+
+def meant(ents, opened=None):
+    """the text that the program runs: each synonym's value in its place; for `opened` see `valued`"""
+    outer = block_synonyms(ents)
+
+    def one(p):
+        own = [d for d in p[1] if d[0] != "synonyms"]
+        return valued((p[0], own) + p[2:], process_synonyms(p, outer), {} if opened is None else opened)
+
+    return [("process", one(e[1])) if e[0] == "process" else e for e in ents if e[0] != "synonyms"]

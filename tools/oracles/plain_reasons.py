@@ -2,7 +2,7 @@
 Written apart from the program, by the tree of plain_reader.py and the rules of docs/process-texts.md."""
 import re
 
-from tools.oracles.plain_reader import P, Refusal, lex, line_of
+from tools.oracles.plain_reader import P, Refusal, lex, line_of, meant
 
 OPERANDS = ["NOT", "(", "-", "TRUE", "FALSE", "name", "num"]
 STATEMENTS = ["TASK", "OUTPUT", "SET", "RESET", "DECISION", "NEXTSTATE", "STOP", "JOIN"]
@@ -34,6 +34,7 @@ KINDS = [
     "WITH",
     "ENV",
     "CONNECT",
+    "SYNONYM",
     "PROCESS",
     "ENDPROCESS",
     "DCL",
@@ -72,9 +73,10 @@ def joined(names, word):
 # ---- P1
 
 
-def goes_on(row):
-    """Whether a text begins with these tokens."""
+def goes_on(row, with_synonyms):
+    """Whether a text begins with these tokens that has the word SYNONYM, or one that doesn't."""
     reader = P(b"", row)
+    reader.with_synonyms = with_synonyms
     try:
         reader.block()
     except Refusal:
@@ -84,14 +86,16 @@ def goes_on(row):
 
 def wanted(tokens, index):
     """What may stand at a token, in words."""
-    row = [it[:3] for it in tokens[:index]]
+    row, with_synonyms = [it[:3] for it in tokens[:index]], P(b"", tokens).with_synonyms
     if len(row) > WHOLE:
         begins = max((at for at, it in enumerate(row) if it[0] in ENTITIES), default=0)
         row = row[: [it[0] for it in row].index(";") + 1] + row[begins:] if begins else row
     kinds = [
         it
         for it in KINDS
-        if goes_on([*row, (it, "Some_other_name_0" if it == "name" else 2147483646 if it == "num" else None, 0)])
+        if goes_on(
+            [*row, (it, "Some_other_name_0" if it == "name" else 2147483646 if it == "num" else None, 0)], with_synonyms
+        )
     ]
     groups = [
         (name, members)
@@ -117,7 +121,7 @@ def again(tokens, index, row):
     else:
         return []
     token = tokens[found]
-    return [f"`{token[3]}`"] if goes_on([*row, token[:3]]) else []
+    return [f"`{token[3]}`"] if goes_on([*row, token[:3]], P(b"", tokens).with_synonyms) else []
 
 
 def spelled(text, tokens):
@@ -141,7 +145,7 @@ def unexpected(text, at):
     tokens = spelled(text, lex(text))
     index = next((number for number, it in enumerate(tokens) if it[2] == at), len(tokens))
     # where the text ends too early the place is that of its last token
-    if tokens and index == len(tokens) - 1 and goes_on([it[:3] for it in tokens]):
+    if tokens and index == len(tokens) - 1 and goes_on([it[:3] for it in tokens], P(b"", tokens).with_synonyms):
         index = len(tokens)
     begins = max((number + 1 for number, it in enumerate(tokens[:index]) if it[0] == "PROCESS"), default=0)
     if index - begins > MOST_TRIED:
@@ -172,6 +176,8 @@ class Names:
                 self.add("SIGNAL", None, [name for name, _ in it[1]])
             elif it[0] == "route":
                 self.add("SIGNALROUTE", None, [it[1]])
+            elif it[0] == "synonyms":
+                self.add("SYNONYM", None, [name for name, _, _ in it[1]])
             else:
                 self.add_process(it[1])
         self.all.sort(key=lambda it: it[3])
@@ -183,7 +189,10 @@ class Names:
         own = process[0][1]
         self.add("PROCESS", None, [process[0]])
         for it in process[1]:
-            self.add("variable" if it[0] == "dcl" else "TIMER", own, it[1])
+            if it[0] == "synonyms":
+                self.add("SYNONYM", own, [name for name, _, _ in it[1]])
+            else:
+                self.add("variable" if it[0] == "dcl" else "TIMER", own, it[1])
         for names, _ in process[3]:
             self.add("STATE", own, names)
         self.add("CONNECTION", own, [it[1] for it in process[4]])
@@ -212,21 +221,25 @@ def is_near(one, other):
     return front + back + 1 >= len(other)
 
 
+def names_in(tree):
+    """The names in an expression."""
+    if tree[0] == "var":
+        return [tree[1]]
+    return (
+        [name for it in tree[2:4] if isinstance(it, tuple) for name in names_in(it)] if tree[0] in ("un", "bin") else []
+    )
+
+
 def uses(block):
     """Each name that is used, with what it has to be, in any order: (name, place, kinds, what it is called)."""
     made = []
 
     def of(kind, names):
-        kinds = {"SIGNAL or TIMER": {"SIGNAL", "TIMER"}}.get(kind, {kind})
+        kinds = {"SIGNAL or TIMER": {"SIGNAL", "TIMER"}, "variable": {"variable", "SYNONYM"}}.get(kind, {kind})
         made.extend((it[0], it[1], kinds, kind) for it in names if it is not None and it not in ("ENV", "SENDER"))
 
     def in_tree(tree):
-        if tree[0] == "var":
-            of("variable", [tree[1]])
-        elif tree[0] == "un":
-            in_tree(tree[2])
-        elif tree[0] == "bin":
-            in_tree(tree[2]), in_tree(tree[3])
+        of("variable", names_in(tree))
 
     def in_list(part):
         for act in part[0]:
@@ -243,6 +256,8 @@ def uses(block):
                 of("TIMER", [act[1]])
             else:
                 in_tree(act[2]), [in_list(it) for it in bodies(act)]
+                for ranges, _ in act[3]:
+                    of("SYNONYM", [c[2] for r in ranges for c in r if isinstance(c, tuple) and c[0] == "name"])
         if part[1] and part[1][0] == "join":
             of("CONNECTION", [part[1][2]])
         if part[1] and part[1][0] == "next":
@@ -252,7 +267,14 @@ def uses(block):
         if it[0] == "route":
             for one, other, signals in it[2]:
                 of("PROCESS", [one, other]), of("SIGNAL", signals)
+        if it[0] == "synonyms":
+            of("SYNONYM", [name for _, _, tree in it[1] for name in names_in(tree)])
         if it[0] == "process":
+            for own in it[1][1]:
+                if own[0] == "synonyms":
+                    of("SYNONYM", [name for _, _, tree in own[1] for name in names_in(tree)])
+                if own[0] == "dcl" and own[3] and own[3][0] == "name":
+                    of("SYNONYM", [own[3][2]])
             in_list(it[1][2][1]), [in_list(conn[2]) for conn in it[1][4]]
             for _, clauses in it[1][3]:
                 for clause in clauses:
@@ -285,7 +307,7 @@ def hint(names, at, name, kinds, kind):
 
 def unknown(names, block, at):
     name, _, kinds, kind = next(it for it in uses(block) if it[1] == at and it[3] != "STATE")
-    local = kind not in ("SIGNAL", "PROCESS")
+    local = kind not in ("SIGNAL", "PROCESS", "SYNONYM")
     said = f"{names.process_at(at)[0][0]} has no {kind} {name}" if local else f"there is no {kind} {name}"
     return said, "", hint(names, at, name, kinds, kind)
 
@@ -295,11 +317,15 @@ def twice(names, at):
     if not own:
         return None
     kind, process, name, _ = own[0]
-    clash = {"SIGNAL", "TIMER"} if kind in ("SIGNAL", "TIMER") else {kind}
+    both = [it for it in ({"SIGNAL", "TIMER"}, {"variable", "SYNONYM"}) if kind in it]
+    clash = both[0] if both else {kind}
     other = next(
         it
         for it in names.all
-        if it[3] != at and it[0] in clash and it[2].lower() == name.lower() and it[1] in (None, process)
+        if it[3] != at
+        and it[0] in clash
+        and it[2].lower() == name.lower()
+        and it[1] in ((process,) if kind in ("variable", "SYNONYM") else (None, process))
     )
     return (
         f"the {kind} {name} has a name that is there already",
@@ -476,6 +502,58 @@ def wrong_sorts(process):
         yield from of_act(process, act)
 
 
+class Constants:
+    """The sorts of synonyms, in the order in which they are declared."""
+
+    def __init__(self, outer=()):
+        self.sorts = dict(outer)
+
+    sort = Process.sort
+
+
+def wrong_synonyms(block):
+    """All synonyms with a wrong sort in their expressions: of the block, then of each process."""
+
+    def of(known, them):
+        for name, sort, tree in them:
+            found = known.sort(tree)
+            if sort and sort != found:
+                yield first(tree), f"{name[0]} is {SORTS[sort]}", f"its value is {SORTS[found]}", ""
+            yield from operands(known, tree)
+            known.sorts[low(name)] = sort or found
+
+    outer = Constants()
+    for it in block:
+        if it[0] == "synonyms":
+            yield from of(outer, it[1])
+    for it in block:
+        if it[0] == "process":
+            known = Constants(outer.sorts)
+            for own in it[1][1]:
+                if own[0] == "synonyms":
+                    yield from of(known, own[1])
+
+
+def denied_synonyms(block):
+    """The names of constants with a sign in front: a Boolean there is wrong."""
+    for it in block:
+        if it[0] == "process":
+            process = Process(block, it[1])
+            constants = [own[3] for own in it[1][1] if own[0] == "dcl" and own[3]]
+            constants += [
+                c
+                for _, act in process.acts()
+                if act[0] == "decide"
+                for ranges, _ in act[3]
+                for r in ranges
+                for c in r
+                if isinstance(c, tuple)
+            ]
+            for c in constants:
+                if c[0] == "name" and c[1]:
+                    yield c[2][1], "an Integer is expected after `-`", "this is a Boolean", ""
+
+
 def of_act(process, act):
     if act[0] == "task":
         for name, tree in act[1]:
@@ -619,7 +697,7 @@ def cycle(process, at):
 
 def divisor(text, at):
     before = [it for it in lex(text) if it[2] < at][-1]
-    return f"a literal of 1 or more is expected right of `{before[1] or before[0]}`", "", ""
+    return f"a literal or synonym of 1 or more is expected right of `{before[1] or before[0]}`", "", ""
 
 
 def of_lexis(text, code, at):
@@ -640,7 +718,12 @@ def reasons(text, why):
     if code == "P1":
         return unexpected(text, at)
     if code == "P2":
-        return "this statement is more than 32 levels high", "", ""
+        what = (
+            "the expression of this synonym"
+            if any(it[0] == "name" and it[2] == at for it in lex(text))
+            else "this statement"
+        )
+        return f"{what} is more than 32 levels high", "", ""
     if code in ("S10", "S11"):
         return why.said, "", ""
     block = P(text, lex(text)).block()
@@ -654,9 +737,20 @@ def reasons(text, why):
         return stray(names, block, text, at)
     if code == "S9":
         return divisor(text, at)
-    process = Process(block, names.process_at(at))
+    wrong = (
+        next((tuple(rest) for place, *rest in [*wrong_synonyms(block), *denied_synonyms(block)] if place == at), None)
+        if code == "S3"
+        else None
+    )
+    if wrong:
+        return wrong
+    block = meant(block)
+    found = Names(text, block).process_at(at)
+    if found is None:
+        return "", "", ""
+    process = Process(block, found)
     if code == "S3":
-        return next(tuple(rest) for place, *rest in wrong_sorts(process) if place == at)
+        return next((tuple(rest) for place, *rest in wrong_sorts(process) if place == at), ("", "", ""))
     return {
         "S5": lambda: nobody(process, text, at),
         "S6": lambda: several(process, at),

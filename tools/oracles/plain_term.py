@@ -23,12 +23,13 @@ from tools.oracles.plain_check import Refusal, check
 from tools.oracles.plain_play import LONGEST, BadLine, Book, Failed, Refused, number
 from tools.oracles.plain_play import play as play_book
 from tools.oracles.plain_play import shown
+from tools.oracles.plain_reader import P, block_synonyms, lex
 from tools.oracles.plain_units import FLAG, Line, Receiver, Sender, bits_of, check_octets, decoded, octets_of, stuffed
 
 ROOT = pathlib.Path(__file__).resolve().parents[2]
 SETS = {"standard": "standard.sdl", "q703": "q703.sdl", "monitors": "monitors.sdl"}
-# N1 and N2 over a set if nothing else is chosen; elsewhere those of a sender.
-USUAL = {"q703": (127, 3000)}
+# N1 and N2 of a text: their ranges, and the usual values, if neither a script nor the text gives them.
+RANGES = {"N1": (range(1, 128), 127), "N2": (range(300, 8193), 8192)}
 STATUSES = ["SIO", "SIN", "SIE", "SIOS", "SIPO", "SIB", "6", "7"]
 COPIES = re.compile(r"%(?:(\d+)-)?(\d+)\{([^}]*)\}")
 UP = ["command power", "command start", "unit FFFF0100", "unit FFFF0101", "tick 8200", "unit FFFF00"]
@@ -584,6 +585,23 @@ def limits_of(words):
     return [messages, octets] if 1 <= messages <= 127 and 300 <= octets <= 8192 else None
 
 
+class OutOfRange(Exception):
+    """The name of a limit that a text has out of its range."""
+
+
+def limits_over(text, mode, n1=None, n2=None):
+    """N1 and N2 of a terminal over a text: those that are chosen, else those of its synonyms, else the usual ones."""
+    if mode == "basic":
+        return []
+    found, own = [], block_synonyms(P(text, lex(text)).block())
+    for (name, (ours, usual)), chosen in zip(RANGES.items(), (n1, n2)):
+        sort, number = own.get(name.lower(), (None, None))
+        if chosen is None and sort == "INTEGER" and number not in ours:
+            raise OutOfRange(name)
+        found.append(chosen if chosen is not None else number if sort == "INTEGER" else usual)
+    return found
+
+
 def run(terminal, commands, say):
     last = None
     for at, (word, *rest) in commands:
@@ -601,11 +619,11 @@ def run(terminal, commands, say):
 
 def play(word, script, say):
     """Plays a script on a set, and gives the status."""
-    return play_text(text_of(word).encode(), script, say, USUAL.get(word, ()))
+    return play_text(text_of(word).encode(), script, say)
 
 
-def play_text(text, script, say, usual=()):
-    """Plays a script on a text, and gives the status; with these N1 and N2 if it says none."""
+def play_text(text, script, say):
+    """Plays a script on a text, and gives the status."""
     if not is_terminal(script):
         return play_book(text, script, say)
     (_, first), *lines = spoken(script)
@@ -622,7 +640,11 @@ def play_text(text, script, say, usual=()):
         except BadLine:
             say(f"refused X1 BadLine line {at}")
             return 2
-    terminal = Terminal(text, first[1] == "cyclic", *(limits_of(first) or usual))
+    try:
+        terminal = Terminal(text, first[1] == "cyclic", *(limits_of(first) or limits_over(text, first[1])))
+    except OutOfRange as why:
+        say(f"refused X2 NoName {why}")
+        return 2
     terminal.keeps = any(it[0] == "told" for _, it in commands)
     lacking = lacking_in(terminal.book)
     if lacking:

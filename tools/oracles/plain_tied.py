@@ -1,7 +1,7 @@
 """A plain terminal on a line, written apart from the program: to compare with `mtp2_play line`. Its terminal is that of
 plain_term.py; the octets, the orders and the reports are as docs/links.md says them, on whole lists.
 
-usage: tools/oracles/plain_tied.py MODE [--text SET] [--n1 N] [--n2 N] [--orders FILE] [--reports FILE] [--bits
+usage: tools/oracles/plain_tied.py MODE [--set SET] [--n1 N] [--n2 N] [--orders FILE] [--reports FILE] [--bits
 low|high] [--ahead N]
                                                                       a filter, as `mtp2_play line` is; it reads all
                                                                       before it writes
@@ -19,7 +19,7 @@ import zlib
 
 from tools.oracles.plain_lines import TEXT, Far
 from tools.oracles.plain_play import Refused, shown
-from tools.oracles.plain_term import COMMANDS, MORE, ROOT, SETS, USUAL, BadLine, do, number, octets_in
+from tools.oracles.plain_term import COMMANDS, MORE, ROOT, SETS, BadLine, do, limits_over, number, octets_in
 from tools.oracles.plain_units import FLAG, bits_of, check_octets, octets_of, stuffed
 
 MOST = 600
@@ -161,17 +161,11 @@ def set_of(word):
     return (ROOT / "examples" / SETS[word]).read_bytes() if word in SETS else pathlib.Path(word).read_bytes()
 
 
-def limits_over(word, n1=None, n2=None):
-    """N1 and N2 of a terminal over a set: those that are chosen, or else the set's."""
-    usual = USUAL.get(word, (127, 8192))
-    return usual[0] if n1 is None else n1, usual[1] if n2 is None else n2
-
-
 def two(mode, milliseconds, first, second, damaged=None, sets=("standard", "standard"), chosen=()):
     """Two ends, each of which hears what the other sent, the first of which sent a millisecond of 1s ahead; an octet of
     the second is damaged. Each has a set of its own, and both have the N1 and N2 that are chosen."""
     ends = [
-        Filter(mode, orders, ahead, set_of(word), limits_over(word, *chosen))
+        Filter(mode, orders, ahead, set_of(word), limits_over(set_of(word), mode, *chosen))
         for word, orders, ahead in zip(sets, (first, second), (8, 0))
     ]
     for now in range(milliseconds):
@@ -223,7 +217,7 @@ def main(words):
         return int(made != TIED.read_text())
     read = argparse.ArgumentParser()
     read.add_argument("mode", choices=["basic", "cyclic"])
-    read.add_argument("--orders"), read.add_argument("--reports"), read.add_argument("--text", default="standard")
+    read.add_argument("--orders"), read.add_argument("--reports"), read.add_argument("--set", default="q703")
     read.add_argument("--n1", type=int), read.add_argument("--n2", type=int)
     read.add_argument("--bits", choices=["low", "high"], default="low")
     read.add_argument("--ahead", type=int, default=0)
@@ -232,8 +226,8 @@ def main(words):
         given.mode,
         pathlib.Path(given.orders).read_bytes() if given.orders else b"",
         given.ahead,
-        set_of(given.text),
-        limits_over(given.text, given.n1, given.n2),
+        set_of(given.set),
+        limits_over(set_of(given.set), given.mode, given.n1, given.n2),
     )
     turn = turned if given.bits == "high" else lambda it: it
     for octet in sys.stdin.buffer.read():

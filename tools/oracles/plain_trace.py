@@ -30,7 +30,7 @@ import sys
 from tools.oracles import plain_filter, plain_group, plain_play, plain_term, plain_turn
 from tools.oracles.plain_check import P, check, lex, lo
 from tools.oracles.plain_play import Actor, Book, Refused, shown
-from tools.oracles.plain_reader import line_of
+from tools.oracles.plain_reader import line_of, meant
 
 
 def words(*parts):
@@ -50,7 +50,7 @@ class Taken:
     def __init__(self, text):
         self.text = text
         self.parser = P(text, lex(text))
-        entities = self.parser.block()
+        entities = meant(self.parser.block(), self.parser.opened)
         # of each decision the places of its answers, None for ELSE; and where something begins
         self.transitions, self.decisions, self.begun = {}, {}, set()
         self.printed = {it.lower(): it for it in (line.split(" budget ")[0] for line in check(text)[:-1])}
@@ -241,7 +241,7 @@ class Seen:
             for it in P(text, lex(text)).block()
             if it[0] == "process"
             for part in it[1][1]
-            if part[0] != "timer"
+            if part[0] == "dcl"
             for name in part[1]
         }
 
@@ -356,9 +356,11 @@ def run_book(text, script, seen, say):
     return 0
 
 
-def run_terminal(text, script, seen, say, usual):
+def run_terminal(text, script, seen, say):
     (_, first), *rest = plain_term.spoken(script)
-    terminal = plain_term.Terminal(text, first[1] == "cyclic", *(plain_term.limits_of(first) or usual))
+    terminal = plain_term.Terminal(
+        text, first[1] == "cyclic", *(plain_term.limits_of(first) or plain_term.limits_over(text, first[1]))
+    )
     seen.book = terminal.book
     commands = [(at, plain_term.command(it)) for at, it in rest]
     lacking = plain_term.lacking_in(terminal.book)
@@ -406,8 +408,8 @@ def changeover_lines(clock, word, rest, said):
     return heard + (changeover_line(clock, "said", bytes.fromhex(said[0][3:])) if answers else [])
 
 
-def run_group(text, script, seen, say, usual):
-    player, last, lines = plain_group.Player(text, *plain_group.head(script), *usual), None, lines_of(script)
+def run_group(text, script, seen, say):
+    player, last, lines = plain_group.player(text, script), None, lines_of(script)
     links = player.group.links
     seen.book = links[0].book
     commands = [(at, it[0], plain_group.command(it)) for at, it in plain_term.spoken(script)[1:]]
@@ -441,16 +443,16 @@ def run_group(text, script, seen, say, usual):
     return 0
 
 
-def seen_of(text, script, every=False, say=lambda line: None, usual=()):
-    """What is seen of a script on a text, and the status; with these N1 and N2 where a terminal's script says none."""
+def seen_of(text, script, every=False, say=lambda line: None):
+    """What is seen of a script on a text, and the status."""
     seen = SeenBook.seen = Seen(text, every)
     plain = plain_play.Turn, plain_term.Book
     plain_play.Turn, plain_term.Book = SeenTurn, SeenBook
     try:
         if plain_group.head(script) is not None:
-            return seen, run_group(text, script, seen, say, usual)
+            return seen, run_group(text, script, seen, say)
         if plain_term.is_terminal(script):
-            return seen, run_terminal(text, script, seen, say, usual)
+            return seen, run_terminal(text, script, seen, say)
         return seen, run_book(text, script, seen, say)
     finally:
         plain_play.Turn, plain_term.Book = plain
@@ -481,9 +483,7 @@ def main(given):
         return 3
     word, path, *options = given
     script = sys.stdin.buffer.read() if path == "stdin" else pathlib.Path(path).read_bytes()
-    seen, status = seen_of(
-        plain_term.text_of(word).encode(), script, "--every" in options, usual=plain_term.USUAL.get(word, ())
-    )
+    seen, status = seen_of(plain_term.text_of(word).encode(), script, "--every" in options)
     if "--chart" in options:
         cut = options[options.index("--turns") + 1].split("..") if "--turns" in options else ["0", ""]
         print("\n".join(chart(seen, int(cut[0] or 0), int(cut[1]) if cut[1] else None)))

@@ -6,21 +6,21 @@ import pathlib
 import sys
 
 from tools.oracles.plain_point import shown
-from tools.oracles.plain_reader import P, lex, line_of
+from tools.oracles.plain_reader import P, lex, line_of, meant
 
 LEAST, GREATEST = -(2**31), 2**31 - 1
 # The most octets of a line that is printed with a warning.
 MOST_SHOWN = 1000
 FAULTS = {
-    "W1": "UnreachedState",
-    "W2": "UnsentInput",
-    "W3": "IdleTimer",
-    "W4": "UnreadVariable",
-    "W5": "StraySignal",
-    "W6": "VainSave",
-    "W7": "SpentAnswer",
-    "W8": "FixedDecision",
-    "W10": "UnreachedConnection",
+    "A1": "UnreachedState",
+    "A2": "UnsentInput",
+    "A3": "IdleTimer",
+    "A4": "UnreadVariable",
+    "A5": "StraySignal",
+    "A6": "VainSave",
+    "A7": "SpentAnswer",
+    "A8": "FixedDecision",
+    "A10": "UnreachedConnection",
 }
 
 
@@ -192,11 +192,11 @@ def of_states(process):
     reached = process.from_start()
     for key, state in process.states.items():
         if key not in reached:
-            yield state[1], "W1", f"no way from START leads to {state[0]}"
+            yield state[1], "A1", f"no way from START leads to {state[0]}"
     joined = set().union(*(process.joined(it) for it in process.transitions))
     for key, (at, connection, _) in process.connections.items():
         if key not in joined:
-            yield at, "W10", f"no JOIN of a transition leads to {connection[0]}"
+            yield at, "A10", f"no JOIN of a transition leads to {connection[0]}"
 
 
 def of_inputs(paths, processes, process):
@@ -207,7 +207,7 @@ def of_inputs(paths, processes, process):
             from_outside = ("ENV", low(process.name), low(signal)) in paths
             sent = from_outside or any(sends_to(paths, it, process, low(signal)) for it in processes)
             if low(signal) not in timers and not sent:
-                yield signal[1], "W2", f"nobody sends {signal[0]} to {process.name[0]}"
+                yield signal[1], "A2", f"nobody sends {signal[0]} to {process.name[0]}"
 
 
 def of_timers(process):
@@ -216,9 +216,9 @@ def of_timers(process):
     are_set = {low(it[2]) for it in process.actions if it[0] == "set"}
     for timer in process.timers:
         if low(timer) in are_set and low(timer) not in taken:
-            yield timer[1], "W3", f"{timer[0]} is set, but no state takes it"
+            yield timer[1], "A3", f"{timer[0]} is set, but no state takes it"
         if low(timer) in taken and low(timer) not in are_set:
-            yield timer[1], "W3", f"a state takes {timer[0]}, but nothing sets it"
+            yield timer[1], "A3", f"a state takes {timer[0]}, but nothing sets it"
 
 
 def of_variables(process):
@@ -229,9 +229,9 @@ def of_variables(process):
     for variable in process.variables:
         if low(variable) not in read:
             if low(variable) in tasks | places:
-                yield variable[1], "W4", f"{variable[0]} is assigned, but never read"
+                yield variable[1], "A4", f"{variable[0]} is assigned, but never read"
             else:
-                yield variable[1], "W4", f"{variable[0]} is never read"
+                yield variable[1], "A4", f"{variable[0]} is never read"
 
 
 def of_saves(process):
@@ -240,7 +240,7 @@ def of_saves(process):
         for signal in (it for clause in clauses if clause[0] == "save" for it in clause[1]):
             lost = [name for name in names if not process.may_take(low(name), low(signal))]
             if lost:
-                yield signal[1], "W6", f"no way from {lost[0][0]} leads to a state that takes {signal[0]}"
+                yield signal[1], "A6", f"no way from {lost[0][0]} leads to a state that takes {signal[0]}"
 
 
 def of_decisions(reader, process):
@@ -249,11 +249,11 @@ def of_decisions(reader, process):
         if action[0] != "decide":
             continue
         if not variables(action[2]):
-            yield action[1], "W8", "the question is a constant"
+            yield action[1], "A8", "the question is a constant"
         earlier = []
         for ranges, _ in action[3]:
             if are_spent(earlier, values(ranges)):
-                yield reader.opened[id(ranges)], "W7", "earlier answers take each of its values"
+                yield reader.opened[id(ranges)], "A7", "earlier answers take each of its values"
             earlier += values(ranges)
 
 
@@ -262,11 +262,11 @@ def of_signals(entities, routed, by_name):
     on_routes = {low(signal) for _, _, signals in routed for signal in signals}
     for signal, _ in (it for entity in entities if entity[0] == "signals" for it in entity[1]):
         if low(signal) not in on_routes:
-            yield signal[1], "W5", f"no route has {signal[0]}"
+            yield signal[1], "A5", f"no route has {signal[0]}"
     for _, target, signals in routed:
         for signal in signals if target != "ENV" else ():
             if low(signal) not in by_name[low(target)].heeded():
-                yield signal[1], "W5", f"{target[0]} neither takes nor saves {signal[0]}"
+                yield signal[1], "A5", f"{target[0]} neither takes nor saves {signal[0]}"
 
 
 def of_process(paths, processes, process, reader):
@@ -282,7 +282,7 @@ def of_process(paths, processes, process, reader):
 def warnings(text):
     """The warnings of an accepted text, in its order: each the place, the code and the sentence."""
     reader = P(text, lex(text))
-    entities = reader.block()
+    entities = meant(reader.block(), reader.opened)
     processes = [Process(it[1]) for it in entities if it[0] == "process"]
     routed = [path for it in entities if it[0] == "route" for path in it[2]]
     paths = {(party(source), party(target), low(signal)) for source, target, signals in routed for signal in signals}

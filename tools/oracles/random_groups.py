@@ -218,7 +218,7 @@ def plain(count, dice):
 def case(dice):
     word, text = terminals.any_set(dice)
     made, said = script(dice, text).encode(), []
-    status = play_text(text, made, said.append, terminals.USUAL.get(word, ()))
+    status = play_text(text, made, said.append)
     return ["play", word, "stdin"], made, (said, status), f"on {word}"
 
 

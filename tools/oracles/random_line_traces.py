@@ -25,7 +25,7 @@ def text_of(word):
 def case(dice):
     words, come, (sent, status, told), shown = of_line(dice)
     every, path = dice.random() < 0.5, pathlib.Path(words[words.index("--orders") + 1])
-    word = words[words.index("--text") + 1] if "--text" in words else "standard"
+    word = words[words.index("--set") + 1] if "--set" in words else "q703"
     octets = bytes(map(turned, come)) if "high" in words else come
     seen = plain_trace.line_seen(text_of(word), words[1] == "cyclic", octets, orders_of(path.read_bytes()), every)
     whole, trace = "".join(f"{it}\n" for it in seen.lines).encode(), path.with_suffix(".every" if every else ".trace")

@@ -142,7 +142,7 @@ def case(dice):
         + (["--ahead", str(ahead)] if ahead else [])
         + (["--bits", "high"] if is_high else [])
     )
-    words += ["--text", word] if word != "standard" or dice.random() < 0.1 else []
+    words += ["--set", word] if word != "q703" or dice.random() < 0.1 else []
     turn = turned if is_high else int
     told = "".join(f"{it}\n" for it in near.told).encode()
     return (

@@ -34,9 +34,7 @@ def case(dice):
     words, script, (said, status), shown = (of_terminal if dice.random() < 0.5 else of_group)(dice)
     told = []
     if status in (0, 1):
-        wanted, _ = plain_capture.script_capture(
-            text_of(words[1]), script, every, usual=plain_term.USUAL.get(words[1], ())
-        )
+        wanted, _ = plain_capture.script_capture(text_of(words[1]), script, every)
         told = [is_otherwise(wanted)]
     options = ["--capture", "/dev/stderr", *(["--every"] if every else [])]
     return [*words, *options], script, (said, status, *told), f"{shown}, {' '.join(options)}"

@@ -165,9 +165,9 @@ def next_line(dice, terminal):
 
 
 def changed(dice):
-    """A copy of `standard` of which a few numbers are others, and that is accepted, in a file of its own."""
+    """A copy of `standard` or `q703` of which a few numbers are others, and that is accepted, in a file of its own."""
     while True:
-        text = TEXT
+        text = TEXT if dice.random() < 0.7 else (ROOT / "examples" / "q703.sdl").read_bytes()
         for _ in range(dice.choice([1, 1, 2, 3])):
             at = dice.choice(list(NUMBER.finditer(text)))
             number = max(
@@ -197,12 +197,20 @@ def any_set(dice):
     return changed(dice)
 
 
-def script(dice, text=TEXT, usual=()):
-    """A random script on a set, with these N1 and N2 if it says none."""
+def usual(text, mode):
+    """N1 and N2 over a text if none are chosen; those of a sender if the text's are out of their ranges."""
+    try:
+        return limits_over(text, mode)
+    except OutOfRange:
+        return []
+
+
+def script(dice, text=TEXT):
+    """A random script on a set."""
     mode, chosen = dice.choice(["basic", "cyclic"]), []
     if mode == "cyclic" and dice.random() < 0.5:
         chosen = [dice.choice([1, 2, 3, 7, 126, 127]), dice.choice([300, 301, 600, 2999, 8191, 8192])]
-    terminal, lines = Terminal(text, mode == "cyclic", *(chosen or usual)), [
+    terminal, lines = Terminal(text, mode == "cyclic", *(chosen or usual(text, mode))), [
         " ".join(["terminal", mode, *map(str, chosen)])
     ]
     terminal.keeps = dice.random() < 0.5
@@ -269,9 +277,8 @@ def plain(count, dice):
 
 def case(dice):
     word, text = any_set(dice)
-    usual = USUAL.get(word, ())
-    made, said = script(dice, text, usual).encode(), []
-    status = play_text(text, made, said.append, usual)
+    made, said = script(dice, text).encode(), []
+    status = play_text(text, made, said.append)
     return ["play", word, "stdin"], made, (said, status), f"on {word}"
 
 

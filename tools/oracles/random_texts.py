@@ -72,6 +72,12 @@ class Process:
         self.states = [f"S{at}" for at in range(dice.choice([1, 1, 2, 3, 4]))]
         self.connections = [f"c{at}" for at in range(dice.choice([0, 0, 1, 2, 3]))]
         self.instances = dice.choice([1, 1, 1, 2, 2, 3, 5, 8])
+        # its synonyms, and all that may be named in it; some hide one of the block, and some are named as a timer
+        self.synonyms = [
+            (name, dice.choice(SORTS))
+            for name in dice.sample(["k0", "k1", "K2", "m0", "T0"], dice.choice([0, 0, 0, 1, 2, 3]))
+        ]
+        self.named = []
         self.comes, self.goes = set(), {}
 
 
@@ -85,6 +91,34 @@ class Text:
             for at in range(dice.randrange(1, 7))
         }
         self.processes = [Process(dice, at) for at in range(dice.choice([1, 1, 2, 3]))]
+        self.synonyms = [
+            (name, dice.choice(SORTS))
+            for name in dice.sample(
+                ["k0", "k1", "k2", "k3", "T1", "N1", "v0", "w1"], dice.choice([0, 0, 0, 1, 2, 4, 6])
+            )
+        ]
+
+    def in_sight(self, process):
+        """The synonyms that may be named in a process, with their sorts, if it makes some."""
+        hidden = {name.lower() for name, _ in process.variables + process.synonyms}
+        return process.synonyms + [it for it in self.synonyms if it[0].lower() not in hidden]
+
+    def synonyms_of(self, them, before):
+        """A SYNONYM or two of some synonyms, each of those before it and of those that were there before."""
+        made, known = [], list(before)
+        for name, sort in them:
+            scope = Process(self.dice, 0)
+            scope.variables, scope.named = known, []
+            value = self.expression(
+                scope, self.dice.choice(SORTS) if self.slip() else sort, self.dice.choice([0, 0, 1, 2])
+            )
+            written = self.dice.choice(SORTS) if self.slip() else sort
+            made.append(f"{name}{self.dice.choice(['', ' ' + written])} = {value}")
+            known = [it for it in known if it[0].lower() != name.lower()] + [(name, sort)]
+        if made and self.slip():
+            made.append(self.dice.choice(made))
+        cut = self.dice.randrange(len(made) + 1)
+        return " ".join(f"SYNONYM {', '.join(part)};" for part in (made[:cut], made[cut:]) if part)
 
     def slip(self):
         return self.dice.random() < self.slips
@@ -120,6 +154,12 @@ class Text:
         fitting = [name for name, of in process.variables if of == sort or self.slip()]
         return self.one(fitting) if fitting else None
 
+    def constant_named(self, process, sort):
+        """A synonym of a sort, at times of another one, at times a name that is none."""
+        return (
+            self.variable(type("Named", (), {"variables": process.named}), sort) if self.dice.random() < 0.4 else None
+        )
+
     def number(self):
         return str(self.dice.choice(NUMBERS) if self.dice.random() < 0.8 else self.dice.randrange(2147483648))
 
@@ -128,8 +168,11 @@ class Text:
         dice = self.dice
         name = self.variable(process, sort)
         if height == 0 or dice.random() < 0.3:
+            named = self.constant_named(process, sort)
             return (
-                name
+                named
+                if named
+                else name
                 if name and dice.random() < 0.7
                 else self.number()
                 if sort == "Integer"
@@ -139,10 +182,10 @@ class Text:
         if sort == "Integer":
             kind = dice.randrange(4)
             if kind == 0:
-                made = (
-                    f"{self.expression(process, sort, less)} {dice.choice(['/', 'MOD', 'REM'])} "
-                    f"{self.number() if self.slip() else dice.choice([1, 2, 7, 128])}"
-                )
+                divisor = self.constant_named(process, "Integer")
+                if not divisor:
+                    divisor = self.number() if self.slip() else dice.choice([1, 2, 7, 128])
+                made = f"{self.expression(process, sort, less)} {dice.choice(['/', 'MOD', 'REM'])} {divisor}"
             elif kind == 1:
                 made = f"-{self.expression(process, sort, 0)}"
             else:
@@ -166,13 +209,20 @@ class Text:
                 )
         return f"({made})" if dice.random() < 0.9 else made
 
-    def constant(self, sort):
+    def constant(self, process, sort):
+        named = self.constant_named(process, self.dice.choice(SORTS) if self.slip() else sort)
+        if named:
+            return ("-" if self.dice.random() < (0.3 if sort == "Integer" else self.slips) else "") + named
         if sort == "Boolean":
             return self.dice.choice(["TRUE", "FALSE"])
         return self.dice.choice(["", "-"]) + self.number()
 
-    def range(self):
+    def range(self, process):
         low, high = sorted(self.dice.sample(range(-5, 12), 2))
+        low, high = (
+            self.constant(process, "Integer") if self.dice.random() < 0.3 else low,
+            self.constant(process, "Integer") if self.dice.random() < 0.2 else high,
+        )
         return self.dice.choice([str(low), f"{low}: {high}", f"{self.dice.choice(RELATIONS)} {low}", f"{high}: {low}"])
 
     def sending(self, process, has_sender):
@@ -214,12 +264,14 @@ class Text:
         body = lambda: self.transition(process, at, depth + 1, has_sender, False)
         if dice.random() < 0.3:
             names = dice.choice([["TRUE", "FALSE"], ["FALSE", "TRUE"], ["TRUE", None], ["FALSE", None]])
+            truths = [name for name, sort in process.named if sort == "Boolean"]
+            names = [it and dice.choice([it, it, it, *truths]) for it in names]
             question, labels = self.expression(process, "Boolean", 2), [it and f"({it})" for it in names]
         else:
             question = self.expression(process, "Integer", 2)
             labels = [
                 *(
-                    f"({', '.join(self.range() for _ in range(dice.choice([1, 1, 2])))})"
+                    f"({', '.join(self.range(process) for _ in range(dice.choice([1, 1, 2])))})"
                     for _ in range(dice.randrange(4))
                 ),
                 None,
@@ -296,10 +348,20 @@ class Text:
 
     def process(self, process):
         dice = self.dice
-        parts = [f"PROCESS {process.name}{self.count(process)};"]
+        process.named = self.in_sight(process)
+        declared = (
+            [self.synonyms_of(process.synonyms, [it for it in process.named if it not in process.synonyms])]
+            if process.synonyms
+            else []
+        )
         for name, sort in process.variables:
-            parts.append(f"DCL {name} {sort}{f' := {self.constant(sort)}' if dice.random() < 0.75 else ''};")
-        parts += [f"TIMER {it};" for it in process.timers]
+            declared.append(
+                f"DCL {name} {sort}{f' := {self.constant(process, sort)}' if dice.random() < 0.75 else ''};"
+            )
+        declared += [f"TIMER {it};" for it in process.timers]
+        if dice.random() < 0.3:
+            dice.shuffle(declared)
+        parts = [f"PROCESS {process.name}{self.count(process)};", *declared]
         parts.append(f"START; {self.transition(process, 0, 0, False, True)[0]}")
         bodies = [
             f"STATE {it}; {self.inputs(process)} {dice.choice(['', f'ENDSTATE {it};', 'ENDSTATE;'])}"
@@ -318,7 +380,12 @@ class Text:
         declared = [f"{name}({','.join(sorts)})" if sorts else name for name, sorts in self.signals.items()]
         signals = [f"SIGNAL {', '.join(declared)};"]
         routes = [self.route(at) for at in range(dice.randrange(1, 2 + 2 * len(self.processes)))]
-        entities = [*signals, *routes, *map(self.process, self.processes)]
+        entities = [
+            *signals,
+            *([self.synonyms_of(self.synonyms, [])] if self.synonyms else []),
+            *routes,
+            *map(self.process, self.processes),
+        ]
         if dice.random() < 0.2:
             dice.shuffle(entities)
         if self.slip():

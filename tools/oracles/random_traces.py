@@ -69,13 +69,12 @@ def case(dice):
         first = dice.randrange(20)
         how[1] = f"{first}..{first + dice.randrange(40)}"
     words, script, (lines_said, status), shown = cases(dice)
-    usual = plain_term.USUAL.get(words[1], ())
     if script.startswith(b"terminal ") and status in (0, 1) and dice.random() < 0.5:
         script, lines_said = measured(dice, script), []
-        status = plain_term.play_text(text_of(words[1]), script, lines_said.append, usual)
+        status = plain_term.play_text(text_of(words[1]), script, lines_said.append)
     told = b""
     if status in (0, 1):
-        seen, _ = plain_trace.seen_of(text_of(words[1]), script, "--every" in how, said.append, usual)
+        seen, _ = plain_trace.seen_of(text_of(words[1]), script, "--every" in how, said.append)
         told = lines(wanted_of(seen, how, words[1]))
     options = [*how, "/dev/stderr"]
     return (

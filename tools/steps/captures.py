@@ -16,7 +16,8 @@ import threading
 import time
 
 from tools.oracles import plain_capture, plain_term, plain_tied
-from tools.oracles.plain_tied import Filter, limits_over, set_of, turned
+from tools.oracles.plain_term import limits_over
+from tools.oracles.plain_tied import Filter, set_of, turned
 from tools.steps import examples
 from tools.steps.built import LIMIT, PLAY, ROOT, Count, Run, differs, missing
 
@@ -41,7 +42,7 @@ def ended(one):
     words."""
     _, _, (mode, milliseconds, first, second, damaged, sets, chosen), _ = one
     ends = [
-        Filter(mode, orders, ahead, set_of(word), limits_over(word, *chosen))
+        Filter(mode, orders, ahead, set_of(word), limits_over(set_of(word), mode, *chosen))
         for word, orders, ahead in zip(sets, (first, second), (8, 0))
     ]
     for now in range(milliseconds):
@@ -52,7 +53,7 @@ def ended(one):
             if here and damaged is not None and damaged // 8 == now:
                 ends[1].sent[damaged] ^= 16
     limits = [it for name, number in zip(("--n1", "--n2"), chosen) if number is not None for it in (name, str(number))]
-    over = [[*([] if word == "standard" else ["--text", word]), *limits] for word in sets]
+    over = [["--set", word, *limits] for word in sets]
     return mode, [bytes(it.sent) for it in ends], [first, second], over
 
 
@@ -205,10 +206,8 @@ def script_fault(word, script, every):
     """What is wrong with the capture of a script, if something is."""
     said = []
     try:
-        wanted, status = plain_capture.script_capture(
-            set_text(word), script, every, said.append, plain_term.USUAL.get(word, ())
-        )
-    except (plain_term.BadLine, ValueError, KeyError, UnicodeDecodeError):
+        wanted, status = plain_capture.script_capture(set_text(word), script, every, said.append)
+    except (plain_term.BadLine, plain_term.OutOfRange, ValueError, KeyError, UnicodeDecodeError):
         # (a refused script has no capture)
         return None
     with tempfile.TemporaryDirectory() as room:

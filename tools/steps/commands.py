@@ -30,7 +30,7 @@ TABLE = ROOT / "examples" / "commands.txt"
 COPIES = re.compile(rb"%(\d+)\{([^}]*)\}")
 OCTET = re.compile(rb"<([0-9A-F]{2})>")
 PRINTED = re.compile(r"<TEXT ([\w.]+)>")
-MARK = re.compile(r"<W[0-9]+>")
+MARK = re.compile(r"<A[0-9]+>")
 COPIED = re.compile(r"<FILE ([\w.]+)>")
 
 
@@ -136,7 +136,7 @@ def warned():
     """Each text of warnings.txt: its name, its octets, and each warning with its place."""
     for name, text, said in examples.parted("warnings.txt"):
         places, whole_text = [], ""
-        for piece in re.split(r"(<W[0-9]+>)", examples.copied(text).rstrip("\n")):
+        for piece in re.split(r"(<A[0-9]+>)", examples.copied(text).rstrip("\n")):
             if MARK.fullmatch(piece):
                 places.append((len(whole_text.encode()), piece[1:-1]))
             else:

@@ -91,7 +91,7 @@ class Line:
             "stderr": subprocess.PIPE,
             "env": {**os.environ, **variables},
         }
-        self.run = subprocess.Popen([PLAY, "line", *words], **how)
+        self.run = subprocess.Popen([PLAY, "line", "--set", "standard", *words], **how)
         os.set_blocking(self.run.stderr.fileno(), False)
         self.limit = threading.Timer(LONGEST, self.run.kill)
         self.limit.daemon = True
@@ -231,7 +231,7 @@ def full(room, _):
     with open("/dev/full", "wb") as nowhere:
         (room / "orders").write_bytes(b"power\n")
         done = subprocess.run(
-            [PLAY, "line", "basic", "--orders", str(room / "orders")],
+            [PLAY, "line", "basic", "--set", "standard", "--orders", str(room / "orders")],
             input=ONES,
             stdout=subprocess.DEVNULL,
             stderr=nowhere,
@@ -277,7 +277,8 @@ def as_another(room):
     (room / "orders").chmod(0o444)
     (room / "kept").chmod(0o666)
     room.chmod(0o755)
-    words = [PLAY, "line", "basic", "--orders", str(room / "orders"), "--reports", str(room / "kept")]
+    words = [PLAY, "line", "basic", "--set", "standard"]
+    words += ["--orders", str(room / "orders"), "--reports", str(room / "kept")]
     try:
         done = subprocess.run(
             words, input=ONES, capture_output=True, timeout=LONGEST, user=65534, group=65534, extra_groups=[]
@@ -425,14 +426,16 @@ def closed(room, _):
     """Runs that have a standard stream closed: no file takes its place."""
     (room / "orders").write_bytes(ORDERS)
     counter = str(ROOT / "examples" / "counter.sdl")
-    words = ["line", "basic", "--orders", str(room / "orders"), "--reports", str(room / "reports")]
+    bare = ["line", "basic", "--set", "standard"]
+    orders, reports = ["--orders", str(room / "orders")], ["--reports", str(room / "reports")]
+    words = [*bare, *orders, *reports]
     for name, shut, given, status in [
         ("line without an input", 0, words, 4),
         ("line without an output", 1, words, 4),
-        ("line without an output, and no files", 1, words[:2], 4),
-        ("line without an output, and reports", 1, [*words[:2], *words[4:]], 4),
-        ("line without an input, and reports", 0, [*words[:2], *words[4:]], 4),
-        ("line that tells nowhere", 2, [*words[:2], *words[2:4]], 4),
+        ("line without an output, and no files", 1, bare, 4),
+        ("line without an output, and reports", 1, [*bare, *reports], 4),
+        ("line without an input, and reports", 0, [*bare, *reports], 4),
+        ("line that tells nowhere", 2, [*bare, *orders], 4),
         ("line without standard error, and reports", 2, words, 0),
         ("check without an output", 1, ["check", counter], 4),
         ("check of an input that is closed", 0, ["check", "stdin"], 4),

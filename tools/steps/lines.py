@@ -30,6 +30,8 @@ def run(room, given, *words, orders=None, **how):
     if orders is not None:
         (room / "orders").write_bytes(orders)
         words = (*words, "--orders", str(room / "orders"))
+    if "--set" not in words:
+        words = (*words, "--set", "standard")
     try:
         done = subprocess.run([PLAY, "line", *words], input=given, capture_output=True, timeout=LIMIT, **how)
     except subprocess.TimeoutExpired:
@@ -95,7 +97,7 @@ def chosen(room):
             room,
             bytes(map(turned, come)),
             mode,
-            "--text",
+            "--set",
             str(text),
             "--reports",
             str(reports),
@@ -112,7 +114,10 @@ def chosen(room):
 
 def from_file(room, given, mode):
     done = subprocess.run(
-        [PLAY, "line", mode, "--orders", str(room / "orders")], stdin=given, capture_output=True, timeout=LIMIT
+        [PLAY, "line", mode, "--set", "standard", "--orders", str(room / "orders")],
+        stdin=given,
+        capture_output=True,
+        timeout=LIMIT,
     )
     return done.returncode, done.stdout, done.stderr
 
@@ -177,8 +182,12 @@ class End:
     goes on."""
 
     def __init__(self, *words, mode="basic"):
+        text = [] if "--set" in words else ["--set", "standard"]
         self.run = subprocess.Popen(
-            [PLAY, "line", mode, *words], stdin=subprocess.PIPE, stdout=subprocess.PIPE, stderr=subprocess.DEVNULL
+            [PLAY, "line", mode, *text, *words],
+            stdin=subprocess.PIPE,
+            stdout=subprocess.PIPE,
+            stderr=subprocess.DEVNULL,
         )
         self.until = time.monotonic() + LIMIT
         # (a run that goes nowhere ends so, and reading from it too)
@@ -324,7 +333,7 @@ def same(room):
         yield "orders and reports in one file: a number", held(got, (b"", f"mtp2_play: {path}".encode() + refused), 4)
     with open(path, "ab") as file:
         done = subprocess.run(
-            [PLAY, "line", "basic", "--orders", str(path)],
+            [PLAY, "line", "basic", "--set", "standard", "--orders", str(path)],
             input=b"\xff" * 9,
             stdout=subprocess.PIPE,
             stderr=file,
@@ -363,7 +372,7 @@ def by_files(entry):
         words = []
         for one, given in enumerate(orders):
             (room / f"orders{one}").write_bytes(given)
-            over = [*([] if sets[one] == "standard" else ["--text", sets[one]]), *limits]
+            over = ["--set", sets[one], *limits]
             words.append(
                 [
                     *(["--ahead", "8"] if one == 0 else []),
@@ -551,7 +560,7 @@ def failing(room):
         (("basic", "--ahead", "8001"), 3),
         (("other",), 3),
         (("basic", "--bits", "x"), 3),
-        (("basic", "--text", "stdin"), 3),
+        (("basic", "--set", "stdin"), 3),
         (("basic", "--n1", "5"), 3),
         (("basic", "--n2", "300"), 3),
         (("cyclic", "--n1", "0"), 3),

@@ -21,7 +21,7 @@ def made(folder, mode, octets, orders, *words):
     (folder / "orders").write_text(orders)
     (folder / "reports").write_bytes(b"")
     ended = Run(
-        ["line", mode, "--orders", str(folder / "orders"), "--reports", str(folder / "reports"), *words],
+        ["line", mode, "--set", "standard", "--orders", f"{folder}/orders", "--reports", f"{folder}/reports", *words],
         octets,
         limit=300,
     )

@@ -126,7 +126,8 @@ def on_lines(folder):
         if name.startswith("a loss"):
             path = pathlib.Path(folder) / f"{mode}.orders"
             path.write_text("".join(f"{it}\n" for it in orders))
-            yield Case(f"line, {mode}", ["line", mode, "--orders", str(path)], bytes(incoming(schedule)))
+            words = ["line", mode, "--set", "standard", "--orders", str(path)]
+            yield Case(f"line, {mode}", words, bytes(incoming(schedule)))
 
 
 def cases(folder):

@@ -21,6 +21,11 @@ from tools.steps import examples
 from tools.steps.built import LIMIT, PLAY, Count, Run, differs, missing
 
 
+def is_of_run(line):
+    """Whether a report, without its millisecond, tells of lines, of the run's beginning or of late rounds."""
+    return line.startswith(("begins ", "late ")) or " line " in line
+
+
 def told(words, orders):
     """The reports of a run, a line each without its millisecond, and its exit status."""
     with tempfile.TemporaryDirectory() as name:
@@ -34,6 +39,7 @@ def told(words, orders):
         run = Run(["set", mode, *lines, "--own", "1", "--peer", "2", *files, *others])
         reports = (room / "reports").read_text() if (room / "reports").exists() else ""
     said = [line.split(" ", 1)[-1] for line in reports.splitlines()]
+    said = [line for line in said if not line.startswith(("begins ", "late "))]
     return "\n".join([*said, f"exit {run.status}"]).encode()
 
 
@@ -47,10 +53,9 @@ def without_line():
         room = pathlib.Path(name)
         run = Run(on_line(room, f"{room}/none"))
         said = f"mtp2_play: {room}/none: No such file or directory (os error 2)\n".encode()
-        return differs(
-            b"0 0 line failed\nexit 4\n" + said,
-            (room / "reports").read_bytes() + f"exit {run.status}\n".encode() + run.said,
-        )
+        told = (room / "reports").read_bytes().splitlines(True)
+        reports = b"".join(it for it in told if b" begins " not in it and b" late " not in it)
+        return differs(b"0 0 line failed\nexit 4\n" + said, reports + f"exit {run.status}\n".encode() + run.said)
 
 
 def line_taken():
@@ -153,7 +158,7 @@ def orders_anew():
         told = [it.split(" ", 1)[1] for it in reports.read_text().splitlines()]
         return differs(
             b"orders truncated, ok unsure, unsure 0, ok quit, exit 0",
-            ", ".join([*(it for it in told if " line " not in it), f"exit {status}"]).encode(),
+            ", ".join([*(it for it in told if not is_of_run(it)), f"exit {status}"]).encode(),
         )
 
 

@@ -193,7 +193,7 @@ def line_disturbed(folder, loaded):
 
     def run(**variables):
         ended = Run(
-            ["line", "basic", "--orders", "line.orders", "--reports", "line.told"],
+            ["line", "basic", "--set", "standard", "--orders", "line.orders", "--reports", "line.told"],
             b"\x7e" * LINE,
             folder=folder,
             LD_PRELOAD=loaded,
@@ -349,7 +349,7 @@ def growing_ones():
         ("a terminal's script", ["play", "standard", GROWS], CYCLIC, standard_says(CYCLIC)),
         ("the script of a set of links", ["play", "standard", GROWS], LINKS, standard_says(LINKS)),
         ("the script of soak", ["soak", GROWS, "--workers", "2"], SOAK, soak_says(SOAK)),
-        ("the text of line", ["line", "basic", "--text", GROWS], STANDARD, ([], 0)),
+        ("the text of line", ["line", "basic", "--set", GROWS], STANDARD, ([], 0)),
     ]
 
 
@@ -492,7 +492,7 @@ def main(words):
         loaded = library(room, "streams")
         if is_device("/dev/full"):
             count.all([(f"{name}, written nowhere", folder, *rest) for name, *rest in streams()], full)
-        line = "line", ["line", "basic"], b"\xff" * 9
+        line = "line", ["line", "basic", "--set", "standard"], b"\xff" * 9
         count.all(
             [(f"{name}, written into a pipe that nobody reads", folder, *rest) for name, *rest in [*streams(), line]],
             unread,

@@ -94,10 +94,8 @@ def fault(word, script, how):
             return None
         said = []
         text = plain_term.text_of(word) if word in plain_term.SETS else pathlib.Path(word).read_text()
-        seen, status = plain_trace.seen_of(
-            text.encode(), script, how == "every event", said.append, plain_term.USUAL.get(word, ())
-        )
-    except (plain_term.BadLine, ValueError, KeyError, UnicodeDecodeError, Refusal):
+        seen, status = plain_trace.seen_of(text.encode(), script, how == "every event", said.append)
+    except (plain_term.BadLine, plain_term.OutOfRange, ValueError, KeyError, UnicodeDecodeError, Refusal):
         # (a script that is refused has no trace)
         return None
     with tempfile.TemporaryDirectory() as room:
@@ -186,7 +184,7 @@ def long_fault(kind):
 def on_line(room, octets, orders, *words):
     """Runs the program's `line` with these orders."""
     (room / "orders").write_text("".join(f"{it}\n" for it in orders))
-    return Run(["line", *words, "--orders", "orders"], octets, folder=room)
+    return Run(["line", *words, "--set", "standard", "--orders", "orders"], octets, folder=room)
 
 
 def line_fault(mode, octets, orders, every):

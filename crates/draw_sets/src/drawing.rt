@@ -1,24 +1,23 @@
 //! The command `draw`.
 ghost use Rattle.std.specs.Prelude.{◌≡◌, ◌⊎◌};
 
-use crate::pictures::{Picture, draw_resolved};
-use draw_text::Block;
+use crate::pictures::{Picture, draw_tables};
+use draw_text::{Block, BlockTable};
 use plain_text::{FAILED, MOST_BYTES, TextRead, line_at_limit, read_text};
 use script_check::{SetFault, SetWord, write_refusal};
 use sdl_lex::{LexFault, tokens};
-use sdl_rules::resolve;
 use sdl_tree::parse;
 use std::alloc::Global;
 use std::io::{Read, Write};
 use std::str;
 use turn_verify::{LoadFault, load};
 
-/// Draws a picture of a sound block. Returns the exit status.
+/// Draws a picture of a block as it is written. Returns the exit status.
 fn draw_tree<W: Write>(alloc: Global, block: &Block, picture: &Picture<'_>, writer: &mut W) -> u8
     ensures { (result ≡ 0) ⊎ (result ≡ 2) ⊎ (result ≡ 4) }
 {
-    match resolve(alloc, block) {
-        Ok(resolved) => draw_resolved(alloc, &resolved, picture, writer),
+    match BlockTable::new(alloc, block) {
+        Ok(table) => draw_tables(alloc, &table, picture, writer),
         Err(_) => FAILED,
     }
 }

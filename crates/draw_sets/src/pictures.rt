@@ -1,4 +1,4 @@
-//! Pictures of a sound block.
+//! Pictures of a block, as it is written.
 ghost use Rattle.std.specs.Prelude.{◌≡◌, ◌⊎◌};
 ghost use Rattle.std.specs.Io.KnownBytes.{Appends};
 ghost use Rattle.draw_text.specs.Views.{block_of};
@@ -6,10 +6,9 @@ ghost use Rattle.draw_text.specs.BlockDiagram.{block_text};
 
 use crate::state_diagram::draw_states;
 use crate::svg::draw_flow;
-use draw_text::{Names, ProcessTable, draw_block};
+use draw_text::{BlockTable, Names, ProcessTable, draw_block};
 use plain_text::{DONE, FAILED, refuse};
 use sdl_lex::Name;
-use sdl_rules::Resolved;
 use std::alloc::Global;
 use std::io::Write;
 
@@ -36,10 +35,10 @@ fn write_picture<W: Write>(writer: &mut W, picture: &[u8]) -> u8
 }
 
 /// The process with a name.
-fn process_named<'a, 'b>(resolved: &'a Resolved<'b>, word: &str) -> Option<&'a ProcessTable<'b>> {
+fn process_named<'a, 'b>(table: &'a BlockTable<'b>, word: &str) -> Option<&'a ProcessTable<'b>> {
     let name = Name::new(word.as_bytes())?;
-    let number = resolved.processes().number(name)?;
-    resolved.tables().get(number)
+    let number = table.processes().number(name)?;
+    table.tables().get(number)
 }
 
 /// Draws a process as SDL-GR does. Returns the exit status.
@@ -64,11 +63,11 @@ fn states_of<W: Write>(alloc: Global, names: &Names<'_, '_>, writer: &mut W) -> 
 }
 
 /// Draws a block. Returns the exit status.
-fn block_picture<W: Write>(alloc: Global, resolved: &Resolved<'_>, writer: &mut W) -> u8
-    ensures printed { result ≡ 0 → Appends (W.contents writer.old) (W.contents writer.new) (block_text (block_of resolved.now)) }
+fn block_picture<W: Write>(alloc: Global, table: &BlockTable<'_>, writer: &mut W) -> u8
+    ensures printed { result ≡ 0 → Appends (W.contents writer.old) (W.contents writer.new) (block_text (block_of table.now)) }
     ensures status { (result ≡ 0) ⊎ (result ≡ 4) }
 {
-    match draw_block(alloc, resolved.table()) {
+    match draw_block(alloc, table) {
         Ok(picture) => write_picture(writer, &picture),
         Err(_) => FAILED,
     }
@@ -82,13 +81,13 @@ fn no_process<W: Write>(alloc: Global, writer: &mut W) -> u8
 }
 
 /// Draws the process with a name as SDL-GR does, or writes that there is none. Returns the exit status.
-fn flow_picture<W: Write>(alloc: Global, resolved: &Resolved<'_>, word: &str, writer: &mut W) -> u8
+fn flow_picture<W: Write>(alloc: Global, table: &BlockTable<'_>, word: &str, writer: &mut W) -> u8
     ensures { (result ≡ 0) ⊎ (result ≡ 2) ⊎ (result ≡ 4) }
 {
-    match process_named(resolved, word) {
+    match process_named(table, word) {
         Some(process) => {
             let names = Names {
-                block: resolved.table(),
+                block: table,
                 process,
             };
             flow_of(alloc, &names, writer)
@@ -98,18 +97,13 @@ fn flow_picture<W: Write>(alloc: Global, resolved: &Resolved<'_>, word: &str, wr
 }
 
 /// Draws the states of the process with a name, or writes that there is none. Returns the exit status.
-fn states_picture<W: Write>(
-    alloc: Global,
-    resolved: &Resolved<'_>,
-    word: &str,
-    writer: &mut W,
-) -> u8
+fn states_picture<W: Write>(alloc: Global, table: &BlockTable<'_>, word: &str, writer: &mut W) -> u8
     ensures { (result ≡ 0) ⊎ (result ≡ 2) ⊎ (result ≡ 4) }
 {
-    match process_named(resolved, word) {
+    match process_named(table, word) {
         Some(process) => {
             let names = Names {
-                block: resolved.table(),
+                block: table,
                 process,
             };
             states_of(alloc, &names, writer)
@@ -118,18 +112,18 @@ fn states_picture<W: Write>(
     }
 }
 
-/// Draws a picture of a sound block. Returns the exit status.
-pub(crate) fn draw_resolved<W: Write>(
+/// Draws a picture of a block as it is written. Returns the exit status.
+pub(crate) fn draw_tables<W: Write>(
     alloc: Global,
-    resolved: &Resolved<'_>,
+    table: &BlockTable<'_>,
     picture: &Picture<'_>,
     writer: &mut W,
 ) -> u8
     ensures { (result ≡ 0) ⊎ (result ≡ 2) ⊎ (result ≡ 4) }
 {
     match picture {
-        Picture::Block => block_picture(alloc, resolved, writer),
-        Picture::Flow(word) => flow_picture(alloc, resolved, word, writer),
-        Picture::States(word) => states_picture(alloc, resolved, word, writer),
+        Picture::Block => block_picture(alloc, table, writer),
+        Picture::Flow(word) => flow_picture(alloc, table, word, writer),
+        Picture::States(word) => states_picture(alloc, table, word, writer),
     }
 }

@@ -1,7 +1,7 @@
 //! The statements of a text, by the transition or connection that contains them.
-use draw_text::{Kind, Names, Part, process_parts, push_bytes};
+use draw_text::{BlockTable, Kind, Names, Part, process_parts, push_bytes};
 use sdl_lex::{line_of, tokens};
-use sdl_rules::{Resolved, resolve};
+use sdl_rules::expand;
 use sdl_tree::parse;
 use std::alloc::{AllocError, Global};
 
@@ -261,16 +261,16 @@ fn push_sections(
     Ok(())
 }
 
-/// The sections of a sound block.
+/// The sections of a block.
 fn block_sections(
     alloc: Global,
     source: &str,
-    resolved: &Resolved<'_>,
+    table: &BlockTable<'_>,
 ) -> Result<Vec<Section>, AllocError> {
     let mut sections = Vec::new(alloc);
-    for process in resolved.tables() {
+    for process in table.tables() {
         let names = Names {
-            block: resolved.table(),
+            block: table,
             process,
         };
         let parts = process_parts(alloc, &names)?;
@@ -280,7 +280,8 @@ fn block_sections(
     Ok(sections)
 }
 
-/// Returns the transitions and connections of an accepted text, with their statements; none if it is refused.
+/// Returns the transitions and connections of an accepted text, with their statements, in which values replace the
+/// synonyms; none if the text is refused.
 pub(crate) fn sections_of(alloc: Global, source: &str) -> Result<Vec<Section>, AllocError> {
     let Ok(tokens) = tokens(alloc, source) else {
         return Ok(Vec::new(alloc));
@@ -288,8 +289,9 @@ pub(crate) fn sections_of(alloc: Global, source: &str) -> Result<Vec<Section>, A
     let Ok(block) = parse(alloc, &tokens) else {
         return Ok(Vec::new(alloc));
     };
-    match resolve(alloc, &block) {
-        Ok(resolved) => block_sections(alloc, source, &resolved),
+    let expansion = expand(alloc, &block)?;
+    match BlockTable::new(alloc, &expansion.block) {
+        Ok(table) => block_sections(alloc, source, &table),
         Err(_) => Ok(Vec::new(alloc)),
     }
 }

@@ -1,5 +1,5 @@
 -- Statements and the stimuli of an INPUT, as they are written in pictures.
-use Rattle.std.specs.Prelude.{ℕ, Bool, List, [], ◌∷◌, ◌++◌, Option, None, Some, codes}
+use Rattle.std.specs.Prelude.{ℕ, Bool, true, false, List, [], ◌∷◌, ◌++◌, Option, None, Some, codes}
 use Rattle.std.specs.List.{flat_map}
 use Rattle.std.specs.Fmt.{signed_decimal}
 use Rattle.sdl_tables.specs.Names.{signal_names, process_names, variable_names, timers_of}
@@ -40,8 +40,17 @@ abbrev pub literal_text : Literal → List ℕ
 literal_text (literals.Integer n) = signed_decimal n
 literal_text (literals.Boolean b) = truth_text b
 
+abbrev pub minus_text : Bool → List ℕ
+minus_text true = codes "-"
+minus_text false = []
+
+-- a synonym as it is written
+abbrev pub use_text : Literal → Bool → Option Identifier → List ℕ
+use_text v negated None = literal_text v
+use_text v negated (Some id) = minus_text negated ++ id.name
+
 abbrev pub constant_text : Constant → List ℕ
-constant_text c = literal_text c.value
+constant_text c = use_text c.value c.is_negated c.synonym
 
 abbrev pub range_text : Range → List ℕ
 range_text (Value c) = constant_text c

@@ -1,8 +1,10 @@
 -- Names, constants and expressions as they are written in pictures.
-use Rattle.std.specs.Prelude.{ℕ, ◌+◌, Bool, true, false, List, [], ◌∷◌, ◌++◌, Option, None, Some}
-use Rattle.std.specs.Prelude.{codes, nat_lt, slice_get, ◌==◌, if◌then◌else◌}
+use Rattle.std.specs.Prelude.{ℕ, ◌+◌, ℤ, pos, Bool, true, false, ◌&&◌, List, [], ◌∷◌, ◌++◌}
+use Rattle.std.specs.Prelude.{Option, None, Some, codes, nat_lt, int_lt, slice_get, ◌==◌}
+use Rattle.std.specs.Prelude.{if◌then◌else◌}
 use Rattle.std.specs.List.{flat_map}
-use Rattle.std.specs.Fmt.{decimal}
+use Rattle.std.specs.Fmt.{signed_decimal}
+use Rattle.std.specs.Int.{cast_signed, w32}
 use Rattle.sdl_tables.specs.Names.{number_of}
 use Rattle.sdl_ast.specs.Plain.{Tree, number, truth, variable, unary, binary}
 use Rattle.sdl_ast.specs.declared.expression.Identifier.{Identifier}
@@ -45,9 +47,13 @@ abbrev pub truth_text : Bool → List ℕ
 truth_text true = codes "TRUE"
 truth_text false = codes "FALSE"
 
--- how tightly the operand of a sign binds
+-- how tightly a sign binds
 abbrev pub SIGNED : ℕ
 SIGNED = 5
+
+-- and how tightly its operand has to
+abbrev pub OPERAND : ℕ
+OPERAND = 6
 
 abbrev pub sign_text : UnaryOperator → List ℕ
 sign_text Negate = codes "-"
@@ -100,13 +106,22 @@ abbrev pub closing : Bool → List ℕ
 closing true = codes ")"
 closing false = []
 
--- an expression, in parentheses if its operator binds less tightly than `level`
+-- a number below 0 is an operand with a sign
+abbrev pub is_loose_number : ℕ → ℤ → Bool
+is_loose_number level x = nat_lt SIGNED level && int_lt x (pos 0)
+
+abbrev pub signed_text : ℕ → ℤ → List ℕ
+signed_text level x =
+    opening (is_loose_number level x) ++ signed_decimal x ++ closing (is_loose_number level x)
+
+-- an expression, in parentheses if its operator binds less tightly than `level`. A number of 32
+-- bits stands for its value: one that replaces a synonym may be below 0
 abbrev pub tree_text : List Identifier → ℕ → Tree → List ℕ
-tree_text names level (number at n) = decimal n
+tree_text names level (number at n) = signed_text level (cast_signed w32 n)
 tree_text names level (truth at b) = truth_text b
 tree_text names level (variable at x) = spelled names x.name
 tree_text names level (unary at o x) =
-    opening (nat_lt SIGNED level) ++ sign_text o ++ tree_text names SIGNED x
+    opening (nat_lt SIGNED level) ++ sign_text o ++ tree_text names OPERAND x
     ++ closing (nat_lt SIGNED level)
 tree_text names level (binary at o x y) =
     opening (nat_lt (level_of o) level) ++ tree_text names (left_level (level_of o)) x

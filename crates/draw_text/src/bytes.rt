@@ -1,6 +1,6 @@
 //! Functions that append bytes to a text.
 ghost use Rattle.std.specs.Prelude.{◌≡◌, ◌++◌, OnOk};
-ghost use Rattle.std.specs.Fmt.{decimal};
+ghost use Rattle.std.specs.Fmt.{decimal, signed_decimal};
 ghost use Rattle.draw_text.specs.Escapes.{entity, escaped};
 
 use std::alloc::{AllocError, Global};
@@ -15,6 +15,14 @@ pub fn push_bytes(text: &mut Vec<u8>, bytes: &[u8]) -> Result<(), AllocError>
 /// Appends a number in decimal digits to `text`.
 pub fn push_number(alloc: Global, text: &mut Vec<u8>, number: u32) -> Result<(), AllocError>
     ensures { OnOk result (text.new.items ≡ text.old.items ++ decimal number) }
+{
+    let digits = format!(in alloc; "{number}")?;
+    push_bytes(text, digits.as_bytes())
+}
+
+/// Appends a number in decimal digits, with its sign, to `text`.
+pub(crate) fn push_integer(alloc: Global, text: &mut Vec<u8>, number: i32) -> Result<(), AllocError>
+    ensures { OnOk result (text.new.items ≡ text.old.items ++ signed_decimal number) }
 {
     let digits = format!(in alloc; "{number}")?;
     push_bytes(text, digits.as_bytes())

@@ -1,10 +1,9 @@
 //! Constants, the values that select an answer, and sorts.
 ghost use Rattle.std.specs.Prelude.{◌≡◌, ◌++◌, OnOk, codes};
 ghost use Rattle.std.specs.List.{flat_map};
-ghost use Rattle.std.specs.Fmt.{signed_decimal};
-ghost use Rattle.draw_text.specs.Statements.{constant_text, literal_text, range_text, ranges_text, relation_text, sort_text};
+ghost use Rattle.draw_text.specs.Statements.{constant_text, literal_text, minus_text, range_text, ranges_text, relation_text, sort_text};
 
-use crate::bytes::push_bytes;
+use crate::bytes::{push_bytes, push_integer};
 use crate::expressions::truth_word;
 use sdl_ast::{Constant, Literal, Range, Relation, Sort};
 use std::alloc::{AllocError, Global};
@@ -33,21 +32,34 @@ fn relation_word(relation: Relation) -> &'static [u8]
     }
 }
 
-/// Appends a number in decimal digits, with its sign, to `text`.
-fn push_integer(alloc: Global, text: &mut Vec<u8>, number: i32) -> Result<(), AllocError>
-    ensures { OnOk result (text.new.items ≡ text.old.items ++ signed_decimal number) }
+/// Appends a literal to `text`.
+fn push_literal(alloc: Global, text: &mut Vec<u8>, literal: Literal) -> Result<(), AllocError>
+    ensures { OnOk result (text.new.items ≡ text.old.items ++ literal_text literal) }
 {
-    let digits = format!(in alloc; "{number}")?;
-    push_bytes(text, digits.as_bytes())
+    match literal {
+        Literal::Integer(number) => push_integer(alloc, text, number),
+        Literal::Boolean(value) => push_bytes(text, truth_word(value)),
+    }
 }
 
-/// Appends a constant to `text`.
+/// A minus, or nothing.
+fn minus(is_negated: bool) -> &'static [u8]
+    ensures { result.now ≡ minus_text is_negated }
+{
+    if is_negated { b"-" } else { b"" }
+}
+
+/// Appends a constant to `text`; a synonym as it is written.
 fn push_constant(alloc: Global, text: &mut Vec<u8>, constant: Constant) -> Result<(), AllocError>
     ensures { OnOk result (text.new.items ≡ text.old.items ++ constant_text constant) }
 {
-    match constant.value {
-        Literal::Integer(number) => push_integer(alloc, text, number),
-        Literal::Boolean(value) => push_bytes(text, truth_word(value)),
+    let is_negated = constant.is_negated;
+    match constant.synonym {
+        None => push_literal(alloc, text, constant.value),
+        Some(synonym) => {
+            push_bytes(text, minus(is_negated))?;
+            push_bytes(text, synonym.name.as_bytes())
+        }
     }
 }
 

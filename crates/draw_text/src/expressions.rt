@@ -1,16 +1,19 @@
 //! Expressions.
-ghost use Rattle.std.specs.Prelude.{◌≡◌, ◌++◌, ◌≤◌, ◌+◌, OnOk, nat_lt};
+ghost use Rattle.std.specs.Prelude.{◌≡◌, ◌++◌, ◌≤◌, ◌+◌, OnOk};
 ghost use Rattle.sdl_ast.specs.Views.{tree_of};
-ghost use Rattle.draw_text.specs.Written.{spelled, tree_text, truth_text, sign_text, level_of, left_level, operator_text, opening, closing};
+ghost use Rattle.draw_text.specs.Written.{is_loose_number, signed_text, spelled, tree_text, truth_text, sign_text, level_of, left_level, operator_text, opening, closing};
 
-use crate::bytes::{push_bytes, push_number};
+use crate::bytes::{push_bytes, push_integer};
 use crate::names::push_name;
 use sdl_ast::{BinaryOperator, Expression, UnaryOperator};
 use sdl_tables::NameTable;
 use std::alloc::{AllocError, Global};
 
-/// How tightly the operand of a sign binds.
+/// How tightly a sign binds.
 const SIGNED: u32 = 5;
+
+/// How tightly its operand has to bind.
+const OPERAND: u32 = 6;
 
 /// TRUE or FALSE.
 pub(crate) fn truth_word(value: bool) -> &'static [u8]
@@ -95,8 +98,25 @@ fn closing(is_wanted: bool) -> &'static [u8]
     if is_wanted { b")" } else { b"" }
 }
 
+/// Whether a number needs parentheses where an operand has to bind so tightly: one below 0 has a sign.
+fn is_loose_number(level: u32, number: i32) -> bool
+    ensures { result ≡ is_loose_number level number }
+{
+    SIGNED < level && number < 0
+}
+
+/// Appends a number to `text`, in parentheses if it is below 0 and its sign binds less tightly than `level`.
+fn push_signed(alloc: Global, text: &mut Vec<u8>, number: i32, level: u32) -> Result<(), AllocError>
+    ensures { OnOk result (text.new.items ≡ text.old.items ++ signed_text level number) }
+{
+    let is_loose = is_loose_number(level, number);
+    push_bytes(text, opening(is_loose))?;
+    push_integer(alloc, text, number)?;
+    push_bytes(text, closing(is_loose))
+}
+
 /// Appends an expression to `text`, in parentheses if its operator binds less tightly than `level` (0 is the loosest).
-/// Variables are spelled as they are declared.
+/// Variables are spelled as they are declared. A number that replaces a synonym may stand for one below 0.
 pub fn push_expression(
     alloc: Global,
     text: &mut Vec<u8>,
@@ -107,7 +127,7 @@ pub fn push_expression(
     ensures { OnOk result (text.new.items ≡ text.old.items ++ tree_text variables.now level (tree_of tree.now)) }
 {
     match tree {
-        Expression::Number { value, .. } => push_number(alloc, text, *value),
+        Expression::Number { value, .. } => push_signed(alloc, text, value.cast_signed(), level),
         Expression::Truth { value, .. } => push_bytes(text, truth_word(*value)),
         Expression::Variable { name, .. } => push_name(text, variables, name.name),
         Expression::Unary {
@@ -118,7 +138,7 @@ pub fn push_expression(
             let is_loose = SIGNED < level;
             push_bytes(text, opening(is_loose))?;
             push_bytes(text, sign_word(*operator))?;
-            push_expression(alloc, text, variables, operand, SIGNED)?;
+            push_expression(alloc, text, variables, operand, OPERAND)?;
             push_bytes(text, closing(is_loose))
         }
         Expression::Binary {

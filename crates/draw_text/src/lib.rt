@@ -23,7 +23,7 @@ pub use names::{Names, push_name, push_names, spelled};
 pub use parts::{Kind, Part, is_symbol, push_mark, push_symbol};
 pub use pieces::{process_parts, push_connection, push_start, push_state};
 pub use sdl_ast::{Block, Connection, Identifier, StatePart};
-pub use sdl_tables::{NameTable, ProcessTable};
+pub use sdl_tables::{BlockTable, NameTable, ProcessTable};
 pub use statements::{
     push_assignment, push_delay, push_receiver, push_sending, push_stimuli, push_timer,
     push_triggers,

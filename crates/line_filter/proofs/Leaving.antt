@@ -2,9 +2,9 @@
 use Rattle.std.proofs.Common.{◌≡◌, ℕ, ◌<◌, ◌≤◌, false, List, [], ◌∷◌, ◌++◌, length, Option, None, Some, refl, sym, ap, ◌∙◌, option_map, rules}
 use Rattle.std.specs.Prelude.{IsSome, IfSome, string_bytes}
 use Rattle.std.specs.Io.KnownBytes.{Consumes, IsAtEnd}
-use Rattle.line_filter.specs.Orders.{Timed, NextIs, NoneIsDue}
+use Rattle.line_filter.specs.Orders.{Timed, NextIs, NoneIsDue, Stays}
 use Rattle.line_filter.specs.Streams.{waiting_by, behind_of, left_in, IsHeld}
-use Rattle.line_filter.specs.Reading.{Stays, IsRead}
+use Rattle.line_filter.specs.Reading.{IsRead}
 use Rattle.line_filter.specs.declared.lines.OrderLines.{OrderLines}
 use Rattle.line_filter.proofs.Looking.{nothing_left}
 

@@ -7,25 +7,25 @@ use Rattle.std.proofs.lemmas.List.{map-append}
 use Rattle.line_filter.specs.Acts.{Act}
 use Rattle.line_filter.specs.Runs.{State, Steps, Runs, begins, octet}
 use Rattle.line_filter.specs.Desks.{Told}
-use Rattle.line_filter.specs.Reporting.{Stand, TellsLines}
+use Rattle.line_filter.specs.Reporting.{Stand, ToldLine, TellsLines}
 use Rattle.line_filter.proofs.Reporting.{tells_none, tells_trans}
 use Rattle.line_filter.specs.Filters.{turned, SILENCE, Goes, Serves, Streams, Served, IsOver}
 use Rattle.line_filter.specs.declared.filter.Bits.{Bits}
 
-runs_as : {T : Type 0} (acts : T → Act → T → Type 0) (count : ℕ) (s t : State T) (goes_on : Bool) (xs ys os ps bs cs : List ℕ) → xs ≡ ys → os ≡ ps → bs ≡ cs
+runs_as : {T : Type 0} (acts : T → Act → T → Type 0) (count : ℕ) (s t : State T) (goes_on : Bool) (xs ys os ps : List ℕ) (bs cs : List ToldLine) → xs ≡ ys → os ≡ ps → bs ≡ cs
     → Runs acts count s xs os bs goes_on t → Runs acts count s ys ps cs goes_on t
 runs_as acts count s t goes_on xs ys os ps bs cs h k l runs =
     let P : List ℕ → Type 0 = λ zs. Runs acts count s zs os bs goes_on t in
     let Q : List ℕ → Type 0 = λ zs. Runs acts count s ys zs bs goes_on t in
-    let R : List ℕ → Type 0 = λ zs. Runs acts count s ys ps zs goes_on t in
+    let R : List ToldLine → Type 0 = λ zs. Runs acts count s ys ps zs goes_on t in
     subst R l (subst Q k (subst P h runs))
 
-steps_as : {T : Type 0} (acts : T → Act → T → Type 0) (m n : ℕ) (s t : State T) (comes gives : ℕ) (bytes : List ℕ) (goes_on : Bool) → m ≡ n
+steps_as : {T : Type 0} (acts : T → Act → T → Type 0) (m n : ℕ) (s t : State T) (comes gives : ℕ) (bytes : List ToldLine) (goes_on : Bool) → m ≡ n
     → Steps acts m s comes gives bytes goes_on t → Steps acts n s comes gives bytes goes_on t
 steps_as acts m n s t comes gives bytes goes_on is steps = let P : ℕ → Type 0 = λ k. Steps acts k s comes gives bytes goes_on t in subst P is steps
 
 -- Two runs in succession are one run: it doesn't depend on where the input is cut.
-pub runs_joined : {T : Type 0} (acts : T → Act → T → Type 0) (count : ℕ) (s m : State T) (xs os bs : List ℕ) (t : State T) (goes_on : Bool) (ys ps cs : List ℕ)
+pub runs_joined : {T : Type 0} (acts : T → Act → T → Type 0) (count : ℕ) (s m : State T) (xs os : List ℕ) (bs : List ToldLine) (t : State T) (goes_on : Bool) (ys ps : List ℕ) (cs : List ToldLine)
     → Runs acts count s xs os bs true m → Runs acts (count + length xs) m ys ps cs goes_on t → Runs acts count s (xs ++ ys) (os ++ ps) (bs ++ cs) goes_on t
 runs_joined acts count s m xs os bs _ _ _ _ _ first begins =
     runs_as acts count s m true xs (xs ++ []) os (os ++ []) bs (bs ++ []) (sym (append-nil xs)) (sym (append-nil os)) (sym (append-nil bs)) first

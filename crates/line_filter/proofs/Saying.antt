@@ -7,6 +7,7 @@ use Rattle.bit_line.specs.Stuffers.{Gave}
 use Rattle.bit_line.specs.declared.stuffer.Stuffer.{Stuffer}
 use Rattle.line_filter.specs.Acts.{Act}
 use Rattle.line_filter.specs.Speaking.{Voice, IsSilent, Gives, fixed, fresh, silent}
+use Rattle.line_filter.specs.Reporting.{ToldLine}
 use Rattle.line_filter.specs.Runs.{State, Behind, between, eighth, Runs, begins, octet}
 use Rattle.line_filter.specs.Laws.{nothing, unit, silence, answer_of, answers_along, Speaks}
 
@@ -62,7 +63,7 @@ gives_speaks acts t v o u w out answers s (silent ready act none fills) = record
   gave = fills.anew;
 }
 
-behind_voice : {T : Type 0} (acts : T → Act → T → Type 0) (count : ℕ) (s t : State T) (bytes : List ℕ) (goes_on : Bool) → Behind acts count s bytes goes_on t → t.voice ≡ s.voice
+behind_voice : {T : Type 0} (acts : T → Act → T → Type 0) (count : ℕ) (s t : State T) (bytes : List ToldLine) (goes_on : Bool) → Behind acts count s bytes goes_on t → t.voice ≡ s.voice
 behind_voice acts count s _ _ _ (between not) = refl
 behind_voice acts count s _ _ _ (eighth is minds) = minds.obeys.voice ∙ minds.voice
 
@@ -72,7 +73,7 @@ speaks_as answers xs ys v w h k s =
     let Q : Voice → Type 0 = λ x. Speaks answers ys x in
     subst Q (sym k) (subst P h s)
 
-runs_speak : {T : Type 0} (acts : T → Act → T → Type 0) (count : ℕ) (s : State T) (t : State T) (goes_on : Bool) (come out bytes : List ℕ) → Speaks [] [] s.voice
+runs_speak : {T : Type 0} (acts : T → Act → T → Type 0) (count : ℕ) (s : State T) (t : State T) (goes_on : Bool) (come out : List ℕ) (bytes : List ToldLine) → Speaks [] [] s.voice
     → (r : Runs acts count s come out bytes goes_on t) → Speaks (answers_along r) out t.voice
 runs_speak acts count s _ _ _ _ _ first begins = first
 runs_speak acts count s _ _ _ _ _ first (octet {come} {out} {bytes} {t} comes gives more goes last rest steps) =
@@ -84,7 +85,7 @@ no_bits : bits_of [] ≡ []
 unfolding bits_of
 no_bits = refl
 
-pub all_said : {T : Type 0} (acts : T → Act → T → Type 0) (count : ℕ) (s t : State T) (goes_on : Bool) (come out bytes : List ℕ) → IsSilent s.voice
+pub all_said : {T : Type 0} (acts : T → Act → T → Type 0) (count : ℕ) (s t : State T) (goes_on : Bool) (come out : List ℕ) (bytes : List ToldLine) → IsSilent s.voice
     → (r : Runs acts count s come out bytes goes_on t) → Speaks (answers_along r) out t.voice
 all_said acts count s t goes_on come out bytes none runs =
     runs_speak acts count s t goes_on come out bytes

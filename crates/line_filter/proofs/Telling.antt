@@ -11,7 +11,7 @@ use Rattle.line_filter.specs.Orders.{Timed, NextIs, NoneIsDue, BeginsAnew, Looks
 use Rattle.line_filter.specs.Runs.{OCTETS, State, Exchanges, ObeysDue, no_order, one_order, looks, ObeysAll, Minds, Behind, between, eighth, Steps}
 use Rattle.line_filter.specs.declared.terminal.Answer.{Answer}
 use Rattle.line_filter.specs.Desks.{Told}
-use Rattle.line_filter.specs.Reporting.{Stand, TellsLines}
+use Rattle.line_filter.specs.Reporting.{Stand, ToldLine, TellsLines}
 use Rattle.line_filter.proofs.Reporting.{tells_none, tells_trans}
 
 pub moved : {A : Type 0} (x y : A) → x ≡ y → (P : A → Type 0) → P x → P y
@@ -21,15 +21,21 @@ pub not_both : (b : Bool) → b ≡ false → IsTrue b → ⊥
 not_both b denied shown = absurd (let e : false ≡ true = sym denied ∙ shown in cc)
 
 -- One more line.
-pub lines_more : {X : Type 0} (f : X → List ℕ) (items : List X) (i : ℕ) (x : X) (text : List ℕ) (a b c : Stand)
+pub lines_more : {X : Type 0} (f : X → List ToldLine) (items : List X) (i : ℕ) (x : X) (text : List ToldLine) (a b c : Stand)
     → i < length items → x ≡ get_or items i x → text ≡ f x → TellsLines a b (flat_map f (take i items)) → TellsLines b c text
     → TellsLines a c (flat_map f (take (i + 1) items))
 lines_more f items i x text a b c within is printed before line =
     subst (TellsLines a c)
-    (ap (λ (l : List ℕ). flat_map f (take i items) ++ l) printed
+    (ap (λ (l : List ToldLine). flat_map f (take i items) ++ l) printed
     ∙ (flat_map_more f [] (take i items) x
     ∙ ap (flat_map f) (ap (λ y. take i items ++ y ∷ []) is ∙ sym (take_more items i x within))))
     (tells_trans a b c _ _ before line)
+
+-- One or more lines after others.
+pub told_then : {A E : Type 0} (r : Result A E) (a b c : Stand) (bs cs all : List ToldLine) → all ≡ bs ++ cs → TellsLines a b bs → OnOk r (TellsLines b c cs)
+    → OnOk r (TellsLines a c all)
+told_then r a b c bs cs all is first second =
+    on_ok_weaker r (λ (more : TellsLines b c cs). subst (TellsLines a c) (sym is) (tells_trans a b c bs cs first more)) second
 
 pub told_none : {T : Type 0} (acts : T → Act → T → Type 0) (now : ℕ) (t : T) (old : Stand) → Told (λ bytes. Tells acts now t bytes t) old old
 told_none acts now t old = record { bytes = []; are = nothing; tells = tells_none old }

@@ -4,7 +4,7 @@ use Rattle.std.specs.Prelude.{Option}
 use Rattle.std.specs.Io.KnownBytes.{Appends, Consumes, IsAtEnd}
 use Rattle.std.specs.Int.{w8, reverse_bits}
 use Rattle.line_filter.specs.Acts.{Act}
-use Rattle.line_filter.specs.Reporting.{Stand, TellsLines}
+use Rattle.line_filter.specs.Reporting.{Stand, ToldLine, TellsLines}
 use Rattle.line_filter.specs.Runs.{State, Runs}
 use Rattle.line_filter.specs.declared.filter.Bits.{Bits}
 use Rattle.line_filter.specs.declared.filter.Bits.TheVariants.{Low, High}
@@ -25,8 +25,8 @@ MOST_AHEAD = 8000
 -- Of the received octets, `come` were exchanged. The others are dropped if an order ended the run.
 pub record Goes {T : Type 0} (acts : T → Act → T
     → Type 0) (count :
-    ℕ) (s : State T) (octets out bytes :
-    List ℕ) (goes_on : Bool) (next : ℕ) (t : State T) : Type 0 where
+    ℕ) (s : State T) (octets out :
+    List ℕ) (bytes : List ToldLine) (goes_on : Bool) (next : ℕ) (t : State T) : Type 0 where
   pub come : List ℕ
   pub dropped : List ℕ
   pub runs : Runs acts count s come out bytes goes_on t
@@ -37,8 +37,8 @@ pub record Goes {T : Type 0} (acts : T → Act → T
 -- The exchanged octets as bytes read and written.
 pub record Serves {T : Type 0} (acts : T → Act → T
     → Type 0) (bits :
-    Bits) (count : ℕ) (s : State T) (read written bytes : List ℕ) (goes_on : Bool) (next : ℕ)
-    (t : State T) : Type 0 where
+    Bits) (count : ℕ) (s : State T) (read written : List ℕ)
+    (bytes : List ToldLine) (goes_on : Bool) (next : ℕ) (t : State T) : Type 0 where
   pub out : List ℕ
   pub goes : Goes acts count s (map (turned bits) read) out bytes goes_on next t
   pub written_is : written ≡ map (turned bits) out
@@ -57,7 +57,7 @@ pub record Served {T : Type 0} (acts : T → Act → T
     : Type 0 where
   pub read : List ℕ
   pub written : List ℕ
-  pub bytes : List ℕ
+  pub bytes : List ToldLine
   pub serves : Serves acts bits count s read written bytes goes_on next t
   pub consumes : Consumes old.read new.read read
   pub appends : Appends old.written new.written (replicate ahead SILENCE ++ written)
@@ -88,7 +88,7 @@ pub record ServesPart {T : Type 0} (acts : T → Act → T
   pub not_come : List ℕ
   pub all : map (turned bits) read ≡ come ++ not_come
   pub out : List ℕ
-  pub bytes : List ℕ
+  pub bytes : List ToldLine
   pub goes_on : Bool
   pub last : State T
   pub runs : Runs acts count s come out bytes goes_on last

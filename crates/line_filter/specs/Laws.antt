@@ -5,6 +5,7 @@ use Rattle.su_octets.specs.Bits.{bits_of}
 use Rattle.bit_line.specs.Sending.{line_of}
 use Rattle.bit_line.specs.Stuffers.{Gave}
 use Rattle.line_filter.specs.Acts.{Act}
+use Rattle.line_filter.specs.Reporting.{ToldLine}
 use Rattle.line_filter.specs.Runs.{State, Runs, begins, octet}
 use Rattle.line_filter.specs.Speaking.{Voice, Gives, fixed, fresh, silent}
 
@@ -32,7 +33,8 @@ answer_of (silent ready act none fills) = None ∷ []
 -- The terminal's answers along a run, the newest first.
 abbrev pub answers_along :
     {T : Type 0} {acts : T → Act → T
-    → Type 0} {count : ℕ} {s t : State T} {come out bytes : List ℕ} {goes_on : Bool}
+    → Type 0} {count : ℕ} {s t : State T} {come out : List ℕ} {bytes : List ToldLine}
+    {goes_on : Bool}
     → Runs acts count s come out bytes goes_on t → List (Option (List ℕ))
 answers_along begins = []
 answers_along (octet comes gives more goes last rest steps) =

@@ -4,10 +4,10 @@ ghost use Rattle.std.specs.List.{flat_map};
 ghost use Rattle.line_filter.specs.Orders.{QUIT, LooksAnew, anew_told, TellsAll, Obeys, told, listed, answered};
 ghost use Rattle.line_filter.specs.Runs.{OCTETS, Exchanges, ObeysAll, Minds, Behind, Steps};
 ghost use Rattle.line_filter.specs.Desks.{state_of, Told};
-ghost use Rattle.line_filter.specs.Reporting.{TellsLine, TellsLines};
+ghost use Rattle.line_filter.specs.Reporting.{TellsLine, TellsLines, kept};
 
 use crate::orders::Orders;
-use crate::reports::Reports;
+use crate::reports::{Reports, Wait};
 use crate::terminal::{Answer, LineTerminal};
 use crate::voice::Voice;
 use std::alloc::Global;
@@ -33,14 +33,37 @@ pub struct Desk<T, O, P> {
 }
 
 /// Reports a line.
-fn tell_line<P: Reports, L: Display>(alloc: Global, reports: &mut P, line: &L) -> io::Result<()>
-    ensures { OnOk result (IfSome (L.output line.now) (λ text. TellsLine (P.stand reports.old) (P.stand reports.new) (text ++ 10 ∷ []))) }
+fn tell_line<P: Reports, L: Display>(
+    alloc: Global,
+    wait: Wait,
+    reports: &mut P,
+    line: &L,
+) -> io::Result<()>
+    ensures { OnOk result (IfSome (L.output line.now) (λ text. TellsLine (P.stand reports.old) (P.stand reports.new) (record { wait = wait; octets = text ++ 10 ∷ [] }))) }
 {
     let text = format!(in alloc; "{line}\n")?;
-    reports.tell(text.as_bytes())
+    reports.tell(wait, text.as_bytes())
 }
 
-/// Reports a line that begins with the millisecond.
+/// Reports a line that begins with the millisecond. Whether it waits while its reader is away depends on its kind.
+///
+/// # Errors
+///
+/// If memory runs out or the report can't be written.
+#[tactic(auto, using(crate::proofs::Reporting::tells_one))]
+pub fn tell_kept<P: Reports>(
+    alloc: Global,
+    wait: Wait,
+    now: u64,
+    text: &str,
+    reports: &mut P,
+) -> io::Result<()>
+    ensures { OnOk result (TellsLines (P.stand reports.old) (P.stand reports.new) (kept wait now text.now)) }
+{
+    tell_line(alloc, wait, reports, &format_args!("{now} {text}"))
+}
+
+/// Reports a line that begins with the millisecond. It doesn't wait while its reader is away.
 ///
 /// # Errors
 ///
@@ -49,7 +72,7 @@ fn tell_line<P: Reports, L: Display>(alloc: Global, reports: &mut P, line: &L) -
 pub fn tell<P: Reports>(alloc: Global, now: u64, text: &str, reports: &mut P) -> io::Result<()>
     ensures { OnOk result (TellsLines (P.stand reports.old) (P.stand reports.new) (told now text.now)) }
 {
-    tell_line(alloc, reports, &format_args!("{now} {text}"))
+    tell_line(alloc, Wait::Never, reports, &format_args!("{now} {text}"))
 }
 
 /// Reports that orders begin anew, if they do.
@@ -110,7 +133,12 @@ fn tell_lines<P: Reports>(
     ensures { OnOk result (TellsLines (P.stand reports.old) (P.stand reports.new) (flat_map (listed now order.now) lines.now)) }
 {
     for line in lines {
-        tell_line(alloc, reports, &format_args!("{now} {order} {line}"))?;
+        tell_line(
+            alloc,
+            Wait::Never,
+            reports,
+            &format_args!("{now} {order} {line}"),
+        )?;
     }
     Ok(())
 }
@@ -120,7 +148,12 @@ fn tell_lines<P: Reports>(
 fn tell_done<P: Reports>(alloc: Global, now: u64, order: &str, reports: &mut P) -> io::Result<()>
     ensures { OnOk result (TellsLines (P.stand reports.old) (P.stand reports.new) (told now (codes "ok " ++ order.now))) }
 {
-    tell_line(alloc, reports, &format_args!("{now} ok {order}"))
+    tell_line(
+        alloc,
+        Wait::Never,
+        reports,
+        &format_args!("{now} ok {order}"),
+    )
 }
 
 /// Reports why an order was refused.
@@ -128,7 +161,12 @@ fn tell_done<P: Reports>(alloc: Global, now: u64, order: &str, reports: &mut P) 
 fn tell_refused<P: Reports>(alloc: Global, now: u64, why: &str, reports: &mut P) -> io::Result<()>
     ensures { OnOk result (TellsLines (P.stand reports.old) (P.stand reports.new) (told now (codes "refused " ++ why.now))) }
 {
-    tell_line(alloc, reports, &format_args!("{now} refused {why}"))
+    tell_line(
+        alloc,
+        Wait::Never,
+        reports,
+        &format_args!("{now} refused {why}"),
+    )
 }
 
 /// Reports the answer to an order.

@@ -4,6 +4,7 @@
 #![tactic(auto)]
 
 mod desk;
+mod ends;
 mod filter;
 mod laws;
 mod lines;
@@ -16,14 +17,16 @@ mod times;
 mod voice;
 mod writing;
 
-pub use desk::{Desk, look_anew, tell};
+pub use desk::{Desk, look_anew, tell, tell_kept};
+pub use ends::ends_run;
 pub use filter::{Bits, MOST_AHEAD, run_line};
-pub use laws::what_goes_out_was_said;
+pub use laws::{what_goes_out_was_said, what_waits_is_never_lost};
 pub use lines::{MOST_OCTETS, OrderLines};
 pub use orders::{NoOrders, Orders};
-pub use reports::Reports;
-pub use says::{LineSays, line_says};
+pub use reports::{Reports, Wait};
+pub use says::{LineSays, is_tag, joined, line_says};
 pub use stream::LineOrders;
 pub use su_octets::Unit;
 pub use terminal::{Answer, LineTerminal};
+pub use times::millisecond;
 pub use voice::Voice;

@@ -1,6 +1,7 @@
 //! The source of orders.
-ghost use Rattle.std.specs.Prelude.{◌≡◌, List, Option, None, Some, IfOk, IfSome, IsNone, [], string_bytes};
-ghost use Rattle.line_filter.specs.Orders.{Timed, NextIs, NoneIsDue, BeginsAnew};
+ghost use Rattle.std.specs.Prelude.{◌≡◌, true, List, Option, None, Some, IfOk, IfSome, IsNone, [], string_bytes};
+ghost use Rattle.line_filter.specs.Orders.{Timed, NextIs, NoneIsDue, Stays, ComesAhead, BeginsAnew};
+ghost use Rattle.line_filter.specs.Says.{is_end_order};
 
 use std::alloc::Global;
 use std::io;
@@ -15,6 +16,17 @@ pub trait Orders {
     fn next(&mut self, alloc: Global, now: u64) -> io::Result<Option<String>>
         ensures order { IfOk result (λ r. IfSome r (λ text. NextIs now (left self.old) (string_bytes text) (left self.new))) }
         ensures none { IfOk result (λ r. IsNone r → NoneIsDue now (left self.old) (left self.new)) };
+
+    /// An order that ends the run (`quit` or `leave`), ahead of earlier orders that aren't read for now, if one came
+    /// and is due. It isn't returned again in its turn. None if unread orders can't be looked at.
+    ///
+    /// # Errors
+    ///
+    /// As [`Orders::next`].
+    fn next_end(&mut self, alloc: Global, now: u64) -> io::Result<Option<String>>
+        ensures order { IfOk result (λ r. IfSome r (λ _. ComesAhead (left self.old) (left self.new))) }
+        ensures ends { IfOk result (λ r. IfSome r (λ text. is_end_order (string_bytes text) ≡ true)) }
+        ensures none { IfOk result (λ r. IsNone r → Stays (left self.old) (left self.new)) };
 
     /// Whether the orders begin anew, because their file was truncated. Then whatever was read of it but not obeyed is
     /// dropped, and the file is read from its beginning.
@@ -34,6 +46,10 @@ impl Orders for NoOrders {
     ghost left = { λ _. Some [] };
 
     fn next(&mut self, _alloc: Global, _now: u64) -> io::Result<Option<String>> {
+        Ok(None)
+    }
+
+    fn next_end(&mut self, _alloc: Global, _now: u64) -> io::Result<Option<String>> {
         Ok(None)
     }
 

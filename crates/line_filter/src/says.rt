@@ -3,7 +3,7 @@ ghost use Rattle.std.specs.Prelude.{◌≡◌, IfOk, codes, string_bytes};
 ghost use Rattle.std.specs.Str.{bytes_eq};
 ghost use Rattle.script_lines.specs.Lines.{texts, is_silent};
 ghost use Rattle.script_lines.specs.Words.{words_of};
-ghost use Rattle.line_filter.specs.Says.{order, plain_says, joined, is_report, by_other, by_report, by_at, by_first, says_of};
+ghost use Rattle.line_filter.specs.Says.{order, order_at, plain_says, joined, is_report, is_tag, by_other, by_plain_report, by_tagged, by_report, by_at, by_first, says_of};
 
 use crate::times::millisecond;
 use script_lines::words_in;
@@ -18,12 +18,16 @@ pub enum LineSays {
     At(u64),
     /// An order: its words, separated by single spaces.
     Order(String),
-    /// `MS ok ORDER`, a report: an order, and the millisecond at which it was obeyed.
+    /// `MS ok ORDER` or `MS =TAG ok ORDER`, a report: an order, and the millisecond at which it was obeyed.
     OrderAt(u64, String),
 }
 
 /// The words, separated by single spaces.
-fn joined(alloc: Global, first: &str, words: &[&str]) -> Result<String, AllocError>
+///
+/// # Errors
+///
+/// If memory runs out.
+pub fn joined(alloc: Global, first: &str, words: &[&str]) -> Result<String, AllocError>
     ensures { IfOk result (λ text. string_bytes text ≡ joined first.now (texts words.now)) }
 {
     let mut text = String::new(alloc);
@@ -52,6 +56,18 @@ fn order_says(alloc: Global, first: &str, words: &[&str]) -> Result<LineSays, Al
     Ok(LineSays::Order(joined(alloc, first, words)?))
 }
 
+/// The order with these words, obeyed at this millisecond.
+fn order_at_says(
+    alloc: Global,
+    millisecond: u64,
+    first: &str,
+    words: &[&str],
+) -> Result<LineSays, AllocError>
+    ensures { IfOk result (λ s. plain_says s ≡ order_at millisecond (joined first.now (texts words.now))) }
+{
+    Ok(LineSays::OrderAt(millisecond, joined(alloc, first, words)?))
+}
+
 /// Whether this word after a millisecond marks a report that isn't about an obeyed order.
 fn is_report(word: &str) -> bool
     ensures { result ≡ is_report word.now }
@@ -70,6 +86,17 @@ fn is_report(word: &str) -> bool
         || word == "refused"
         || word == "lost"
         || word == "orders"
+        || word == "table"
+        || word == "reader"
+        || word == "begins"
+        || word == "late"
+}
+
+/// Whether a word is a tag: `=` and 1 to 32 octets.
+pub fn is_tag(word: &str) -> bool
+    ensures { result ≡ is_tag word.now }
+{
+    word.as_bytes().first() == Some(&b'=') && 2 <= word.len() && word.len() <= 33
 }
 
 /// The meaning of a line that begins with a millisecond, unless it reports an obeyed order.
@@ -79,6 +106,43 @@ fn other_says(alloc: Global, first: &str, words: &[&str]) -> Result<LineSays, Al
     match words.first() {
         Some(word) if is_report(word) => Ok(LineSays::Nothing),
         _ => order_says(alloc, first, words),
+    }
+}
+
+/// The meaning of a line that begins with a millisecond without a tag after it.
+fn plain_report_says(
+    alloc: Global,
+    first: &str,
+    millisecond: u64,
+    words: &[&str],
+) -> Result<LineSays, AllocError>
+    ensures { IfOk result (λ s. plain_says s ≡ by_plain_report millisecond first.now (texts words.now)) }
+{
+    match words {
+        [word, next, more @ ..] => {
+            if *word == "ok" {
+                order_at_says(alloc, millisecond, next, more)
+            } else {
+                other_says(alloc, first, words)
+            }
+        }
+        _ => other_says(alloc, first, words),
+    }
+}
+
+/// The meaning of a line that begins with a millisecond and a tag: the order, if the line reports an obeyed one.
+fn tagged_says(alloc: Global, millisecond: u64, words: &[&str]) -> Result<LineSays, AllocError>
+    ensures { IfOk result (λ s. plain_says s ≡ by_tagged millisecond (texts words.now)) }
+{
+    match words {
+        [word, next, more @ ..] => {
+            if *word == "ok" {
+                order_at_says(alloc, millisecond, next, more)
+            } else {
+                Ok(LineSays::Nothing)
+            }
+        }
+        _ => Ok(LineSays::Nothing),
     }
 }
 
@@ -92,14 +156,14 @@ fn report_says(
     ensures { IfOk result (λ s. plain_says s ≡ by_report millisecond first.now (texts words.now)) }
 {
     match words {
-        [word, next, more @ ..] => {
-            if *word == "ok" {
-                Ok(LineSays::OrderAt(millisecond, joined(alloc, next, more)?))
+        [word, more @ ..] => {
+            if is_tag(word) {
+                tagged_says(alloc, millisecond, more)
             } else {
-                other_says(alloc, first, words)
+                plain_report_says(alloc, first, millisecond, words)
             }
         }
-        _ => other_says(alloc, first, words),
+        [] => plain_report_says(alloc, first, millisecond, words),
     }
 }
 

@@ -1,7 +1,8 @@
 //! Orders, read as they arrive.
 ghost use Rattle.std.specs.Prelude.{◌≡◌, ◌≤◌, None, IfOk, length, option_map};
 ghost use Rattle.line_filter.specs.Streams.{orders_of};
-ghost use Rattle.line_filter.specs.Reading.{left_of, Stays, IsRead};
+ghost use Rattle.line_filter.specs.Orders.{Stays};
+ghost use Rattle.line_filter.specs.Reading.{left_of, IsRead};
 
 use crate::lines::OrderLines;
 use crate::orders::Orders;
@@ -76,6 +77,10 @@ impl<R: Read> Orders for LineOrders<R> {
             }
         }
         Err(io::Error::from(ErrorKind::Other))
+    }
+
+    fn next_end(&mut self, _alloc: Global, _now: u64) -> io::Result<Option<String>> {
+        Ok(None)
     }
 
     fn begins_anew(&mut self, _alloc: Global) -> io::Result<bool> {

@@ -1,5 +1,5 @@
 -- A link set on lines when a run begins.
-use Rattle.std.proofs.Common.{◌≡◌, ◌∙◌, ℕ, ◌+◌, Bool, true, true≢false, List, [], ◌∷◌, ◌++◌, length, Option, Result, Ok, Err, OnOk, is_ok, refl, sym, subst, arith, length-append}
+use Rattle.std.proofs.Common.{ap, ◌≡◌, ◌∙◌, ℕ, ◌+◌, Bool, true, true≢false, List, [], ◌∷◌, ◌++◌, length, Option, Result, Ok, Err, OnOk, is_ok, refl, sym, subst, arith, length-append}
 use Rattle.std.proofs.lemmas.List.Elements.{All-nil, All-cons, All-append}
 use Rattle.line_tending.specs.LinkLines.{IsNewWire}
 use Rattle.line_tending.specs.declared.link_line.LinkLine.{LinkLine}
@@ -44,13 +44,13 @@ pub rounds_none : (ahead : ℕ) (p : SetPlace) (a : Stand) (f : Option (List Tra
 rounds_none ahead p a f = record { bytes = []; traffic = []; are = begins; tells = tells_none a; gives = grows_none f }
 
 -- one more round, with the value that `ahead` had then
-pub rounds_more : (ahead now : ℕ) (p q r : SetPlace) (goes_on : Bool) (a b c : Stand) (f g h : Option (List Traffic)) → now ≡ ahead
-    → Made (λ bytes traffic. Rounds ahead p bytes traffic true q) a b f g → Made (λ bytes traffic. IsRound now q bytes traffic goes_on r) b c g h
+pub rounds_more : {late : ℕ} (ahead now : ℕ) (p q r : SetPlace) (goes_on : Bool) (a b c : Stand) (f g h : Option (List Traffic)) → now ≡ ahead
+    → Made (λ bytes traffic. Rounds ahead p bytes traffic true q) a b f g → Made (λ bytes traffic. IsRound now late q bytes traffic goes_on r) b c g h
     → Made (λ bytes traffic. Rounds ahead p bytes traffic goes_on r) a c f h
-rounds_more ahead now p q r goes_on a b c f g h same before more = record {
+rounds_more {late} ahead now p q r goes_on a b c f g h same before more = record {
   bytes = before.bytes ++ more.bytes;
   traffic = before.traffic ++ more.traffic;
-  are = round more.bytes more.traffic goes_on before.are (subst (λ (n : ℕ). IsRound n q more.bytes more.traffic goes_on r) same more.are);
+  are = round more.bytes more.traffic goes_on before.are (subst (λ (n : ℕ). IsRound n late q more.bytes more.traffic goes_on r) same more.are);
   tells = tells_trans a b c before.bytes more.bytes before.tells more.tells;
   gives = grows_then f g h before.traffic more.traffic before.gives more.gives;
 }
@@ -67,15 +67,15 @@ rounds_on ahead p q goes_on a b f g h is made none_given = record {
 }
 
 -- one more round, with the value that `ahead` had then, and the run has ended
-pub has_run : (ahead now : ℕ) (p q r : SetPlace) (goes_on : Bool) (a b c : Stand) (f g h : Option (List Traffic)) → now ≡ ahead
-    → Made (λ bytes traffic. Rounds ahead p bytes traffic true q) a b f g → Made (λ bytes traffic. IsRound now q bytes traffic goes_on r) b c g h
+pub has_run : {late : ℕ} (ahead now : ℕ) (p q r : SetPlace) (goes_on : Bool) (a b c : Stand) (f g h : Option (List Traffic)) → now ≡ ahead
+    → Made (λ bytes traffic. Rounds ahead p bytes traffic true q) a b f g → Made (λ bytes traffic. IsRound now late q bytes traffic goes_on r) b c g h
     → Made (λ bytes traffic. Ran ahead p bytes traffic r) a c f h
-has_run ahead now p q r goes_on a b c f g h same before more = record {
+has_run {late} ahead now p q r goes_on a b c f g h same before more = record {
   bytes = before.bytes ++ more.bytes;
   traffic = before.traffic ++ more.traffic;
   are = record {
     goes_on = goes_on;
-    rounds = round more.bytes more.traffic goes_on before.are (subst (λ (n : ℕ). IsRound n q more.bytes more.traffic goes_on r) same more.are);
+    rounds = round more.bytes more.traffic goes_on before.are (subst (λ (n : ℕ). IsRound n late q more.bytes more.traffic goes_on r) same more.are);
     some = refl;
   };
   tells = tells_trans a b c before.bytes more.bytes before.tells more.tells;
@@ -93,27 +93,29 @@ has_run_on ahead p q a b f g h made none_given = record {
   gives = grows_last f g h made.traffic made.gives none_given;
 }
 
-from_ok : {A E : Type 0} (r : Result A E) (P : Type 0) → is_ok r ≡ true → OnOk r P → P
-from_ok (Ok v) P is h = h
-from_ok (Err e) P is h = absurd (true≢false (sym is))
-
 -- a new link set on lines ran
-pub ran_from : {A E O P : Type 0} (r : Result A E) (left : O → Option (List Timed)) (tender : Tended) (ahead : ℕ) (orders : O) (reports : P) (old : SetDesk O P) (last : SetPlace)
-    (a b : Stand) (f g : Option (List Traffic)) → IsNewSetDesk tender ahead orders reports old
-    → OnOk r (Made (λ bytes traffic. Ran old.ahead (place_of left old) bytes traffic last) a b f g) → is_ok r ≡ true → RanFrom ahead tender
-ran_from r left tender ahead orders reports old last a b f g new made is =
-    let so = from_ok r (Made (λ bytes traffic. Ran old.ahead (place_of left old) bytes traffic last) a b f g) is made in
+pub ran_from : {A E O P : Type 0} (r : Result A E) (left : O → Option (List Timed)) (stand : P → Stand) (tender : Tended) (ahead : ℕ) (orders : O) (reports : P) (old new : SetDesk O P)
+    (f g : Option (List Traffic)) → IsNewSetDesk tender ahead orders reports old
+    → OnOk r (Made (λ bytes traffic. Ran old.ahead (place_of left stand old) bytes traffic (place_of left stand new)) (stand old.reports) (stand new.reports) f g)
+    → OnOk r (RanFrom ahead tender (left orders) (left new.orders) (stand reports) (stand new.reports) f g)
+ran_from (Err e) left stand tender ahead orders reports old new f g is made = tt
+ran_from (Ok v) left stand tender ahead orders reports old new f g is made =
+    let last : SetPlace = place_of left stand new in
+    let before : stand old.reports ≡ stand reports = ap stand is.reports_are in
+    let at : Made (λ bytes traffic. Ran ahead (place_of left stand old) bytes traffic last) (stand old.reports) (stand new.reports) f g =
+    subst (λ (n : ℕ). Made (λ bytes traffic. Ran n (place_of left stand old) bytes traffic last) (stand old.reports) (stand new.reports) f g) is.ahead_is made in
     record {
-      first = place_of left old;
-      set = new.set;
-      wires = new.wires;
-      focus = new.focus;
-      since = new.since;
-      none_wait = new.none_wait;
-      before = a;
-      after = b;
-      given_before = f;
-      given = g;
+      first = place_of left stand old;
+      left_is = ap left is.orders_are;
+      reports_are = before;
+      set = is.set;
+      wires = is.wires;
+      focus = is.focus;
+      since = is.since;
+      stays = is.stays;
+      none_wait = is.none_wait;
       last = last;
-      made = subst (λ (n : ℕ). Made (λ bytes traffic. Ran n (place_of left old) bytes traffic last) a b f g) new.ahead_is so;
+      left_later = refl;
+      reports_later = refl;
+      made = subst (λ (s : Stand). Made (λ bytes traffic. Ran ahead (place_of left stand old) bytes traffic last) s (stand new.reports) f g) before at;
     }

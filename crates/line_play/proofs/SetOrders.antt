@@ -10,15 +10,18 @@ use Rattle.line_play.specs.SetOrders.{plain_set_order, links, alone_of, asked_of
 use Rattle.line_play.specs.declared.set.orders.SetOrder.{SetOrder}
 
 -- a word that is none of the order words
-pub other_word : (word : List ℕ) → word ≢ codes "measure" → word ≢ codes "table" → word ≢ codes "held" → word ≢ codes "unsure" → word ≢ codes "rebalance"
+pub other_word : (word : List ℕ) → word ≢ codes "measure" → word ≢ codes "table" → word ≢ codes "held" → word ≢ codes "unsure" → word ≢ codes "rebalance" → word ≢ codes "reopen" → word ≢ codes "quit" → word ≢ codes "leave"
     → option_map links (order_of word) ≡ alone_of word
-other_word word n_measure n_table n_held n_unsure n_rebalance =
+other_word word n_measure n_table n_held n_unsure n_rebalance n_reopen n_quit n_leave =
     rw (
       bytes_ne word (codes "measure") n_measure,
       bytes_ne word (codes "table") n_table,
       bytes_ne word (codes "held") n_held,
       bytes_ne word (codes "unsure") n_unsure,
       bytes_ne word (codes "rebalance") n_rebalance,
+      bytes_ne word (codes "reopen") n_reopen,
+      bytes_ne word (codes "quit") n_quit,
+      bytes_ne word (codes "leave") n_leave,
     ) refl
 
 pub many_words : (ws : List (Bor (List ℕ))) → 3 ≤ length ws → asked_of (texts ws) ≡ other_order_of (texts ws)

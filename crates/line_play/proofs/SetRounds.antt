@@ -1,13 +1,16 @@
 -- A round of a link set on lines, part by part.
-use Rattle.std.proofs.Common.{◌≡◌, ◌∙◌, ◌⊎◌, ℕ, ◌+◌, ◌≤◌, ◌<◌, ◌==◌, nat_le, if◌then◌else◌, true≢false, Bool, true, false, List, [], ◌∷◌, ◌++◌, append-nil, append_assoc, length, replicate, take, drop, get_or, slice_get, slice_set, codes, Option, None, Some, Result, Ok, Err, OnOk, IfOk, refl, sym, ap, subst, arith}
+use Rattle.std.proofs.Common.{◌≡◌, ◌∙◌, ◌⊎◌, inl, inr, ℕ, ◌+◌, ◌≤◌, ◌<◌, ◌==◌, nat_le, if◌then◌else◌, true≢false, Bool, true, false, List, [], ◌∷◌, ◌++◌, append-nil, append_assoc, length, replicate, take, drop, get_or, slice_get, slice_set, codes, Option, None, Some, Result, Ok, Err, OnOk, IfOk, IfSome, IsNone, refl, sym, ap, subst, arith}
 use Rattle.std.proofs.lemmas.Bool.Decides.{nat_tests}
-use Rattle.std.proofs.lemmas.Option.{none-some, same_Some, slice_get-get_or}
+use Rattle.std.proofs.lemmas.Option.{slice_get-get_or}
 use Rattle.std.proofs.lemmas.Result.{on_ok_weaker}
 use Rattle.std.proofs.lemmas.List.{replicate_more, take_all, take-append-le}
 use Rattle.line_filter.specs.Desks.{Told as TellsSuch}
-use Rattle.line_filter.specs.Orders.{Timed, NextIs, NoneIsDue, LooksAnew, QUIT, told}
-use Rattle.line_filter.specs.Reporting.{Stand, TellsLines}
-use Rattle.line_filter.proofs.Reporting.{tells_none, tells_trans}
+use Rattle.line_filter.specs.Says.{is_end_order}
+use Rattle.line_filter.specs.Orders.{Timed, NextIs, NoneIsDue, Stays, ComesAhead, LooksAnew}
+use Rattle.line_filter.specs.Reporting.{Stand, ToldLine, TellsLines, MovesOn, waiting_count}
+use Rattle.line_filter.specs.declared.reports.Wait.TheVariants.{Message, Answer}
+use Rattle.line_filter.proofs.Reporting.{tells_none, tells_trans, tells_moved}
+use Rattle.line_tending.specs.Readers.{Minds}
 use Rattle.line_tending.specs.Rounds.{Tends, Ticks}
 use Rattle.line_tending.specs.Tended.{Tended}
 use Rattle.line_tending.specs.LinkLines.{Hears, Passes, SILENT}
@@ -17,11 +20,11 @@ use Rattle.line_tending.specs.declared.link_line.LinkLine.{LinkLine}
 use Rattle.line_play.specs.LineTraffic.{Traffic, octets_go, line_says, Grows, coming, given, front_of, arrived, silence_for}
 use Rattle.line_play.specs.declared.set.lines.LineNews.{LineNews}
 use Rattle.line_play.specs.declared.set.lines.LineNews.TheVariants as line
-use Rattle.line_play.specs.SetDoing.{Stood}
-use Rattle.line_play.specs.SetObeying.{Obeys}
-use Rattle.line_play.specs.SetOrders.{PlainSetOrder, said_in, says_so, is_send}
-use Rattle.line_play.proofs.SetObeying.{obeyed_as}
-use Rattle.line_play.specs.SetRounds.{Waited, goes_first, Made, line_told, passed_told, PassesOn, Carries, passes, misses, ends, fails, opens, CarriesAt, CarriesAll, no_link, one_link, TellsAll, ObeysWaiting, rests, obeys, TakesOrder, at_once, behind, report, Attends, waited, comes, looks, AttendsAll, none_due, full, quits, MOST_WAITING, SetPlace, IsRound, Rests}
+use Rattle.line_play.specs.SetDoing.{Stood, marked}
+use Rattle.line_play.specs.SetGiven.{given_in}
+use Rattle.line_play.specs.SetLeaving.{Departs, goes_on_by}
+use Rattle.line_play.specs.SetQueues.{Waited, MOST_WAITING, Retries, TakesOrder}
+use Rattle.line_play.specs.SetRounds.{Made, line_told, passed_told, PassesOn, Carries, passes, misses, ends, fails, opens, CarriesAt, CarriesAll, no_link, one_link, TellsAll, Attends, waited, comes, looks, AttendsAll, none_due, full, answers_wait, over, MANY_ANSWERS, MayCome, SetPlace, IsRound, late_told}
 
 -- ---- octets given to lines
 
@@ -234,142 +237,161 @@ carried_lines r ahead t u ws vs xs ys a b f g before after made =
     subst (λ (zs : List LinkLine). OnOk r (Made (λ bytes traffic. CarriesAll ahead t ws (length ws) bytes traffic u zs) a b f g)) (sym after)
     (subst (λ (zs : List LinkLine). OnOk r (Made (λ bytes traffic. CarriesAll ahead t zs (length zs) bytes traffic u xs) a b f g)) before made)
 
+-- a round that isn't late
+pub none_late : (a : Stand) (now late : ℕ) → late ≡ 0 → TellsLines a a (late_told now late)
+none_late a now late is = subst (λ (n : ℕ). TellsLines a a (late_told now n)) (sym is) (tells_none a)
+
 -- ---- orders
 
-pub waits_none : (t : Stood) (waiting : List Waited) (a : Stand) → TellsSuch (λ bytes. ObeysWaiting t waiting bytes t waiting) a a
-waits_none t waiting a = record { bytes = []; are = rests; tells = tells_none a }
-
-pub waits_more : (t u w : Stood) (waiting now left : List Waited) (first : Waited) (a b c : Stand)
-    → TellsSuch (λ bytes. ObeysWaiting t waiting bytes u now) a b → now ≡ first ∷ left → TellsSuch (λ bytes. Obeys first.text first.said first.focus u bytes w) b c
-    → TellsSuch (λ bytes. ObeysWaiting t waiting bytes w left) a c
-waits_more t u w waiting now left first a b c before there more = record {
-  bytes = before.bytes ++ more.bytes;
-  are = obeys first more.bytes left before.are there more.are;
-  tells = tells_trans a b c before.bytes more.bytes before.tells more.tells;
-}
-
--- the number of waiting orders is unchanged
-pub waits_same : (t u : Stood) (waiting now left : List Waited) (a b : Stand) → TellsSuch (λ bytes. ObeysWaiting t waiting bytes u now) a b
-    → left ≡ now → TellsSuch (λ bytes. ObeysWaiting t waiting bytes u left) a b
-waits_same t u waiting now left a b before same = subst (λ (l : List Waited). TellsSuch (λ bytes. ObeysWaiting t waiting bytes u l) a b) (sym same) before
-
--- an order is carried out as it was read
-pub taken_at_once : {A E : Type 0} (r : Result A E) (order text : List ℕ) (said : Option PlainSetOrder) (t u : Stood) (waiting : List Waited) (a b : Stand) → text ≡ order
-    → said ≡ said_in order → (waiting ≡ []) ⊎ (goes_first waiting said ≡ true) → OnOk r (TellsSuch (λ bytes. Obeys text said t.focus t bytes u) a b)
-    → OnOk r (TellsSuch (λ bytes. TakesOrder order t waiting bytes u waiting) a b)
-taken_at_once r order text said t u waiting a b text_is said_is may made =
-    let now_may : (waiting ≡ []) ⊎ (goes_first waiting (said_in order) ≡ true) = subst (λ (o : Option PlainSetOrder). (waiting ≡ []) ⊎ (goes_first waiting o ≡ true)) said_is may in
-    on_ok_weaker r
-    (λ (m : TellsSuch (λ bytes. Obeys order (said_in order) t.focus t bytes u) a b). record { bytes = m.bytes; are = at_once now_may m.are; tells = m.tells })
-    (obeyed_as r order text said (said_in order) t.focus t u a b text_is said_is made)
-
-behind_so : (order text : List ℕ) (said : Option PlainSetOrder) (t : Stood) (waiting : List Waited) (a : Stand) → text ≡ order → said ≡ said_in order
-    → (waiting ≡ [] → says_so is_send said ≡ true) → goes_first waiting said ≡ false
-    → TellsSuch (λ bytes. TakesOrder order t waiting bytes t (waiting ++ record { focus = t.focus; text = text; said = said } ∷ [])) a a
-behind_so order text said t waiting a text_is said_is waits last =
-    subst (λ (o : List ℕ). TellsSuch (λ bytes. TakesOrder order t waiting bytes t (waiting ++ record { focus = t.focus; text = o; said = said } ∷ [])) a a) (sym text_is)
-    (subst (λ (o : Option PlainSetOrder). TellsSuch (λ bytes. TakesOrder order t waiting bytes t (waiting ++ record { focus = t.focus; text = order; said = o } ∷ [])) a a) (sym said_is)
-    (record {
-      bytes = [];
-      are = behind (λ none_there. sym (ap (says_so is_send) said_is) ∙ waits none_there) (sym (ap (goes_first waiting) said_is) ∙ last);
-      tells = tells_none a;
-    }))
-
-pub taken_behind : (order text : List ℕ) (said : Option PlainSetOrder) (t : Stood) (waiting later : List Waited) (a : Stand) → text ≡ order → said ≡ said_in order
-    → (waiting ≡ [] → says_so is_send said ≡ true) → goes_first waiting said ≡ false
-    → later ≡ waiting ++ record { focus = t.focus; text = text; said = said } ∷ [] → TellsSuch (λ bytes. TakesOrder order t waiting bytes t later) a a
-taken_behind order text said t waiting later a text_is said_is waits last is =
-    subst (λ (l : List Waited). TellsSuch (λ bytes. TakesOrder order t waiting bytes t l) a a) (sym is) (behind_so order text said t waiting a text_is said_is waits last)
-
-pub taken_report : (order : List ℕ) (said : Option PlainSetOrder) (t : Stood) (waiting : List Waited) (a : Stand) → said ≡ said_in order → said ≡ None
-    → TellsSuch (λ bytes. TakesOrder order t waiting bytes t waiting) a a
-taken_report order said t waiting a said_is none_there = record { bytes = []; are = report (sym said_is ∙ none_there); tells = tells_none a }
-
 pub attends_first : (t u : Stood) (waiting now : List Waited) (left : Option (List Timed)) (a b : Stand)
-    → TellsSuch (λ bytes. ObeysWaiting t waiting bytes u now) a b → Rests now → TellsSuch (λ bytes. Attends t waiting left bytes u now left) a b
-attends_first t u waiting now left a b before last = record { bytes = before.bytes; are = waited before.are last; tells = before.tells }
+    → TellsSuch (λ bytes. Retries t waiting bytes u now) a b → TellsSuch (λ bytes. Attends t waiting left a bytes u now left b) a b
+attends_first t u waiting now left a b before = record { bytes = before.bytes; are = waited before.are before.tells; tells = before.tells }
 
 pub attends_looked : (t u : Stood) (waiting now : List Waited) (left last : Option (List Timed)) (ms : ℕ) (a b c : Stand)
-    → TellsSuch (λ bytes. Attends t waiting left bytes u now left) a b → ms ≡ u.tender.ticks → TellsSuch (λ bytes. LooksAnew ms left bytes last) b c
-    → TellsSuch (λ bytes. Attends t waiting left bytes u now last) a c
+    → TellsSuch (λ bytes. Attends t waiting left a bytes u now left b) a b → ms ≡ u.tender.ticks → TellsSuch (λ bytes. LooksAnew ms left bytes last) b c
+    → TellsSuch (λ bytes. Attends t waiting left a bytes u now last c) a c
 attends_looked t u waiting now left last ms a b c before ms_is more = record {
   bytes = before.bytes ++ more.bytes;
-  are = looks more.bytes last before.are (subst (λ (n : ℕ). LooksAnew n left more.bytes last) ms_is more.are);
+  are = looks more.bytes last c before.are (subst (λ (n : ℕ). LooksAnew n left more.bytes last) ms_is more.are) more.tells;
   tells = tells_trans a b c before.bytes more.bytes before.tells more.tells;
 }
-
--- no order waits, or the first waiting order sends a message
-pub rests_none : (waiting : List Waited) → None ≡ slice_get waiting 0 → Rests waiting
-rests_none [] none_there = tt
-rests_none (first ∷ more) none_there = absurd (none-some first none_there)
-
-pub rests_first : (first : Waited) (waiting : List Waited) → Some first ≡ slice_get waiting 0 → says_so is_send first.said ≡ true → Rests waiting
-rests_first first [] there sends = absurd (none-some first (sym there))
-rests_first first (said ∷ more) there sends = subst (λ (w : Waited). says_so is_send w.said ≡ true) (same_Some first said there) sends
-
-pub rests_empty : (waiting : List Waited) → waiting ≡ [] → Rests waiting
-rests_empty waiting none_there = subst (λ (ws : List Waited). Rests ws) (sym none_there) tt
 
 pub attends_more : (t u w : Stood) (waiting now later : List Waited) (left fewer last : Option (List Timed)) (order : List ℕ) (ms : ℕ) (a b c : Stand)
-    → TellsSuch (λ bytes. Attends t waiting left bytes u now fewer) a b → ms ≡ u.tender.ticks → NextIs ms fewer order last → (order ≡ QUIT → ⊥)
-    → TellsSuch (λ bytes. TakesOrder order u now bytes w later) b c → TellsSuch (λ bytes. Attends t waiting left bytes w later last) a c
-attends_more t u w waiting now later left fewer last order ms a b c before ms_is next no_end more = record {
+    → TellsSuch (λ bytes. Attends t waiting left a bytes u now fewer b) a b → goes_on_by u.ending ≡ true → ms ≡ u.tender.ticks → NextIs ms fewer order last
+    → MayCome order now b
+    → TellsSuch (λ bytes. TakesOrder (given_in order).text (given_in order).said (marked (given_in order).mark u) now bytes w later) b c
+    → TellsSuch (λ bytes. Attends t waiting left a bytes w later last c) a c
+attends_more t u w waiting now later left fewer last order ms a b c before on ms_is next may more = record {
   bytes = before.bytes ++ more.bytes;
-  are = comes order more.bytes w later last before.are (subst (λ (n : ℕ). NextIs n fewer order last) ms_is next) no_end more.are;
+  are = comes order more.bytes w later last c before.are (subst (λ (n : ℕ). NextIs n fewer order last) ms_is next) on may more.are more.tells;
   tells = tells_trans a b c before.bytes more.bytes before.tells more.tells;
 }
 
-pub attends_over : (t u : Stood) (waiting now : List Waited) (left fewer last : Option (List Timed)) (ms : ℕ) (a b : Stand)
-    → TellsSuch (λ bytes. Attends t waiting left bytes u now fewer) a b → ms ≡ u.tender.ticks → NoneIsDue ms fewer last
-    → TellsSuch (λ bytes. AttendsAll t waiting left bytes true u now last) a b
-attends_over t u waiting now left fewer last ms a b before ms_is none_there =
+pub attends_none : (t u : Stood) (waiting now : List Waited) (left fewer last : Option (List Timed)) (ms : ℕ) (a b : Stand)
+    → TellsSuch (λ bytes. Attends t waiting left a bytes u now fewer b) a b → ms ≡ u.tender.ticks
+    → (NoneIsDue ms fewer last) ⊎ (((MOST_WAITING ≤ length now) ⊎ (MANY_ANSWERS ≤ waiting_count Answer b)) × Stays fewer last)
+    → TellsSuch (λ bytes. AttendsAll t waiting left a bytes u now last b) a b
+attends_none t u waiting now left fewer last ms a b before ms_is (inl none_there) =
     record { bytes = before.bytes; are = none_due last before.are (subst (λ (n : ℕ). NoneIsDue n fewer last) ms_is none_there); tells = before.tells }
+attends_none t u waiting now left fewer last ms a b before ms_is (inr (inl many, same)) =
+    record { bytes = before.bytes; are = full last before.are many same; tells = before.tells }
+attends_none t u waiting now left fewer last ms a b before ms_is (inr (inr many, same)) =
+    record { bytes = before.bytes; are = answers_wait last before.are many same; tells = before.tells }
 
-pub attends_full : (t u : Stood) (waiting now : List Waited) (left fewer : Option (List Timed)) (a b : Stand)
-    → TellsSuch (λ bytes. Attends t waiting left bytes u now fewer) a b → MOST_WAITING ≤ length now
-    → TellsSuch (λ bytes. AttendsAll t waiting left bytes true u now fewer) a b
-attends_full t u waiting now left fewer a b before many = record { bytes = before.bytes; are = full before.are many; tells = before.tells }
+pub attends_over : (t u : Stood) (waiting now : List Waited) (left fewer : Option (List Timed)) (a b : Stand)
+    → TellsSuch (λ bytes. Attends t waiting left a bytes u now fewer b) a b → goes_on_by u.ending ≡ false
+    → TellsSuch (λ bytes. AttendsAll t waiting left a bytes u now fewer b) a b
+attends_over t u waiting now left fewer a b before is = record { bytes = before.bytes; are = over before.are is; tells = before.tells }
 
-pub attends_quit : (t u : Stood) (waiting now : List Waited) (left fewer last : Option (List Timed)) (ms : ℕ) (a b c : Stand)
-    → TellsSuch (λ bytes. Attends t waiting left bytes u now fewer) a b → ms ≡ u.tender.ticks → NextIs ms fewer QUIT last
-    → TellsLines b c (told u.tender.ticks (codes "ok quit")) → TellsSuch (λ bytes. AttendsAll t waiting left bytes false u now last) a c
-attends_quit t u waiting now left fewer last ms a b c before ms_is next line = record {
-  bytes = before.bytes ++ told u.tender.ticks (codes "ok quit");
-  are = quits last before.are (subst (λ (n : ℕ). NextIs n fewer QUIT last) ms_is next);
-  tells = tells_trans a b c before.bytes (told u.tender.ticks (codes "ok quit")) before.tells line;
-}
+-- ---- the next order
+
+-- an order that came ahead of its turn, if none is due or none was asked for
+pub ahead_next : (now : ℕ) (o m n : Option (List Timed)) (text : List ℕ) → NoneIsDue now o m → ComesAhead m n → NextIs now o text n
+ahead_next now None m n text none_there ahead = tt
+ahead_next now (Some []) None n text none_there ahead = absurd none_there
+ahead_next now (Some []) (Some left) n text none_there ahead = absurd ahead
+ahead_next now (Some (o ∷ os)) None n text none_there ahead = absurd none_there
+ahead_next now (Some (o ∷ os)) (Some left) n text none_there ahead = absurd ahead
+
+pub ahead_at_once : (now : ℕ) (o n : Option (List Timed)) (text : List ℕ) → ComesAhead o n → NextIs now o text n
+ahead_at_once now None n text ahead = tt
+ahead_at_once now (Some os) n text ahead = absurd ahead
+
+pub none_still : (now : ℕ) (o m n : Option (List Timed)) → NoneIsDue now o m → Stays m n → NoneIsDue now o n
+none_still now None m n none_there same = tt
+none_still now (Some []) None n none_there same = absurd none_there
+none_still now (Some []) (Some left) None none_there same = absurd same
+none_still now (Some []) (Some left) (Some last) none_there same = same ∙ none_there
+none_still now (Some (o ∷ os)) None n none_there same = absurd none_there
+none_still now (Some (o ∷ os)) (Some left) None none_there same = absurd same
+none_still now (Some (o ∷ os)) (Some left) (Some last) none_there same = (same ∙ none_there.0, none_there.1)
+
+pub ends_ahead : {A E : Type 0} (r : Result (Option A) E) (f : A → List ℕ) (now : ℕ) (o n : Option (List Timed))
+    → IfOk r (λ (x : Option A). IfSome x (λ (a : A). ComesAhead o n)) → IfOk r (λ (x : Option A). IfSome x (λ (a : A). NextIs now o (f a) n))
+ends_ahead (Ok (Some a)) f now o n ahead = ahead_at_once now o n (f a) ahead
+ends_ahead (Ok None) f now o n ahead = tt
+ends_ahead (Err e) f now o n ahead = tt
+
+pub ends_behind : {A E : Type 0} (r : Result (Option A) E) (f : A → List ℕ) (now : ℕ) (o m n : Option (List Timed)) → NoneIsDue now o m
+    → IfOk r (λ (x : Option A). IfSome x (λ (a : A). ComesAhead m n)) → IfOk r (λ (x : Option A). IfSome x (λ (a : A). NextIs now o (f a) n))
+ends_behind (Ok (Some a)) f now o m n none_there ahead = ahead_next now o m n (f a) none_there ahead
+ends_behind (Ok None) f now o m n none_there ahead = tt
+ends_behind (Err e) f now o m n none_there ahead = tt
+
+pub none_read : {A E W : Type 0} (r : Result (Option A) E) (now : ℕ) (o n : Option (List Timed)) → W
+    → IfOk r (λ (x : Option A). IsNone x → Stays o n) → IfOk r (λ (x : Option A). IsNone x → (NoneIsDue now o n) ⊎ (W × Stays o n))
+none_read (Ok x) now o n why same = λ none. inr (why, same none)
+none_read (Err e) now o n why same = tt
+
+pub none_ended : {A E : Type 0} (W : Type 0) (r : Result (Option A) E) (now : ℕ) (o m n : Option (List Timed)) → NoneIsDue now o m
+    → IfOk r (λ (x : Option A). IsNone x → Stays m n) → IfOk r (λ (x : Option A). IsNone x → (NoneIsDue now o n) ⊎ (W × Stays o n))
+none_ended W (Ok x) now o m n none_there same = λ none. inl (none_still now o m n none_there (same none))
+none_ended W (Err e) now o m n none_there same = tt
+
+-- an order that ends the run may come at any time
+pub ends_may : {A E : Type 0} (r : Result (Option A) E) (f : A → List ℕ) (waiting : List Waited) (b : Stand)
+    → IfOk r (λ (x : Option A). IfSome x (λ (t : A). is_end_order (f t) ≡ true)) → IfOk r (λ (x : Option A). IfSome x (λ (t : A). MayCome (f t) waiting b))
+ends_may (Ok (Some t)) f waiting b ends_it = inr ends_it
+ends_may (Ok None) f waiting b ends_it = tt
+ends_may (Err e) f waiting b ends_it = tt
 
 -- ---- a round
 
-pub is_round : (ahead : ℕ) (p q : SetPlace) (goes_on : Bool) (carried ticked tended calm obeyed : Tended) (a b c d e : Stand) (f g h : Option (List Traffic))
-    → Grows f g [] → Made (λ bytes traffic. CarriesAll ahead p.set p.wires (length p.wires) bytes traffic carried q.wires) a b g h → Ticks carried ticked
-    → Tends ticked tended → TellsSuch (λ bytes. TellsAll tended bytes calm) b c
-    → TellsSuch (λ bytes. AttendsAll (record { tender = calm; focus = p.focus; since = p.since }) p.waiting p.left bytes goes_on (record { tender = obeyed; focus = q.focus; since = q.since }) q.waiting q.left) c d
-    → TellsSuch (λ bytes. TellsAll obeyed bytes q.set) d e → Made (λ bytes traffic. IsRound ahead p bytes traffic goes_on q) a e f h
-is_round ahead p q goes_on carried ticked tended calm obeyed a b c d e f g h none_given first ticks tends second third fourth = record {
-  bytes = ((first.bytes ++ second.bytes) ++ third.bytes) ++ fourth.bytes;
-  traffic = first.traffic;
-  are = record {
-    carried = carried;
-    first = first.bytes;
-    carries = first.are;
-    ticked = ticked;
-    ticks = ticks;
-    tended = tended;
-    tends = tends;
-    calm = calm;
-    second = second.bytes;
-    tells = second.are;
-    obeyed = obeyed;
-    third = third.bytes;
-    attends = third.are;
-    fourth = fourth.bytes;
-    tells_more = fourth.are;
-    are = refl;
-  };
-  tells =
-      tells_trans a d e ((first.bytes ++ second.bytes) ++ third.bytes) fourth.bytes
-      (tells_trans a c d (first.bytes ++ second.bytes) third.bytes (tells_trans a b c first.bytes second.bytes first.tells second.tells) third.tells)
-      fourth.tells;
-  gives = grows_same f g h first.traffic none_given first.gives;
-}
+-- Waiting lines are written, and nothing more is reported.
+still_told : (a b c : Stand) (bytes : List ToldLine) → TellsLines a b bytes → MovesOn b c → TellsLines a c bytes
+still_told a b c bytes tells moves =
+    subst (λ (ls : List ToldLine). TellsLines a c ls) (append-nil bytes) (tells_trans a b c bytes [] tells (tells_moved b c moves))
+
+pub is_round : (ahead late : ℕ) (p q : SetPlace) (goes_on : Bool) (carried ticked tended calm minded last : Tended) (obeyed departed : Stood) (messages : ℕ)
+    (w b c moved d : Stand) (f g h : Option (List Traffic)) → Grows f g [] → TellsLines p.reports w (late_told p.stood.tender.ticks late)
+    → Made (λ bytes traffic. CarriesAll ahead p.stood.tender p.wires (length p.wires) bytes traffic carried q.wires) w b g h → Ticks carried ticked
+    → Tends ticked tended → TellsSuch (λ bytes. TellsAll tended bytes calm) b c → MovesOn c moved → messages ≡ waiting_count Message moved → Minds messages calm minded
+    → TellsSuch (λ bytes. AttendsAll (record p.stood { tender = minded }) p.waiting p.left moved bytes obeyed q.waiting q.left d) moved d
+    → Departs obeyed departed → TellsSuch (λ bytes. TellsAll departed.tender bytes last) d q.reports → q.stood ≡ record departed { tender = last }
+    → goes_on ≡ goes_on_by q.stood.ending → Made (λ bytes traffic. IsRound ahead late p bytes traffic goes_on q) p.reports q.reports f h
+is_round ahead late p q goes_on carried ticked tended calm minded last obeyed departed messages w b c moved d f g h none_given zeroth first ticks tends second moves counted minds third departs fourth stood_is goes =
+    let begun : List ToldLine = late_told p.stood.tender.ticks late in
+    let told_so : TellsLines p.reports c ((begun ++ first.bytes) ++ second.bytes) =
+    tells_trans p.reports b c (begun ++ first.bytes) second.bytes (tells_trans p.reports w b begun first.bytes zeroth first.tells) second.tells in
+    record {
+      bytes = (((begun ++ first.bytes) ++ second.bytes) ++ third.bytes) ++ fourth.bytes;
+      traffic = first.traffic;
+      are = record {
+        carried = carried;
+        first = first.bytes;
+        carries = first.are;
+        ticked = ticked;
+        ticks = ticks;
+        tended = tended;
+        tends = tends;
+        calm = calm;
+        second = second.bytes;
+        tells = second.are;
+        told = c;
+        first_told = told_so;
+        moved = moved;
+        moves = moves;
+        minded = minded;
+        minds = subst (λ (n : ℕ). Minds n calm minded) counted minds;
+        obeyed = obeyed;
+        third = third.bytes;
+        attended = d;
+        third_told = third.tells;
+        attends = third.are;
+        departed = departed;
+        departs = departs;
+        last = last;
+        fourth = fourth.bytes;
+        tells_more = fourth.are;
+        fourth_told = fourth.tells;
+        stood_is = stood_is;
+        goes = goes;
+        are = refl;
+      };
+      tells =
+          tells_trans p.reports d q.reports (((begun ++ first.bytes) ++ second.bytes) ++ third.bytes) fourth.bytes
+          (tells_trans p.reports moved d ((begun ++ first.bytes) ++ second.bytes) third.bytes
+          (still_told p.reports c moved ((begun ++ first.bytes) ++ second.bytes) told_so moves) third.tells)
+          fourth.tells;
+      gives = grows_same f g h first.traffic none_given first.gives;
+    }

@@ -1,6 +1,9 @@
 -- What an order to a link set changes, and why it is refused.
-use Rattle.std.specs.Prelude.{◌≡◌, ℕ, ◌+◌, ◌-◌, ◌^◌, ◌≤◌, min, true, false, List, ◌++◌, codes}
-use Rattle.std.specs.Prelude.{slice_get, slice_set, Option, None, Some, option_map}
+use Rattle.std.specs.Prelude.{◌≡◌, ⊤, ℕ, ◌+◌, ◌-◌, ◌*◌, ◌^◌, ◌≤◌, min, Bool, true, false, ◌&&◌}
+use Rattle.std.specs.Prelude.{List, [], ◌∷◌, ◌++◌, codes, string_bytes, slice_get, slice_set}
+use Rattle.std.specs.Prelude.{Option, None, Some, option_map, unwrap_or}
+use Rattle.line_filter.specs.Reporting.{ToldLine, kept}
+use Rattle.line_filter.specs.declared.reports.Wait.TheVariants.{Answer}
 use Rattle.link_group.specs.Printed.{rebalance_error_text}
 use Rattle.script_ends.specs.Answers.{actor_named, state_line, value_line}
 use Rattle.script_ends.specs.Term.{Term}
@@ -10,65 +13,112 @@ use Rattle.link_group.specs.Commanding.{is_start, command_error_text}
 use Rattle.link_group.specs.Lines.{ByCommand}
 use Rattle.link_group.specs.Links.{read_at}
 use Rattle.link_group.specs.Placing.{rebalance_fault, rebalanced}
+use Rattle.line_tending.specs.Giving.{IsOther, IsDisobeyed}
+use Rattle.line_tending.specs.Orders.{after_order}
+use Rattle.line_tending.specs.Readers.{is_put_off}
 use Rattle.link_group.specs.Reading.{book_of, terminal_of}
 use Rattle.line_tending.specs.Tended.{Tended, link_count}
 use Rattle.line_tending.specs.group_changeover_types.errors.RebalanceError.{RebalanceError}
 use Rattle.link_group.specs.declared.commanding.CommandError.{CommandError}
 use Rattle.line_play.specs.declared.set.measures.Since.{Since}
 use Rattle.line_play.specs.declared.set.orders.Focus.{Focus}
-use Rattle.line_play.specs.declared.set.orders.Focus.TheVariants.{Link as OneLink, All}
+use Rattle.line_play.specs.declared.set.orders.Focus.TheVariants.{Nothing, Link as OneLink, All}
+use Rattle.line_play.specs.declared.set.state.Ending.{Ending}
+use Rattle.line_play.specs.declared.set.state.Ending.TheVariants.{Stays, Leaves, Stops, Over}
 use Rattle.line_play.specs.declared.set.state.SetState.{SetState}
 use Rattle.line_play.specs.SetCounting.{begun_at}
+use Rattle.line_play.specs.SetGiven.{PlainSaid, links_of, lacks}
 use Rattle.line_play.specs.SetOrders.{PlainSetOrder, on, links, state, value, measuring, aborted}
 use Rattle.line_play.specs.SetOrders.{measures, resetting, send, table, held, unsure, rebalance}
+use Rattle.line_play.specs.SetOrders.{reopen, quit, leave, needs_links}
 
--- ---- the links that orders address
+-- ---- a set and its orders
 
--- a link set, and the links that the next order addresses
 pub record Stood : Type 0 where
   pub tender : Tended
+  -- the links addressed by orders that name none
   pub focus : Focus
   -- the measurements of its links when their counts were last reset
   pub since : List Since
+  -- whether the run goes on, or how it ends
+  pub ending : Ending
+  -- the beginning of the answers to the current order: its tag and a space, or nothing
+  pub mark : List ℕ
 
 -- the millisecond: the number of rounds so far
 abbrev pub millisecond_of : SetState → ℕ
 millisecond_of s = s.tender.ticks
 
+abbrev pub now_of : Stood → ℕ
+now_of p = p.tender.ticks
+
 abbrev pub stood : SetState → Stood
-stood s = record { tender = s.tender; focus = s.focus; since = s.since.items }
+stood s = record {
+  tender = s.tender;
+  focus = s.focus;
+  since = s.since.items;
+  ending = s.ending;
+  mark = string_bytes s.mark;
+}
 
--- the first link addressed; `last_of` is one more than the last
-abbrev pub first_of : Focus → ℕ
-first_of (OneLink l) = l
-first_of All = 0
+-- an order with this mark begins
+abbrev pub marked : List ℕ → Stood → Stood
+marked mark p = record p { mark = mark }
 
-abbrev pub last_of : Focus → Tended → ℕ
-last_of (OneLink l) t = min (2 ^ 64 - 1) (l + 1)
-last_of All t = link_count t
+-- a line of the answer to the current order
+abbrev pub answered : Stood → List ℕ → List ToldLine
+answered p text = kept Answer p.tender.ticks (p.mark ++ text)
+
+-- the links that an order addresses, and whether none is selected or one doesn't exist
+abbrev pub links_at : PlainSaid → Stood → List ℕ
+links_at s p = links_of s.whom p.focus (link_count p.tender)
+
+abbrev pub lacks_links : PlainSaid → Stood → Bool
+lacks_links s p = needs_links s.order && lacks s.whom p.focus (link_count p.tender)
+
+-- the first of them, or 0
+abbrev pub first_of : List ℕ → ℕ
+first_of [] = 0
+first_of (l ∷ ls) = l
 
 -- there is no such link
 abbrev pub IsNoLink : Focus → Tended → Type 0
+IsNoLink Nothing t = ⊤
 IsNoLink (OneLink l) t = link_count t ≤ l
 IsNoLink All t = ⊥
 
 -- ---- what an order changes
 
--- A link obeys a command. A start is kept until its time comes, and changes nothing at once.
+-- A link obeys a command. A start is kept until its time comes, and changes nothing at once. Any
+-- other command is noted as ordered. Back and Free are only noted while they would end what holds
+-- because of the reader of messages.
 pub data ObeysAt (command : Command) (l : ℕ) (t u : Tended) : Type 0 where
   waits : is_start command ≡ true → u ≡ t → ObeysAt command l t u
-  gives : is_start command ≡ false → ByCommand command l t.set u.set → ObeysAt command l t u
+  put_off : is_put_off t.reader command ≡ true
+      → u ≡ record t { ordered = after_order l command t.ordered } → ObeysAt command l t u
+  gives : is_start command ≡ false → is_put_off t.reader command ≡ false
+      → ByCommand command l t.set u.set → u.ordered ≡ after_order l command t.ordered
+      → ObeysAt command l t u
 
--- the links from `first` up to but not including the last obey it, one after another
-pub data ObeyEach (command : Command) (first : ℕ) (t : Tended) : ℕ → Tended → Type 0 where
-  no_command : ObeyEach command first t first t
-  one_command : {last : ℕ} {u w : Tended}
-      → ObeyEach command first t last u → ObeysAt command last u w
-      → ObeyEach command first t (last + 1) w
+-- A link obeys a command, or link_group says why it doesn't. `first` is the first such reason
+-- before it, if any; the last argument is the first one after it.
+pub data TriesAt (command : Command) (l : ℕ) (t : Tended) (first : Option CommandError)
+    (u : Tended) : Option CommandError → Type 0 where
+  obeys : ObeysAt command l t u → TriesAt command l t first u first
+  disobeys : (why : CommandError) → IsOther why → IsDisobeyed command l t u why
+      → TriesAt command l t first u (Some (unwrap_or first why))
+
+-- links are given it one after another; the first reason why one doesn't obey, if any
+pub data TriesEach (command : Command) (t : Tended) :
+    List ℕ → Tended → Option CommandError → Type 0 where
+  no_command : TriesEach command t [] t None
+  one_command : {ls : List ℕ} {u w : Tended} {first last : Option CommandError} (l : ℕ)
+      → TriesEach command t ls u first → TriesAt command l u first w last
+      → TriesEach command t (ls ++ l ∷ []) w last
 
 -- the addressed links obey it
-pub record Commands (command : Command) (whom : Focus) (p q : Stood) : Type 0 where
-  pub each : ObeyEach command (first_of whom) p.tender (last_of whom p.tender) q.tender
+pub record Commands (command : Command) (whom : List ℕ) (p q : Stood) : Type 0 where
+  pub each : TriesEach command p.tender whom q.tender None
   pub same : q ≡ record p { tender = q.tender }
 
 -- orders address these links from now on
@@ -89,22 +139,39 @@ abbrev pub reset_at : ℕ → Stood → Stood
 reset_at l p = record p { since = reset_to l (terminal_at p.tender l) p.since }
 
 -- the counts of these links are reset, one after another
-pub data ResetEach (first : ℕ) (p : Stood) : ℕ → Stood → Type 0 where
-  none_reset : ResetEach first p first p
-  one_reset : {last : ℕ} {q : Stood} → ResetEach first p last q
-      → ResetEach first p (last + 1) (reset_at last q)
-
-abbrev pub Resets : Focus → Stood → Stood → Type 0
-Resets whom p q = ResetEach (first_of whom) p (last_of whom p.tender) q
+pub data Resets (p : Stood) : List ℕ → Stood → Type 0 where
+  none_reset : Resets p [] p
+  one_reset : {ls : List ℕ} {q : Stood} (l : ℕ) → Resets p ls q
+      → Resets p (ls ++ l ∷ []) (reset_at l q)
 
 -- the SLS values are shared out again
 pub record Rebalances (p q : Stood) : Type 0 where
   pub may : rebalance_fault p.tender.set ≡ None
   pub is : q ≡ record p { tender = record p.tender { set = rebalanced p.tender.set } }
 
+-- how many seconds messages are sent before links are stopped: as ordered, or 10
+abbrev pub LEAVES_FOR : ℕ
+LEAVES_FOR = 10
+
+abbrev pub leaves_for : Option ℕ → ℕ
+leaves_for seconds = unwrap_or seconds LEAVES_FOR
+
+-- No message is taken from now on, and links are stopped when none holds one, or at this
+-- millisecond; once they are stopped, the run ends as it was to end.
+abbrev pub leaves_from : Ending → ℕ → Ending
+leaves_from Stays until = Leaves until
+leaves_from (Leaves before) until = Leaves until
+leaves_from (Stops since) until = Stops since
+leaves_from Over until = Over
+
+abbrev pub leaving : Option ℕ → Stood → Stood
+leaving seconds p = record p {
+  ending = leaves_from p.ending (min (2 ^ 64 - 1) (p.tender.ticks + leaves_for seconds * 1000));
+}
+
 -- An order to links is that command to each addressed link, `measure reset` resets the counts of
 -- these links, and a question changes nothing.
-abbrev pub Changes : PlainSetOrder → Focus → Stood → Stood → Type 0
+abbrev pub Changes : PlainSetOrder → List ℕ → Stood → Stood → Type 0
 Changes (on focus) whom p q = Looks focus p q
 Changes (links order) whom p q = Commands (command_of order) whom p q
 Changes (state process) whom p q = q ≡ p
@@ -112,20 +179,26 @@ Changes (value process variable) whom p q = q ≡ p
 Changes (measuring measure) whom p q = q ≡ p
 Changes aborted whom p q = q ≡ p
 Changes measures whom p q = q ≡ p
-Changes resetting whom p q = Resets whom p q
+Changes resetting whom p q = Resets p whom q
 Changes (send octets) whom p q = ⊥
 Changes table whom p q = q ≡ p
 Changes held whom p q = q ≡ p
 Changes unsure whom p q = q ≡ p
 Changes rebalance whom p q = Rebalances p q
+Changes reopen whom p q = q ≡ p
+Changes quit whom p q = q ≡ record p { ending = Over }
+Changes (leave seconds) whom p q = q ≡ leaving seconds p
 
 -- ---- why an order is refused, and what has changed then
 
--- there is no such link
+abbrev pub NO_LINK : List ℕ
+NO_LINK = codes "K1 NoLink"
+
+-- there is no such link, and from then on none is selected
 pub record NoFocus (focus : Focus) (p : Stood) (why : List ℕ) (q : Stood) : Type 0 where
   pub none_there : IsNoLink focus p.tender
-  pub why_is : why ≡ codes "K1 NoLink"
-  pub same : q ≡ p
+  pub why_is : why ≡ NO_LINK
+  pub none_selected : q ≡ record p { focus = Nothing }
 
 -- the link set refuses it, and reports the code and name of the fault
 pub record NoRebalance (p : Stood) (why : List ℕ) (q : Stood) : Type 0 where
@@ -134,14 +207,12 @@ pub record NoRebalance (p : Stood) (why : List ℕ) (q : Stood) : Type 0 where
   pub why_is : why ≡ rebalance_error_text error
   pub same : q ≡ p
 
--- the faults for which a link may refuse a command
-pub record IsFault (why : List ℕ) : Type 0 where
+-- some of the addressed links don't obey it, and the first reason is reported
+pub record NoCommand (command : Command) (whom : List ℕ) (p : Stood) (why : List ℕ) (q : Stood) :
+    Type 0 where
   pub error : CommandError
-  pub is : why ≡ command_error_text error
-
--- a link refuses it, and only the link set may have changed
-pub record NoCommand (p : Stood) (why : List ℕ) (q : Stood) : Type 0 where
-  pub fault : IsFault why
+  pub each : TriesEach command p.tender whom q.tender (Some error)
+  pub why_is : why ≡ command_error_text error
   pub same : q ≡ record p { tender = q.tender }
 
 -- the line that a script prints for the state of an actor of a link, or for the value of one of
@@ -162,11 +233,11 @@ pub record NotShown (line : Option (List ℕ)) (p : Stood) (why : List ℕ) (q :
   pub same : q ≡ p
 
 -- Links may refuse a command. A question about an actor or variable is refused if the text has no
--- such name. Of the other orders only `on` and `rebalance` may be refused. Only links that obeyed
--- may have changed.
-abbrev pub Refuses : PlainSetOrder → Focus → Stood → List ℕ → Stood → Type 0
+-- such name. If its links exist, of the other orders only `on`, `rebalance` and `reopen` may be
+-- refused. Only links that obeyed may have changed, and a refused `on` selects none.
+abbrev pub Refuses : PlainSetOrder → List ℕ → Stood → List ℕ → Stood → Type 0
 Refuses (on focus) whom p why q = NoFocus focus p why q
-Refuses (links order) whom p why q = NoCommand p why q
+Refuses (links order) whom p why q = NoCommand (command_of order) whom p why q
 Refuses (state process) whom p why q =
     NotShown (state_at process p.tender (first_of whom)) p why q
 Refuses (value process variable) whom p why q =
@@ -180,12 +251,15 @@ Refuses table whom p why q = ⊥
 Refuses held whom p why q = ⊥
 Refuses unsure whom p why q = ⊥
 Refuses rebalance whom p why q = NoRebalance p why q
+Refuses reopen whom p why q = (why ≡ codes "F2 NoFile") × (q ≡ p)
+Refuses quit whom p why q = ⊥
+Refuses (leave seconds) whom p why q = ⊥
 
 -- the line, if there is one, is no refusal
 abbrev pub IsShowable : Option (List ℕ) → Type 0
 IsShowable line = (why : List ℕ) → line ≡ Some (codes "refused " ++ why) → ⊥
 
-abbrev pub MayShow : PlainSetOrder → Focus → Tended → Type 0
+abbrev pub MayShow : PlainSetOrder → List ℕ → Tended → Type 0
 MayShow (on focus) whom t = Unit {0}
 MayShow (links order) whom t = Unit {0}
 MayShow (state process) whom t = IsShowable (state_at process t (first_of whom))
@@ -199,3 +273,6 @@ MayShow table whom t = Unit {0}
 MayShow held whom t = Unit {0}
 MayShow unsure whom t = Unit {0}
 MayShow rebalance whom t = Unit {0}
+MayShow reopen whom t = Unit {0}
+MayShow quit whom t = Unit {0}
+MayShow (leave seconds) whom t = Unit {0}

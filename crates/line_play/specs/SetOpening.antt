@@ -1,5 +1,5 @@
 -- A self-tending link set whose terminals run the processes of a text.
-use Rattle.std.specs.Prelude.{◌≡◌, ℕ, List, [], All, length}
+use Rattle.std.specs.Prelude.{◌≡◌, ℕ, List, [], Some, All, length}
 use Rattle.turn_code.specs.declared.draft.Draft.{Draft}
 use Rattle.script_links.specs.resend_store_types.messages.Mode.{Mode}
 use Rattle.script_links.specs.resend_store_types.messages.RoundLimits.{RoundLimits}
@@ -9,7 +9,9 @@ use Rattle.script_ends.specs.Term.{Term}
 use Rattle.link_processes.specs.Wanted.{wanted, IsFirstLacking}
 use Rattle.script_ends.specs.link_term_types.opening.OpenError.{OpenError}
 use Rattle.script_ends.specs.link_term_types.opening.OpenError.TheVariants.{NoName, NoMemory}
-use Rattle.script_check.specs.Checked.{IsSetOf}
+use Rattle.script_check.specs.Checked.{IsFound}
+use Rattle.mtp2_text.specs.TextLimits.{limits_in}
+use Rattle.script_check.specs.declared.sets.FoundSet.{FoundSet}
 use Rattle.link_group.specs.New.{new_set}
 use Rattle.line_tending.specs.Tended.{Tended, IsNewTended}
 use Rattle.line_play.specs.declared.set.opening.SetPlan.{SetPlan}
@@ -31,14 +33,19 @@ pub record AreNewTerminals (d : Draft) (limits : RoundLimits) (mode : Mode) (cou
   pub are_new : All (IsOverWithin d limits mode) ts
 
 -- a link set of such terminals, as planned, before any report or tick
-pub record IsNewTenderOf (plan : SetPlan) (d : Draft) (t : Tended) : Type 0 where
+pub record IsNewTenderOf (plan : SetPlan) (limits : RoundLimits) (d : Draft) (t : Tended) :
+    Type 0 where
   pub terminals : List Term
-  pub new : AreNewTerminals d plan.limits plan.mode plan.links terminals
+  pub new : AreNewTerminals d limits plan.mode plan.links terminals
   pub tended :
       IsNewTended plan.ends plan.tests (new_set plan.ends.own plan.ends.peer terminals) t
 
--- the bytes are a text whose processes have all names that a terminal needs; the link set runs them
+-- the bytes are a text whose processes have all names that a terminal needs; the link set runs
+-- them, with the limits that are chosen, else the text's
 pub record IsNewTenderOver (plan : SetPlan) (t : Tended) (bytes : List ℕ) : Type 0 where
-  pub draft : Draft
-  pub is_set : IsSetOf bytes draft
-  pub over : IsNewTenderOf plan draft t
+  pub found : FoundSet
+  pub is_set : IsFound bytes found
+  pub limits : RoundLimits
+  pub are_limits :
+      limits_in plan.mode found.limits plan.limits.messages plan.limits.octets ≡ Some limits
+  pub over : IsNewTenderOf plan limits found.set t

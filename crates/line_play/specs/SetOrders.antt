@@ -1,11 +1,10 @@
 -- The meaning of an order to a link set.
-use Rattle.std.specs.Prelude.{ℕ, nat_lt, Bool, true, false, not, ◌&&◌, if◌then◌else◌}
+use Rattle.std.specs.Prelude.{ℕ, nat_lt, Bool, true, false, if◌then◌else◌}
 use Rattle.std.specs.Prelude.{List, [], ◌∷◌}
 use Rattle.std.specs.Prelude.{length, codes, string_bytes}
 use Rattle.std.specs.Prelude.{Option, None, Some, option_map, option_and_then}
 use Rattle.std.specs.Str.{bytes_eq}
 use Rattle.script_lines.specs.Numbers.{count_of}
-use Rattle.script_lines.specs.Words.{words_of}
 use Rattle.script_links.specs.Octets.{octets_of}
 use Rattle.script_links.specs.Orders.{order_of}
 use Rattle.script_links.specs.declared.orders.Order.{Order}
@@ -34,6 +33,9 @@ pub data PlainSetOrder : Type 0 where
   held : PlainSetOrder
   unsure : PlainSetOrder
   rebalance : PlainSetOrder
+  reopen : PlainSetOrder
+  quit : PlainSetOrder
+  leave : Option ℕ → PlainSetOrder
 
 abbrev pub plain_set_order : SetOrder → PlainSetOrder
 plain_set_order (code.On focus) = on focus
@@ -49,6 +51,9 @@ plain_set_order code.Table = table
 plain_set_order code.Held = held
 plain_set_order code.Unsure = unsure
 plain_set_order code.Rebalance = rebalance
+plain_set_order code.Reopen = reopen
+plain_set_order code.Quit = quit
+plain_set_order (code.Leave seconds) = leave seconds
 
 -- ---- words
 
@@ -60,9 +65,12 @@ alone_of word =
     else (if bytes_eq word (codes "held") then Some held
     else (if bytes_eq word (codes "unsure") then Some unsure
     else (if bytes_eq word (codes "rebalance") then Some rebalance
-    else option_map links (order_of word)))))
+    else (if bytes_eq word (codes "reopen") then Some reopen
+    else (if bytes_eq word (codes "quit") then Some quit
+    else (if bytes_eq word (codes "leave") then Some (leave None)
+    else option_map links (order_of word))))))))
 
--- the word after `on`: a link number, or `all`
+-- after `on`: a link's number, or all; an `on` always selects some links
 abbrev pub focus_of : List ℕ → Option Focus
 focus_of word =
     if bytes_eq word (codes "all") then Some All else option_map OneLink (count_of word)
@@ -90,10 +98,15 @@ question_of (term.expected text) = None
 abbrev pub asked_of : List (List ℕ) → Option PlainSetOrder
 asked_of words = option_and_then question_of (term_command_of words)
 
+-- after `leave`: seconds
+abbrev pub leave_of : List ℕ → Option PlainSetOrder
+leave_of word = option_map (λ (n : ℕ). leave (Some n)) (count_of word)
+
 abbrev pub pair_of : List ℕ → List ℕ → Option PlainSetOrder
 pair_of first word =
     if bytes_eq first (codes "on") then option_map on (focus_of word)
-    else asked_of (first ∷ word ∷ [])
+    else (if bytes_eq first (codes "leave") then leave_of word
+    else asked_of (first ∷ word ∷ []))
 
 -- any order except `send`
 abbrev pub other_order_of : List (List ℕ) → Option PlainSetOrder
@@ -121,81 +134,31 @@ abbrev pub by_sent_word : Option (List ℕ) → Option PlainSetOrder → Option 
 by_sent_word None other = other
 by_sent_word (Some word) other = option_and_then send_of (octets_of word)
 
--- ---- the meaning of a line's words
+-- ---- the meaning of words
 
 abbrev pub set_order_of : List (List ℕ) → Option PlainSetOrder
 set_order_of words = by_sent_word (sent_word words) (other_order_of words)
 
--- the order that a line states, if it states one
-abbrev pub said_in : List ℕ → Option PlainSetOrder
-said_in line = set_order_of (words_of line)
+-- ---- kinds of orders
 
--- ---- orders that need not wait for others
-
-abbrev pub is_stop : Order → Bool
-is_stop orders.Power = false
-is_stop orders.Start = false
-is_stop orders.Stop = true
-is_stop orders.Emergency = false
-is_stop orders.Calm = false
-is_stop orders.Outage = false
-is_stop orders.Back = false
-is_stop orders.Busy = false
-is_stop orders.Free = false
-is_stop orders.Flush = false
-is_stop orders.Continue = false
-is_stop orders.Overload = false
-
-abbrev pub is_start : Order → Bool
-is_start orders.Power = false
-is_start orders.Start = true
-is_start orders.Stop = false
-is_start orders.Emergency = false
-is_start orders.Calm = false
-is_start orders.Outage = false
-is_start orders.Back = false
-is_start orders.Busy = false
-is_start orders.Free = false
-is_start orders.Flush = false
-is_start orders.Continue = false
-is_start orders.Overload = false
-
--- `on` may overtake waiting orders; `stop` may if no waiting order starts links
-abbrev pub overtakes : Bool → PlainSetOrder → Bool
-overtakes starts (on focus) = true
-overtakes starts (links order) = is_stop order && not starts
-overtakes starts (state process) = false
-overtakes starts (value process variable) = false
-overtakes starts (measuring measure) = false
-overtakes starts aborted = false
-overtakes starts measures = false
-overtakes starts resetting = false
-overtakes starts (send octets) = false
-overtakes starts table = false
-overtakes starts held = false
-overtakes starts unsure = false
-overtakes starts rebalance = false
-
--- whether an order starts links
-abbrev pub starts_links : PlainSetOrder → Bool
-starts_links (on focus) = false
-starts_links (links order) = is_start order
-starts_links (state process) = false
-starts_links (value process variable) = false
-starts_links (measuring measure) = false
-starts_links aborted = false
-starts_links measures = false
-starts_links resetting = false
-starts_links (send octets) = false
-starts_links table = false
-starts_links held = false
-starts_links unsure = false
-starts_links rebalance = false
-
--- whether the line states an order with this property
-abbrev pub says_so : (PlainSetOrder → Bool) → Option PlainSetOrder → Bool
-says_so test None = false
-says_so test (Some said) = test said
+-- a question or an order that addresses links
+abbrev pub needs_links : PlainSetOrder → Bool
+needs_links (on focus) = false
+needs_links (links order) = true
+needs_links (state process) = true
+needs_links (value process variable) = true
+needs_links (measuring measure) = true
+needs_links aborted = true
+needs_links measures = true
+needs_links resetting = true
+needs_links (send octets) = false
+needs_links table = false
+needs_links held = false
+needs_links unsure = false
+needs_links rebalance = false
+needs_links reopen = false
+needs_links quit = false
+needs_links (leave seconds) = false
 
 -- whether an order sends a message
 abbrev pub is_send : PlainSetOrder → Bool
@@ -212,3 +175,6 @@ is_send table = false
 is_send held = false
 is_send unsure = false
 is_send rebalance = false
+is_send reopen = false
+is_send quit = false
+is_send (leave seconds) = false

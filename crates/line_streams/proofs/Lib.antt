@@ -4,3 +4,5 @@ mod Recalling
 mod Reporting
 mod Tapped
 mod Times
+mod Waits
+mod Watches

@@ -5,3 +5,5 @@ pub mod Known
 pub mod Records
 pub mod Repeats
 pub mod Tapping
+pub mod Waiting
+pub mod Watching

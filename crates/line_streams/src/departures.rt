@@ -1,9 +1,12 @@
 //! Lines that a thread writes.
 ghost use Rattle.std.specs.Prelude.{◌≡◌, OnOk};
 ghost use Rattle.rtrb.specs.Ring.{sent};
-ghost use Rattle.line_streams.specs.Departing.{GoesWhole, TellsOn, TellsLost};
+ghost use Rattle.line_filter.specs.Reporting.{count_in};
+ghost use Rattle.line_streams.specs.Departing.{EndsOn, GoesWhole, MovesFar, ReportsOn, TellsOn};
 
+use crate::backlog::Backlog;
 use crate::outlet::Outlet;
+use line_filter::Wait;
 use rtrb::{Consumer, RingBuffer};
 use std::alloc::Global;
 use std::fs::File;
@@ -64,6 +67,7 @@ impl Departures {
             alloc,
             outlet: Outlet {
                 ring: producer,
+                backlog: Backlog::new(alloc),
                 lost: 0,
             },
             put: 0,
@@ -83,34 +87,75 @@ impl Departures {
         Ok(())
     }
 
-    /// Queues a whole line for writing, or counts it as lost.
+    /// Queues a whole line for writing. If there is no room, it waits or is counted as lost, depending on its kind.
     ///
     /// # Errors
     ///
-    /// If memory runs out, a line after lost ones has no space character, or the thread can't be woken; in the last
-    /// case the line was still queued or counted.
-    pub fn tell(&mut self, line: &[u8]) -> io::Result<()>
-        ensures { OnOk result (TellsOn line.now self.old.outlet self.new.outlet) }
+    /// If memory runs out, a line after lost ones has no space, or the thread can't be woken (then the line was still
+    /// queued, waits or is counted).
+    pub fn tell(&mut self, wait: Wait, line: &[u8]) -> io::Result<()>
+        ensures { OnOk result (TellsOn (record { wait = wait; octets = line.now }) self.old.outlet self.new.outlet) }
     {
-        let count = self.outlet.put(self.alloc, line)?;
+        let count = self.outlet.put(self.alloc, wait, line)?;
         self.put = self.put.wrapping_add(count as u64);
         self.wake()?;
         Ok(())
     }
 
-    /// Queues a whole line of reports for writing, or counts it as lost.
+    /// Queues waiting lines for writing, as many as there is room for.
+    fn shift(&mut self)
+        ensures { MovesFar self.old.outlet self.new.outlet }
+    {
+        while let Some(count) = self.outlet.send_first() {
+            self.put = self.put.wrapping_add(count as u64);
+        }
+    }
+
+    /// Queues waiting lines of reports for writing, as many as there is room for.
     ///
     /// # Errors
     ///
-    /// If a write of the thread failed, and those of [`Departures::tell`].
-    pub fn report(&mut self, line: &[u8]) -> io::Result<()>
-        ensures { OnOk result (TellsOn line.now self.old.outlet self.new.outlet) }
+    /// If a write of the thread failed, or it can't be woken (then the lines were still queued).
+    pub fn move_on(&mut self) -> io::Result<()>
+        ensures { OnOk result (MovesFar self.old.outlet self.new.outlet) }
     {
         if self.has_failed() {
             return Err(io::Error::from(ErrorKind::BrokenPipe));
         }
-        self.tell(line)?;
+        self.shift();
+        self.wake()?;
         Ok(())
+    }
+
+    /// Queues a whole line of reports for writing, after those that wait. If there is no room, it waits or is counted
+    /// as lost, depending on its kind.
+    ///
+    /// # Errors
+    ///
+    /// If a write of the thread failed, and those of [`Departures::tell`].
+    pub fn report(&mut self, wait: Wait, line: &[u8]) -> io::Result<()>
+        ensures { OnOk result (ReportsOn (record { wait = wait; octets = line.now }) self.old.outlet self.new.outlet) }
+    {
+        if self.has_failed() {
+            return Err(io::Error::from(ErrorKind::BrokenPipe));
+        }
+        self.shift();
+        self.tell(wait, line)?;
+        Ok(())
+    }
+
+    /// The number of waiting messages for level 3.
+    pub fn messages(&self) -> usize
+        ensures { result ≡ count_in Wait.Message self.now.outlet.backlog }
+    {
+        self.outlet.backlog.messages()
+    }
+
+    /// The number of waiting lines of answers.
+    pub fn answers(&self) -> usize
+        ensures { result ≡ count_in Wait.Answer self.now.outlet.backlog }
+    {
+        self.outlet.backlog.answers()
     }
 
     /// Queues octets as a whole for writing, or counts them as one loss.
@@ -162,33 +207,36 @@ impl Departures {
     /// Whether the thread has ended, as it does after a failed write.
     pub fn has_failed(&mut self) -> bool
         ensures sent { sent self.new.outlet.ring ≡ sent self.old.outlet.ring }
+        ensures backlog { self.new.outlet.backlog ≡ self.old.outlet.backlog }
         ensures lost { self.new.outlet.lost ≡ self.old.outlet.lost }
     {
         self.outlet.ring.is_abandoned()
     }
 
-    /// Reports, with this millisecond, how many lines were lost after the last one queued, if any and if there is room.
+    /// Queues waiting lines. Then it reports, with this millisecond, how many lines were lost after the last one
+    /// queued, if any and if there is room.
     fn tell_lost(&mut self, now: u64) -> io::Result<()>
-        ensures { OnOk result (TellsLost now self.old.outlet self.new.outlet) }
+        ensures { OnOk result (EndsOn now self.old.outlet self.new.outlet) }
     {
+        self.shift();
         let count = self.outlet.put_lost(self.alloc, now)?;
         self.put = self.put.wrapping_add(count as u64);
         self.wake()?;
         Ok(())
     }
 
-    /// Waits at the end until all octets are written, for a second at most. As soon as there is room it reports, with
-    /// this millisecond, how many lines were lost after the last one queued.
+    /// Waits at the end until all octets and waiting lines are written, for a second at most. As soon as there is room
+    /// it reports, with this millisecond, how many lines were lost after the last one queued.
     ///
     /// # Errors
     ///
     /// If memory runs out, a write of the thread failed, or it can't be woken.
     pub fn end<R: Clock>(&mut self, rt: &R, now: u64) -> io::Result<()>
-        ensures { OnOk result (TellsLost now self.old.outlet self.new.outlet) }
+        ensures { OnOk result (EndsOn now self.old.outlet self.new.outlet) }
     {
         self.tell_lost(now)?;
         for _wait in 0..MOST_WAITS {
-            if self.are_gone() && self.outlet.lost == 0 {
+            if self.are_gone() && self.outlet.lost == 0 && self.outlet.backlog.is_empty() {
                 return Ok(());
             }
             if self.has_failed() {

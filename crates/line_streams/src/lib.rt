@@ -5,9 +5,11 @@
 mod ahead;
 mod apart;
 mod arrivals;
+mod backlog;
 mod capture;
 mod closing;
 mod departures;
+mod ending;
 mod feeds;
 mod live;
 mod opening;
@@ -20,12 +22,15 @@ mod watch;
 
 pub use apart::keep_apart;
 pub use arrivals::Arrivals;
+pub use backlog::Backlog;
 pub use capture::{Capture, Kept};
 pub use closing::ended;
 pub use departures::Departures;
 pub use feeds::{Fed, Feed};
 pub use live::LiveOrders;
-pub use opening::{OrderStream, ReportStream, open_both, open_orders, open_reports};
+pub use opening::{
+    Begin, OrderStream, ReportFile, ReportStream, open_both, open_orders, open_reports,
+};
 pub use outlet::Outlet;
 pub use records::{RecordStream, open_records};
 pub use repeats::Repeats;

@@ -1,13 +1,13 @@
 //! Opening the files of orders and reports.
 ghost use Rattle.std.specs.Prelude.{IfOk, OnOk};
-ghost use Rattle.line_filter.specs.Reporting.{TellsLine};
-ghost use Rattle.line_streams.specs.Known.{left_of, stand_of, ComeFrom, GoTo, IsReported, EndsTold};
+ghost use Rattle.line_filter.specs.Reporting.{MovesOn, TellsLine};
+ghost use Rattle.line_streams.specs.Known.{left_of, stand_of, AreStuck, ComeFrom, GoTo, IsReported, EndsTold};
 
 use crate::ahead::Source;
 use crate::arrivals::Arrivals;
 use crate::departures::Departures;
 use crate::live::LiveOrders;
-use line_filter::{Orders, Reports};
+use line_filter::{Orders, Reports, Wait};
 use std::alloc::Global;
 use std::fs::{self, File, OpenOptions};
 use std::io::{self, Write};
@@ -31,6 +31,16 @@ impl Orders for OrderStream {
         match self {
             OrderStream::Nothing => Ok(None),
             OrderStream::Live(orders) => match orders.next(alloc, now)? {
+                Some(order) => Ok(Some(order)),
+                None => Ok(None),
+            },
+        }
+    }
+
+    fn next_end(&mut self, _alloc: Global, now: u64) -> io::Result<Option<String>> {
+        match self {
+            OrderStream::Nothing => Ok(None),
+            OrderStream::Live(orders) => match orders.next_end(now)? {
                 Some(order) => Ok(Some(order)),
                 None => Ok(None),
             },
@@ -90,33 +100,101 @@ pub fn open_orders<R: Files<File = File> + Threads>(
     Ok(OrderStream::Live(LiveOrders::new(alloc, source)))
 }
 
+/// How a regular file of reports is opened.
+#[derive(Clone, Copy, Debug, PartialEq, Eq)]
+pub enum Begin {
+    /// It is created, or emptied.
+    Anew,
+    /// It is created, or appended to.
+    After,
+}
+
+/// A regular file of reports, with its name.
+#[derive(Drop)]
+pub struct ReportFile<'a, H> {
+    host: &'a H,
+    path: String,
+    file: File,
+}
+
 /// The destination of reports.
 #[derive(Drop)]
-pub enum ReportStream<E> {
+pub enum ReportStream<'a, H, E> {
     /// Standard error, or a writer in its place.
     Errors(E),
     /// A regular file.
-    File(File),
+    File(ReportFile<'a, H>),
     /// A file that may keep a writer waiting, for example a FIFO.
     Fifo(Departures),
 }
 
-impl<E: Write> Reports for ReportStream<E> {
-    ghost stand = { stand_of E.contents };
+/// Opens a file of reports to append to it. It is created if it doesn't exist.
+fn append_to<R: Files<File = File>>(rt: &R, path: &str) -> io::Result<File> {
+    let mut how = OpenOptions::new();
+    how.append(true).create(true);
+    how.open(rt, path)
+}
 
-    fn tell(&mut self, line: &[u8]) -> io::Result<()>
-        ensures line { OnOk result (TellsLine (stand_of E.contents self.old) (stand_of E.contents self.new) line.now) }
-        ensures lost { OnOk result (IsReported E.contents line.now self.old self.new) }
-    {
-        match self {
-            ReportStream::Errors(errors) => errors.write_all(line),
-            ReportStream::File(file) => file.write_all(line),
-            ReportStream::Fifo(departures) => departures.report(line),
+impl<H: Files<File = File>> ReportFile<'_, H> {
+    /// Opens it again by its name. Returns whether that succeeded.
+    fn reopen(&mut self) -> bool {
+        match append_to(self.host, self.path.as_str()) {
+            Ok(file) => {
+                self.file = file;
+                true
+            }
+            Err(_) => false,
         }
     }
 }
 
-impl<E> ReportStream<E> {
+impl<H: Files<File = File>, E: Write> Reports for ReportStream<'_, H, E> {
+    ghost stand = { stand_of E.contents };
+
+    fn tell(&mut self, wait: Wait, line: &[u8]) -> io::Result<()>
+        ensures line { OnOk result (TellsLine (stand_of E.contents self.old) (stand_of E.contents self.new) (record { wait = wait; octets = line.now })) }
+        ensures lost { OnOk result (IsReported E.contents (record { wait = wait; octets = line.now }) self.old self.new) }
+    {
+        match self {
+            ReportStream::Errors(errors) => errors.write_all(line),
+            ReportStream::File(file) => file.file.write_all(line),
+            ReportStream::Fifo(departures) => departures.report(wait, line),
+        }
+    }
+
+    fn move_on(&mut self) -> io::Result<()>
+        ensures moves { OnOk result (MovesOn (stand_of E.contents self.old) (stand_of E.contents self.new)) }
+        ensures room { OnOk result (AreStuck self.new) }
+    {
+        match self {
+            ReportStream::Errors(_) | ReportStream::File(_) => Ok(()),
+            ReportStream::Fifo(departures) => departures.move_on(),
+        }
+    }
+
+    fn reopen(&mut self) -> io::Result<bool> {
+        match self {
+            ReportStream::Errors(_) | ReportStream::Fifo(_) => Ok(true),
+            ReportStream::File(file) => Ok(file.reopen()),
+        }
+    }
+
+    fn messages(&self) -> usize {
+        match self {
+            ReportStream::Errors(_) | ReportStream::File(_) => 0,
+            ReportStream::Fifo(departures) => departures.messages(),
+        }
+    }
+
+    fn answers(&self) -> usize {
+        match self {
+            ReportStream::Errors(_) | ReportStream::File(_) => 0,
+            ReportStream::Fifo(departures) => departures.answers(),
+        }
+    }
+}
+
+impl<H, E> ReportStream<'_, H, E> {
     /// Waits at the end until pending reports are written, for a second at most. It reports with this millisecond how
     /// many were lost after the last one queued, once there is room for that.
     ///
@@ -133,17 +211,39 @@ impl<E> ReportStream<E> {
     }
 }
 
-/// Opens the destination of reports: `errors` without a path. A regular file is created, or emptied.
+/// Opens a regular file of reports.
+fn open_file<'a, R: Files<File = File>>(
+    rt: &'a R,
+    alloc: Global,
+    path: &str,
+    how: Begin,
+) -> io::Result<ReportFile<'a, R>> {
+    let mut name = String::new(alloc);
+    name.push_str(path)?;
+    let file = match how {
+        Begin::Anew => fs::create(rt, path)?,
+        Begin::After => append_to(rt, path)?,
+    };
+    Ok(ReportFile {
+        host: rt,
+        path: name,
+        file,
+    })
+}
+
+/// Opens the destination of reports: `errors` without a path. A regular file is created; an existing one is emptied, or
+/// appended to.
 ///
 /// # Errors
 ///
 /// If the path can't be opened, or there is no memory, no pipe or no thread.
-pub fn open_reports<R: Files<File = File> + Threads, E: Drop>(
-    rt: &R,
+pub fn open_reports<'a, R: Files<File = File> + Threads, E: Drop>(
+    rt: &'a R,
     alloc: Global,
     path: Option<&str>,
+    how: Begin,
     errors: E,
-) -> io::Result<ReportStream<E>>
+) -> io::Result<ReportStream<'a, R, E>>
     ensures { IfOk result (GoTo path.entry errors) }
 {
     let Some(path) = path else {
@@ -154,6 +254,6 @@ pub fn open_reports<R: Files<File = File> + Threads, E: Drop>(
             let file = open_both(rt, path)?;
             Ok(ReportStream::Fifo(Departures::start(rt, alloc, file)?))
         }
-        _ => Ok(ReportStream::File(fs::create(rt, path)?)),
+        _ => Ok(ReportStream::File(open_file(rt, alloc, path, how)?)),
     }
 }

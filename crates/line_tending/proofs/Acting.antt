@@ -24,13 +24,15 @@ use Rattle.link_group.specs.Changing.{fail_fault, after_failure, retrieve_fault_
 use Rattle.link_group.specs.Diverting.{after_divert}
 use Rattle.link_group.specs.Placing.{rebalance_fault, rebalanced}
 use Rattle.link_group.specs.Lines.{ByLink, ByCommand, after_admission, IsCommandError}
-use Rattle.line_tending.specs.Telling.{report_in, reports_in}
+use Rattle.line_tending.specs.Telling.{report_in, reports_in, news_by, news_in}
 use Rattle.line_tending.specs.Calling.{ByCalls}
 use Rattle.line_tending.specs.Tended.{Tended}
 use Rattle.line_tending.specs.Rounds.{Acts, Adds, HandsOut, HasTold}
 use Rattle.line_tending.specs.declared.told.Told.{Told}
+use Rattle.line_tending.specs.declared.ordered.Ordered.{Ordered}
+use Rattle.line_tending.specs.declared.reader.Reader.{Reader}
 use Rattle.line_tending.specs.declared.tended_set.TendPlan.{TendPlan}
-use Rattle.line_tending.proofs.Calling.{by_none, by_sends, by_binds, by_fails, by_retrieves, by_abandons, by_diverts, by_rebalances, by_listens, by_gives, by_reports, by_commands, by_command_error, by_admits}
+use Rattle.line_tending.proofs.Calling.{by_none, by_sends, by_binds, by_fails, by_retrieves, by_abandons, by_diverts, by_rebalances, by_listens, by_gives, by_asks, by_commands, by_command_error, by_admits}
 use Rattle.line_tending.proofs.Doing.{adds_call, adds_is}
 
 pub adds_admit : {A E : Type 0} (t : Tended) (d : LinkSet) (l : ℕ) (way : Bool) (r : Result A E)
@@ -95,8 +97,9 @@ pub hands_out : (t : Tended) (d : LinkSet) (l : ℕ) (o : Option Report) → ByL
 hands_out t d l None did = tt
 hands_out t d l (Some report) did = record { reports = did; same = refl }
 
-pub adds_report : (t : Tended) (d : LinkSet) (l : ℕ) (o : Option Report) → ByLink (Reported o) l t.set d → Adds t (record t { set = d })
-adds_report t d l o did = adds_call t d (by_reports t.set d l o did)
+pub adds_report : (t : Tended) (d : LinkSet) (l : ℕ) (o : Option Report) → is_some o ≡ false → ByLink (Reported o) l t.set d → Adds t (record t { set = d })
+adds_report t d l None none_there did = adds_call t d (by_asks t.set d l did)
+adds_report t d l (Some report) none_there did = absurd (true≢false none_there)
 
 pub has_told : (c : LinkSet) (t : Tended) (l : ℕ) (o : Option Report) → is_some o ≡ false → ByLink (Reported o) l c t.set → HasTold l t
 has_told c t l None none_there did = record { before = c; none_left = did }
@@ -112,8 +115,18 @@ not_there r NoLink c d l is fault same there =
 
 -- ---- queued reports
 
-told_more : (told : List Told) (x : Told) → reports_in (told ++ x ∷ []) ≡ reports_in told ++ report_in x
+pub told_more : (told : List Told) (x : Told) → reports_in (told ++ x ∷ []) ≡ reports_in told ++ report_in x
 told_more told x = flat_map-append report_in told (x ∷ []) ∙ ap (λ (xs : List Told). reports_in told ++ xs) (append-nil (report_in x))
+
+pub news_more : (told : List Told) (x : Told) → news_in (told ++ x ∷ []) ≡ news_in told ++ news_by x
+news_more told x = flat_map-append news_by told (x ∷ []) ∙ ap (λ (xs : List Told). news_in told ++ xs) (append-nil (news_by x))
+
+-- A report that says nothing of the reader.
+no_news_more : (told after : List Told) (x : Told) → after ≡ told ++ x ∷ [] → news_by x ≡ [] → news_in after ≡ news_in told
+no_news_more told after x is none = ap news_in is ∙ (news_more told x ∙ (ap (λ (xs : List Told). news_in told ++ xs) none ∙ append-nil (news_in told)))
+
+no_report_more : (told after : List Told) (x : Told) → after ≡ told ++ x ∷ [] → report_in x ≡ [] → reports_in after ≡ reports_in told
+no_report_more told after x is none = ap reports_in is ∙ (told_more told x ∙ (ap (λ (xs : List Told). reports_in told ++ xs) none ∙ append-nil (reports_in told)))
 
 -- A pushed report is the last one.
 pub told_pushed : {A E : Type 0} (r : Result A E) (told after : List Told) (x : Told) (v : A) → r ≡ Ok v
@@ -121,22 +134,38 @@ pub told_pushed : {A E : Type 0} (r : Result A E) (told after : List Told) (x : 
 told_pushed {A} {E} r told after x v is items = items ∙ ap (λ (o : Result A E). if is_ok o then told ++ x ∷ [] else told) is
 
 -- One more report is queued last.
-pub acts_report : (c : LinkSet) (plan : TendPlan) (ticks : ℕ) (told after : List Told) (x : Told) → after ≡ told ++ x ∷ []
-    → Acts [] (report_in x) (record { set = c; plan = plan; ticks = ticks; reports = reports_in told })
-    (record { set = c; plan = plan; ticks = ticks; reports = reports_in after })
-acts_report c plan ticks told after x is = record {
+pub acts_report : (c : LinkSet) (plan : TendPlan) (ticks : ℕ) (told after : List Told) (x : Told) (reader : Reader) (os : List Ordered) → news_by x ≡ [] → after ≡ told ++ x ∷ []
+    → Acts [] (report_in x) (record { set = c; plan = plan; ticks = ticks; reports = reports_in told; reader = reader; news = news_in told; ordered = os })
+    (record { set = c; plan = plan; ticks = ticks; reports = reports_in after; reader = reader; news = news_in after; ordered = os })
+acts_report c plan ticks told after x reader os none is = record {
   calls = by_none c;
   plan = refl;
   ticks = refl;
   reports = ap reports_in is ∙ told_more told x;
+  reader = refl;
+  news = no_news_more told after x is none;
+  ordered = refl;
 }
+
+-- One more report about the reader is queued last.
+pub news_report : (c : LinkSet) (plan : TendPlan) (ticks : ℕ) (told after : List Told) (x : Told) (reader : Reader) (os : List Ordered) → report_in x ≡ []
+    → after ≡ told ++ x ∷ []
+    → ◌≡◌ {A = Tended} (record { set = c; plan = plan; ticks = ticks; reports = reports_in after; reader = reader; news = news_in after; ordered = os })
+    (record { set = c; plan = plan; ticks = ticks; reports = reports_in told; reader = reader; news = news_in told ++ news_by x; ordered = os })
+news_report c plan ticks told after x reader os none is =
+    let reports_are : reports_in after ≡ reports_in told = no_report_more told after x is none in
+    let news_are : news_in after ≡ news_in told ++ news_by x = ap news_in is ∙ news_more told x in
+    λ i. record { set = c; plan = plan; ticks = ticks; reports = reports_are i; reader = reader; news = news_are i; ordered = os }
 
 -- `send` took a message.
 pub acts_send : (t : Tended) (d : LinkSet) (m : Msu) → send_fault t.set m ≡ None → selection_of m < SELECTIONS → d ≡ sent t.set m
     → Acts (m ∷ []) [] t (record t { set = d })
 acts_send t d m free small is = record {
-  calls = subst (λ (x : LinkSet). ByCalls t.set (m ∷ []) x) (sym is) (by_sends t.set m free small);
+  calls = subst (λ (x : LinkSet). ByCalls t.set (m ∷ []) [] x) (sym is) (by_sends t.set m free small);
   plan = refl;
   ticks = refl;
   reports = sym (append-nil t.reports);
+  reader = refl;
+  news = refl;
+  ordered = refl;
 }

@@ -1,11 +1,12 @@
 -- Commands that are given to a link: obeyed, or refused with an error.
-use Rattle.std.proofs.Common.{◌≡◌, ℕ, Bool, true, false, Result, Ok, Err, OnOk, IfOk, IfErr, sym, ap, subst}
+use Rattle.std.proofs.Common.{◌≡◌, inr, ℕ, Bool, true, false, Result, Ok, Err, OnOk, IfOk, IfErr, sym, ap, subst}
+use Rattle.link_processes.specs.declared.commands.Command.{Command}
 use Rattle.link_processes.specs.declared.commands.Command.TheVariants as command
 use Rattle.link_group.specs.declared.commanding.CommandError.{CommandError}
 use Rattle.link_group.specs.declared.commanding.CommandError.TheVariants as error
 use Rattle.link_group.specs.Lines.{ByCommand, IsCommandError}
 use Rattle.line_tending.specs.Cares.{lacks_emergency}
-use Rattle.line_tending.specs.Giving.{IsOther, IsLeft, IsGiven, WasGiven, StartsAs}
+use Rattle.line_tending.specs.Giving.{IsOther, IsLeft, IsDisobeyed, IsGiven, WasGiven, StartsAs}
 use Rattle.line_tending.specs.Tended.{Tended}
 use Rattle.line_tending.specs.declared.link_duty.LinkDuty.{LinkDuty}
 
@@ -31,6 +32,12 @@ pub barred_by : {E : Type 0} (obeyed : Type 0) (left : CommandError → Type 0) 
 barred_by obeyed left e (Err f) is off other = tt
 barred_by obeyed left e (Ok took) is off other =
     subst (IsGiven obeyed left) (sym off) (record { why = e; other = other; is_left = left_of left e other is })
+
+-- An order that its link didn't obey.
+pub disobeyed_by : {A : Type 0} (r : Result A CommandError) (k : Command) (l : ℕ) (t u w : Tended) → u ≡ t → IfErr r (IsLeft (IsCommandError k l u.set w.set))
+    → IfErr r (IsDisobeyed k l t w)
+disobeyed_by (Ok v) k l t u w same left = tt
+disobeyed_by (Err e) k l t u w same left = inr (subst (λ (x : Tended). IsLeft (IsCommandError k l x.set w.set) e) same left)
 
 -- A start, after the call that declares an emergency if that is necessary.
 pub starts_as : {E : Type 0} (c : LinkDuty) (another : Bool) (l : ℕ) (t u v : Tended) (r : Result Bool E)

@@ -8,4 +8,5 @@ mod Giving
 pub mod Lives
 mod Passing
 mod Printing
+mod Reading
 mod Speaking

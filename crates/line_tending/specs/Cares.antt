@@ -47,7 +47,6 @@ new_care = record {
   stopping = false;
   rested = 0;
   due = None;
-  outage = false;
   urgency = Open;
   urgent = false;
   patience = PATIENCE;

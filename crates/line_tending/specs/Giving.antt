@@ -1,12 +1,15 @@
 -- The outcome of a command that was given to a link of a set: the link obeyed it, or refused it and
 -- an error says why.
-use Rattle.std.specs.Prelude.{◌≡◌, ℕ, Bool, true, false, ⊤}
+use Rattle.std.specs.Prelude.{◌≡◌, ◌⊎◌, ◌&&◌, not, ℕ, ◌≤◌, Bool, true, false, ⊤}
 use Rattle.link_group.specs.Lines.{ByCommand, IsCommandError}
 use Rattle.link_group.specs.Set.{LinkSet}
 use Rattle.link_group.specs.declared.commanding.CommandError.{CommandError}
 use Rattle.link_group.specs.declared.commanding.CommandError.TheVariants as error
+use Rattle.link_group.specs.declared.state.LinkState.{LinkState}
+use Rattle.link_processes.specs.declared.commands.Command.{Command}
 use Rattle.link_processes.specs.declared.commands.Command.TheVariants as command
 use Rattle.line_tending.specs.Cares.{lacks_emergency}
+use Rattle.line_tending.specs.Tended.{Tended, link_count}
 use Rattle.line_tending.specs.declared.link_duty.LinkDuty.{LinkDuty}
 
 -- An error other than out of memory.
@@ -22,6 +25,12 @@ IsLeft left error.NoLink = left error.NoLink
 IsLeft left error.Waiting = left error.Waiting
 IsLeft left (error.Refused refusal) = left (error.Refused refusal)
 IsLeft left error.NoMemory = ⊤
+
+-- An order wasn't obeyed: there is no such link and nothing changed, or the link didn't obey it. If
+-- memory ran out, it may have been obeyed.
+abbrev pub IsDisobeyed : Command → ℕ → Tended → Tended → CommandError → Type 0
+IsDisobeyed k l t u e =
+    ((link_count t ≤ l) × (e ≡ error.NoLink) × (u ≡ t)) ⊎ IsLeft (IsCommandError k l t.set u.set) e
 
 -- The link refused the command, with an error that says why.
 pub record IsBarred (left : CommandError → Type 0) : Type 0 where
@@ -50,3 +59,9 @@ pub record StartsAs (c : LinkDuty) (another_serves : Bool) (l : ℕ) (old new : 
   pub rests : lacks_emergency another_serves c ≡ false → urged ≡ old
   pub starts :
       IsGiven (ByCommand command.Start l urged new) (IsCommandError command.Start l urged new) took
+
+-- A link resumes its messages after an outage: it carries none, though it is in service, not held,
+-- and no processor is out.
+abbrev pub resumes : LinkState → Bool
+resumes s =
+    (((not s.carrying && s.in_service) && not s.held) && not s.far_out) && not s.own_out

@@ -5,6 +5,8 @@ pub mod Ends
 pub mod Giving
 pub mod LinkLines
 pub mod Lives
+pub mod Orders
+pub mod Readers
 pub mod Rounds
 pub mod Sending
 pub mod Telling

@@ -59,6 +59,31 @@ report_in (told.Diverted link count) = []
 report_in (told.Tested link) = []
 report_in (told.Looped link) = []
 report_in (told.Shared shared) = []
+report_in told.ReaderAway = []
+report_in told.ReaderBack = []
+
+-- The report itself, if it says that the reader is away or back.
+abbrev pub news_by : Told → List Told
+news_by (told.Message link m) = []
+news_by (told.InService link) = []
+news_by (told.Down link reason) = []
+news_by (told.FarOut link) = []
+news_by (told.FarBack link) = []
+news_by (told.Started link) = []
+news_by (told.Changeover link) = []
+news_by (told.Says link kind by_link) = []
+news_by (told.Hears link kind by_link) = []
+news_by (told.Unsure link count) = []
+news_by (told.Diverted link count) = []
+news_by (told.Tested link) = []
+news_by (told.Looped link) = []
+news_by (told.Shared shared) = []
+news_by told.ReaderAway = told.ReaderAway ∷ []
+news_by told.ReaderBack = told.ReaderBack ∷ []
+
+-- The reports that the reader is away or back, in order.
+abbrev pub news_in : List Told → List Told
+news_in ts = flat_map news_by ts
 
 -- The reports that pass on reports of links, in order.
 abbrev pub reports_in : List Told → List Told

@@ -28,6 +28,10 @@ abbrev pub link_text : Option ℕ → List ℕ
 link_text None = codes " -"
 link_text (Some link) = codes " " ++ decimal link
 
+-- the links of selections, in the answer to a question
+abbrev pub table_text : List (Option ℕ) → List ℕ
+table_text shared = codes "table" ++ flat_map link_text shared
+
 abbrev pub told_text : Told → List ℕ
 told_text (told.InService link) = decimal link ++ codes " in service"
 told_text (told.Down link reason) = decimal link ++ codes " down " ++ signed_decimal reason
@@ -45,3 +49,5 @@ told_text (told.Diverted link count) = decimal link ++ codes " diverted " ++ dec
 told_text (told.Tested link) = decimal link ++ codes " tested"
 told_text (told.Looped link) = decimal link ++ codes " looped"
 told_text (told.Shared shared) = codes "shared" ++ flat_map link_text shared
+told_text told.ReaderAway = codes "reader away"
+told_text told.ReaderBack = codes "reader back"

@@ -5,12 +5,13 @@ ghost use Rattle.link_group.specs.OneLink.{fault_of};
 ghost use Rattle.link_group.specs.Placing.{rebalance_fault, rebalanced};
 ghost use Rattle.line_tending.specs.Giving.{IsGiven, IsLeft, IsOther};
 ghost use Rattle.line_tending.specs.Rounds.{Adds, Acts};
-ghost use Rattle.line_tending.specs.Telling.{report_in};
+ghost use Rattle.line_tending.specs.Telling.{report_in, news_by};
 
 use crate::tended_set::{TendError, TendedSet};
 use crate::told::Told;
 use group_changeover::{Hearing, Kind, RebalanceError, read_changeover};
-use link_group::{Command, CommandError, Heard, Sif};
+use link_group::{CommandError, Heard, Sif};
+use link_processes::Command;
 use resend_store::Msu;
 
 /// How the set took a changeover message, and the answer that is due.
@@ -156,6 +157,7 @@ impl TendedSet {
 
     /// Queues a report of a link.
     pub(crate) fn tell_report(&mut self, told: Told) -> Result<(), TendError>
+        requires { news_by told ≡ [] }
         ensures { OnOk result (Acts [] (report_in told) self.old self.new) }
     {
         match self.told.push_back(told) {

@@ -7,7 +7,8 @@ use crate::link_duty::{LONGEST, PATIENCE};
 use crate::tended_set::{TendError, TendedSet};
 use crate::told::Told;
 use group_changeover::Answer;
-use link_group::{Command, LinkState};
+use link_group::LinkState;
+use link_processes::Command;
 
 impl TendedSet {
     /// Begins a changeover, unless one goes on; its order is then owed.

@@ -2,15 +2,15 @@
 ghost use Rattle.std.specs.Prelude.{◌≡◌, ◌∷◌, [], true, OnOk, IfSome, IsNone};
 ghost use Rattle.link_group.specs.Lines.{ByCommand, IsCommandError};
 ghost use Rattle.line_tending.specs.Giving.{WasGiven};
-ghost use Rattle.line_tending.specs.Rounds.{Acts, Adds, AddsHeeded, HandsOut, HeedsEach, ToldAll};
-ghost use Rattle.line_tending.specs.Telling.{report_told, message_told, status_told};
+ghost use Rattle.line_tending.specs.Rounds.{Acts, Adds, AddsHeeded, HandsOut, HeedsEach, IsTaken, ToldAll};
+ghost use Rattle.line_tending.specs.Telling.{message_told, status_told};
 
 use crate::came::Came;
 use crate::link_duty::{LinkDuty, Testing};
 use crate::tended_set::{TendError, TendedSet};
 use crate::told::Told;
 use group_changeover::{Hearing, Kind};
-use link_group::Command;
+use link_processes::Command;
 use link_transceiver::{LinkStatus, Report};
 use resend_store::Msu;
 
@@ -60,8 +60,9 @@ impl TendedSet {
 
     /// Takes a report of a link.
     fn heed(&mut self, link: usize, report: Report) -> Result<(), TendError>
-        ensures { OnOk result (Acts [] (report_told self.old.plan link report) self.old self.new) }
+        ensures { OnOk result (IsTaken (record { link = link; report = report }) self.old self.new) }
     {
+        self.note_report(link, &report);
         match report {
             Report::Message(msu) => self.heed_message(link, msu),
             Report::Status(status) => self.heed_status(link, status),

@@ -7,9 +7,9 @@ ghost use Rattle.line_tending.specs.Rounds.{Handed, reports_told};
 ghost use Rattle.line_tending.specs.Tended.{Tended};
 ghost use Rattle.line_tending.specs.declared.told.Told.{Told};
 
-/// The set changes only by its calls, in which `send` took these messages.
+/// The set changes only by its calls, in which `send` took these messages and links delivered these reports.
 pub fn a_life_is_by_calls()
-    ensures { (t u : Tended) (sent : List Msu) (handed : List Handed) (told : List Told) → Lives t sent handed told u → ByCalls t.set sent u.set }
+    ensures { (t u : Tended) (sent : List Msu) (handed : List Handed) (told : List Told) → Lives t sent handed told u → ByCalls t.set sent handed u.set }
 {}
 
 /// The reports made, followed by those pending, are those that were pending at first, followed by the reports that

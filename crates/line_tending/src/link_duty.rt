@@ -3,7 +3,7 @@ ghost use Rattle.std.specs.Prelude.{◌≡◌, Some};
 ghost use Rattle.line_tending.specs.Cares.{is_order, waits, new_care, risen, fallen, desired, let_be, changing, stopped, handed_out, tested, numbered, owing, left_on, is_over, owed_by, owed_on, given_up, begun, waited, is_coming, is_due, is_emergency, lacks_emergency, is_eased, urged, is_numbered, may_say, spoken};
 
 use group_changeover::Kind;
-use link_group::Command;
+use link_processes::Command;
 
 /// Q.704's T2, in ticks. This long a message about a link is owed and its answer awaited, counting only ticks in which
 /// another link would take messages about it. A due Start waits this long at most.
@@ -79,8 +79,6 @@ pub struct LinkDuty {
     pub rested: u64,
     /// The tick at which its Start falls due, if a Start is pending.
     pub due: Option<u64>,
-    /// The local processor is out, by order.
-    pub outage: bool,
     /// The order about its emergency.
     pub urgency: Urgency,
     /// An emergency was declared for it, and hasn't ended since.
@@ -162,7 +160,6 @@ impl LinkDuty {
             stopping: false,
             rested: 0,
             due: None,
-            outage: false,
             urgency: Urgency::Open,
             urgent: false,
             patience: PATIENCE,
@@ -243,19 +240,11 @@ impl LinkDuty {
         }
     }
 
-    /// It took a command: power on, a local processor outage or its end, or the begin or end of its emergency.
+    /// It took a command: power on, or the begin or end of its emergency.
     pub fn obeyed(self, command: Command) -> LinkDuty {
         match command {
             Command::PowerOn => LinkDuty {
                 powered: true,
-                ..self
-            },
-            Command::Outage => LinkDuty {
-                outage: true,
-                ..self
-            },
-            Command::Back => LinkDuty {
-                outage: false,
                 ..self
             },
             Command::Emergency => LinkDuty {

@@ -1,19 +1,23 @@
 //! Orders to a set and its links.
-ghost use Rattle.std.specs.Prelude.{◌≡◌, ◌≤◌, ◌∷◌, [], true, false, Some, Err, OnOk, OnErr, map, min, take, slice_get};
+ghost use Rattle.std.specs.Prelude.{◌≡◌, ◌≤◌, ◌∷◌, [], true, false, Some, Err, IfErr, OnOk, OnErr, map, min, take, slice_get};
 ghost use Rattle.group_changeover.specs.Labels.{label_in};
 ghost use Rattle.group_changeover.specs.Sharing.{link_of, selections};
 ghost use Rattle.link_group.specs.Commanding.{is_start};
-ghost use Rattle.link_group.specs.Lines.{ByCommand};
+ghost use Rattle.link_group.specs.Lines.{ByCommand, IsCommandError};
 ghost use Rattle.link_group.specs.OneLink.{fault_of};
 ghost use Rattle.link_group.specs.Reading.{message_at};
 ghost use Rattle.line_tending.specs.Cares.{LAST};
-ghost use Rattle.line_tending.specs.Rounds.{Acts, Adds};
+ghost use Rattle.line_tending.specs.Giving.{IsLeft, IsDisobeyed};
+ghost use Rattle.line_tending.specs.Readers.{is_put_off};
+ghost use Rattle.line_tending.specs.Orders.{after_order};
+ghost use Rattle.line_tending.specs.Rounds.{Acts, Adds, AddsOrders};
 ghost use Rattle.line_tending.specs.Sending.{tended_send_fault, size_of, octets_in, held_by, is_full_of, is_full_at, finds_no_room};
 
 use crate::tended_set::TendedSet;
-use crate::told::Told;
+use crate::told::Table;
 use group_changeover::{Label, SendError};
-use link_group::{Command, CommandError, is_start};
+use link_group::{CommandError, is_start};
+use link_processes::Command;
 use resend_store::Msu;
 
 /// The number of messages with which a link is full.
@@ -98,27 +102,54 @@ impl TendedSet {
         }
     }
 
-    /// Gives a command to a link, and records its effect in the link's state.
-    fn carry_out(&mut self, link: usize, command: Command) -> Result<(), CommandError>
+    /// Gives a command to a link, unless it would end what holds because of the reader of messages.
+    fn give_or_put_off(&mut self, link: usize, command: Command) -> Result<(), CommandError>
         ensures adds { Adds self.old self.new }
-        ensures ok { OnOk result (ByCommand command link self.old.set self.new.set) }
+        ensures given { OnOk result (is_put_off self.old.reader command ≡ false → ByCommand command link self.old.set self.new.set) }
+        ensures put_off { OnOk result (is_put_off self.old.reader command ≡ true → self.new ≡ self.old) }
+        ensures err { IfErr result (IsLeft (IsCommandError command link self.old.set self.new.set)) }
     {
-        self.give(link, command)?;
-        self.keep(link, self.care(link).obeyed(command));
-        Ok(())
+        if self.reader().puts_off(command) {
+            return Ok(());
+        }
+        self.give(link, command)
     }
 
-    /// Obeys an order to a link. With Start the link is started once that is due.
+    /// Gives a command to a link, or puts it off, and records its effect in the link's state.
+    fn carry_out(&mut self, link: usize, command: Command) -> Result<(), CommandError>
+        ensures adds { AddsOrders self.old self.new }
+        ensures given { OnOk result (is_put_off self.old.reader command ≡ false → ByCommand command link self.old.set self.new.set) }
+        ensures put_off { OnOk result (is_put_off self.old.reader command ≡ true → self.new ≡ record self.old { ordered = self.new.ordered }) }
+        ensures ordered { OnOk result (self.new.ordered ≡ after_order link command self.old.ordered) }
+        ensures kept { OnErr result (self.new.ordered ≡ self.old.ordered) }
+        ensures err { IfErr result (IsLeft (IsCommandError command link self.old.set self.new.set)) }
+    {
+        match self.give_or_put_off(link, command) {
+            Ok(()) => {
+                self.keep(link, self.care(link).obeyed(command));
+                self.note_order(link, command);
+                Ok(())
+            }
+            Err(error) => Err(error),
+        }
+    }
+
+    /// Obeys an order to a link. With Start the link is started once that is due. While the reader of messages is away,
+    /// Back and Free are kept until it is back.
     ///
     /// # Errors
     ///
     /// Those of [`link_group::Group::command`]; nothing changes in the set then, unless memory ran out while reporting
     /// unsure messages. For Start only that the link doesn't exist.
     pub fn obey(&mut self, link: usize, command: Command) -> Result<(), CommandError>
-        ensures adds { Adds self.old self.new }
+        ensures adds { AddsOrders self.old self.new }
         ensures start { OnOk result (is_start command ≡ true → self.new ≡ self.old) }
-        ensures other { OnOk result (is_start command ≡ false → ByCommand command link self.old.set self.new.set) }
+        ensures put_off { OnOk result (is_put_off self.old.reader command ≡ true → self.new ≡ record self.old { ordered = self.new.ordered }) }
+        ensures ordered { OnOk result (is_start command ≡ false → self.new.ordered ≡ after_order link command self.old.ordered) }
+        ensures kept { OnErr result (self.new.ordered ≡ self.old.ordered) }
+        ensures other { OnOk result (is_start command ≡ false → is_put_off self.old.reader command ≡ false → ByCommand command link self.old.set self.new.set) }
         ensures none { self.old.plan.links ≤ link → result ≡ Err CommandError.NoLink }
+        ensures err { IfErr result (IsDisobeyed command link self.old self.new) }
     {
         if link >= self.len() {
             return Err(CommandError::NoLink);
@@ -131,10 +162,10 @@ impl TendedSet {
         self.carry_out(link, command)
     }
 
-    /// The report of the links of selections.
-    pub fn shared_out(&self) -> Told
-        ensures { result ≡ Told.Shared (map (link_of self.now.set.table) selections) }
+    /// The links of selections, for the answer to a question.
+    pub fn shared_out(&self) -> Table
+        ensures { result.0 ≡ map (link_of self.now.set.table) selections }
     {
-        Told::Shared(self.table())
+        Table(self.table())
     }
 }

@@ -1,21 +1,32 @@
 //! Resuming messages after an outage, and restarting traffic.
-ghost use Rattle.std.specs.Prelude.{◌≡◌, OnOk};
+ghost use Rattle.std.specs.Prelude.{◌≡◌, true, false, OnOk};
+ghost use Rattle.link_group.specs.Lines.{ByCommand, IsCommandError};
+ghost use Rattle.line_tending.specs.Giving.{WasGiven, resumes};
 ghost use Rattle.line_tending.specs.Rounds.{Adds};
 
 use crate::tended_set::{TendError, TendedSet};
-use link_group::{Command, LinkState};
+use link_group::LinkState;
+use link_processes::Command;
+
+/// Whether a link resumes its messages after an outage: it carries none, though it is in service, not held, and no
+/// processor is out.
+fn resumes(state: LinkState) -> bool
+    ensures { result ≡ resumes state }
+{
+    !state.carrying && state.in_service && !state.held && !state.far_out && !state.own_out
+}
 
 impl TendedSet {
-    /// Resumes a link that carries no messages after an outage: it is in service, not held, and no processor is out.
+    /// Gives Continue to a link that resumes its messages.
     pub(crate) fn resume(&mut self, link: usize, state: LinkState) -> Result<(), TendError>
-        ensures { OnOk result (Adds self.old self.new) }
+        ensures adds { OnOk result (Adds self.old self.new) }
+        ensures gives { OnOk result (resumes state ≡ true → WasGiven (ByCommand Command.Continue link self.old.set self.new.set) (IsCommandError Command.Continue link self.old.set self.new.set)) }
+        ensures rests { OnOk result (resumes state ≡ false → self.new ≡ self.old) }
     {
-        let is_able = state.in_service && !state.held && !state.far_out && !state.own_out;
-        if !is_able || state.carrying {
+        if !resumes(state) {
             return Ok(());
         }
-        let _taken = self.command(link, Command::Continue)?;
-        Ok(())
+        self.offer(link, Command::Continue)
     }
 
     /// The first link that is in service and admitted.

@@ -1,5 +1,5 @@
 //! Sharing out selections anew.
-ghost use Rattle.std.specs.Prelude.{◌≡◌, OnOk, map};
+ghost use Rattle.std.specs.Prelude.{◌≡◌, true, OnOk, is_some, map};
 ghost use Rattle.group_changeover.specs.Sharing.{link_of, selections};
 ghost use Rattle.line_tending.specs.Rounds.{Adds};
 
@@ -73,6 +73,19 @@ impl TendedSet {
     /// Whether messages to send wait.
     pub fn sends_wait(&self) -> bool {
         matches!(self.sharing, Sharing::Drains(_))
+    }
+
+    /// Whether a selection is about to move to another link. Meanwhile its messages to send wait.
+    pub fn moves(&self, selection: u8) -> bool
+        ensures { result ≡ true → is_some (link_of self.now.set.table selection) ≡ true }
+    {
+        if !self.sends_wait() {
+            return false;
+        }
+        match self.link_of(selection) {
+            Some(link) => pick(self.able().as_slice(), selection) != Some(link),
+            None => false,
+        }
     }
 
     /// The links that may have selections, either with a processor outage or without.

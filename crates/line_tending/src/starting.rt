@@ -3,13 +3,15 @@ ghost use Rattle.std.specs.Prelude.{◌≡◌, true, false, IfOk, OnOk};
 ghost use Rattle.link_group.specs.Lines.{ByCommand, IsCommandError};
 ghost use Rattle.line_tending.specs.Cares.{lacks_emergency};
 ghost use Rattle.line_tending.specs.Giving.{WasGiven, StartsAs};
+ghost use Rattle.line_tending.specs.Orders.{ordered_of};
+ghost use Rattle.line_tending.specs.Readers.{StartsHeld};
 ghost use Rattle.line_tending.specs.Rounds.{Adds};
 
 use crate::link_duty::{LinkDuty, PATIENCE};
 use crate::tended_set::{TendError, TendedSet};
 use crate::told::Told;
 use arrayvec::ArrayVec;
-use link_group::Command;
+use link_processes::Command;
 
 impl TendedSet {
     /// Whether another link is in service.
@@ -112,6 +114,24 @@ impl TendedSet {
         self.command(link, Command::Start)
     }
 
+    /// Gives a link Start, and if it takes it what holds because of the reader, and the outage that was ordered. Returns
+    /// whether it took Start.
+    fn start_held(
+        &mut self,
+        link: usize,
+        care: LinkDuty,
+        another_serves: bool,
+    ) -> Result<bool, TendError>
+        ensures adds { OnOk result (Adds self.old self.new) }
+        ensures starts { IfOk result (StartsHeld care another_serves link self.old.reader (ordered_of link self.old.ordered) self.old.set self.new.set) }
+    {
+        if !self.begin_start(link, care, another_serves)? {
+            return Ok(false);
+        }
+        self.press_started(link)?;
+        Ok(true)
+    }
+
     /// Starts a link if that is due; it waits at most 1,400 ticks for a message owed about the link.
     pub(crate) fn start(&mut self, link: usize) -> Result<(), TendError>
         ensures { OnOk result (Adds self.old self.new) }
@@ -125,16 +145,11 @@ impl TendedSet {
         }
         self.leave_stuck(link)?;
         let care = self.care(link);
-        if !self.begin_start(link, care, self.another_serves(link))? {
+        if !self.start_held(link, care, self.another_serves(link))? {
             return Ok(());
         }
         let care = self.care(link).begun();
         self.keep(link, care);
-        self.tell(Told::Started(link))?;
-        if !care.outage {
-            return Ok(());
-        }
-        let _taken = self.command(link, Command::Outage)?;
-        Ok(())
+        self.tell(Told::Started(link))
     }
 }

@@ -3,11 +3,13 @@ ghost use Rattle.std.specs.Prelude.{◌≡◌, ◌++◌, [], true, false, length
 ghost use Rattle.std.specs.List.{list_any};
 ghost use Rattle.link_group.specs.OneLink.{is_changing};
 ghost use Rattle.link_group.specs.Tables.{changing_by};
-ghost use Rattle.line_tending.specs.Telling.{report_in};
+ghost use Rattle.line_tending.specs.Telling.{report_in, news_by};
 ghost use Rattle.line_tending.specs.Tended.{IsNewTended};
 
 use crate::ends::Ends;
 use crate::link_duty::LinkDuty;
+use crate::ordered::Ordered;
+use crate::reader::Reader;
 use crate::sharing::Sharing;
 use crate::told::{SharedOut, Told};
 use group_changeover::Kind;
@@ -69,6 +71,10 @@ pub struct TendedSet {
     pub(crate) restarts: bool,
     /// The links of selections as last reported.
     pub(crate) shared: SharedOut,
+    /// The state of the reader of messages for level 3.
+    pub(crate) reader: Reader,
+    /// What level 3 ordered of each link.
+    pub(crate) ordered: [Ordered; MOST_LINKS],
     /// For each link, the possibly late order because of which this end began a changeover.
     pub(crate) doubted: [Option<Kind>; MOST_LINKS],
 }
@@ -76,14 +82,14 @@ pub struct TendedSet {
 impl Model for TendedSet {
     ghost use Rattle.std.specs.Coded.{codes};
     ghost use Rattle.tick_wheel.specs.Timers.{timers_code};
-    ghost use Rattle.line_tending.specs.Telling.{reports_in};
+    ghost use Rattle.line_tending.specs.Telling.{reports_in, news_in};
     ghost use Rattle.line_tending.specs.Tended.{Tended};
 
     ghost Value = { Tended };
 
     ghost coded = { Prim.hlevel (codes, timers_code) };
 
-    ghost view = { λ t. record { set = t.set; plan = t.plan; ticks = t.ticks; reports = reports_in t.told.items } };
+    ghost view = { λ t. record { set = t.set; plan = t.plan; ticks = t.ticks; reports = reports_in t.told.items; reader = t.reader; news = news_in t.told.items; ordered = t.ordered } };
 }
 
 impl TendedSet {
@@ -103,6 +109,8 @@ impl TendedSet {
             is_open: false,
             restarts: false,
             shared: [None; MOST_LINKS],
+            reader: Reader::Here,
+            ordered: [Ordered::new(); MOST_LINKS],
             doubted: [None; MOST_LINKS],
         };
         tender.admit_all(!tests);
@@ -192,16 +200,19 @@ impl TendedSet {
     /// The next report, if there is one.
     pub fn take_told(&mut self) -> Option<Told>
         ensures some { IfSome result (λ told. self.old.reports ≡ report_in told ++ self.new.reports) }
+        ensures news { IfSome result (λ told. self.old.news ≡ news_by told ++ self.new.news) }
         ensures none { IsNone result → self.old.reports ≡ [] }
+        ensures no_news { IsNone result → self.old.news ≡ [] }
         ensures left { IsNone result → self.new ≡ self.old }
-        ensures same { self.new ≡ record self.old { reports = self.new.reports } }
+        ensures same { self.new ≡ record self.old { reports = self.new.reports; news = self.new.news } }
     {
         self.told.pop_front()
     }
 
-    /// Queues something other than a report of a link.
+    /// Queues something other than a report of a link or of the reader.
     pub(crate) fn tell(&mut self, told: Told) -> Result<(), TendError>
-        requires { report_in told ≡ [] }
+        requires no_report { report_in told ≡ [] }
+        requires no_news { news_by told ≡ [] }
         ensures { self.new ≡ self.old }
     {
         match self.told.push_back(told) {

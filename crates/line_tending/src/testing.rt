@@ -5,7 +5,8 @@ ghost use Rattle.line_tending.specs.Rounds.{Adds};
 use crate::ends::Pattern;
 use crate::link_duty::Testing;
 use crate::tended_set::{TendError, TendedSet};
-use link_group::{Command, LinkState};
+use link_group::LinkState;
+use link_processes::Command;
 use resend_store::Msu;
 
 /// The ticks to wait for the answer to a test (Q.707's T1: 4 to 12 s).

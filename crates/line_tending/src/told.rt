@@ -1,7 +1,7 @@
 //! The reports of a set.
 ghost use Rattle.std.specs.Prelude.{Some};
 ghost use Rattle.std.specs.List.{flat_map};
-ghost use Rattle.line_tending.specs.Texts.{kind_text, octet_text, message_text, link_text, told_text};
+ghost use Rattle.line_tending.specs.Texts.{kind_text, octet_text, message_text, link_text, table_text, told_text};
 
 use group_changeover::Kind;
 use resend_store::Msu;
@@ -9,6 +9,10 @@ use std::fmt;
 
 /// The link of each selection.
 pub type SharedOut = [Option<usize>; 16];
+
+/// The links of selections, in the answer to a question.
+#[derive(Clone, Copy, Debug, PartialEq, Eq)]
+pub struct Table(pub SharedOut);
 
 /// A report of a set.
 #[derive(Debug, Drop, PartialEq, Eq)]
@@ -41,6 +45,10 @@ pub enum Told {
     Looped(usize),
     /// Selections have new links.
     Shared(SharedOut),
+    /// The reader of messages is away.
+    ReaderAway,
+    /// The reader of messages is back.
+    ReaderBack,
 }
 
 /// A kind of changeover message, as it is printed.
@@ -134,6 +142,15 @@ impl fmt::Display for Links<'_> {
     }
 }
 
+impl fmt::Display for Table {
+    ghost output = { λ table. Some (table_text table.0) };
+
+    fn fmt<W: fmt::Write>(&self, f: &mut fmt::Formatter<W>) -> fmt::Result {
+        let links = Links(self.0.as_slice());
+        write!(f, "table{links}")
+    }
+}
+
 impl fmt::Display for Told {
     ghost output = { λ told. Some (told_text told) };
 
@@ -165,6 +182,8 @@ impl fmt::Display for Told {
                 let links = Links(shared.as_slice());
                 write!(f, "shared{links}")
             }
+            Told::ReaderAway => f.write_str("reader away"),
+            Told::ReaderBack => f.write_str("reader back"),
         }
     }
 }

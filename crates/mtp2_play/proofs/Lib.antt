@@ -1,3 +1,4 @@
+mod Beginning
 mod CheckedSets
 mod Comparing
 mod Failing

@@ -2,6 +2,7 @@
 use Rattle.std.proofs.Common.{◌≡◌, ℕ, Bool, List, Option, ap}
 use Rattle.line_filter.specs.Acts.{Act}
 use Rattle.line_filter.specs.Filters.{Goes, Serves, Served, IsOver, ServesPart, IsBegun, Streams, Line}
+use Rattle.line_filter.specs.Reporting.{ToldLine}
 use Rattle.line_filter.specs.Orders.{Timed, Tells, nothing, says, TellsAll, Obeys}
 use Rattle.line_filter.specs.Runs.{State, Exchanges, ObeysDue, no_order, one_order, looks, ObeysAll, Minds, Behind, between, eighth, Steps, Runs, begins, octet}
 use Rattle.line_filter.specs.Speaking.{Voice, Gives, fixed, fresh, silent}
@@ -20,17 +21,17 @@ gives f acts others m t v o u w (fixed ready sending same) = fixed ready sending
 gives f acts others m t v o u w (fresh unit ready act stuffs) = fresh unit ready (m _ _ _ act) stuffs
 gives f acts others m t v o u w (silent ready act none fills) = silent ready (m _ _ _ act) none fills
 
-tells : {A B : Type 0} (f : A → B) (acts : A → Act → A → Type 0) (others : B → Act → B → Type 0) (m : Maps f acts others) (now : ℕ) (t : A) (bytes : List ℕ) (u : A)
+tells : {A B : Type 0} (f : A → B) (acts : A → Act → A → Type 0) (others : B → Act → B → Type 0) (m : Maps f acts others) (now : ℕ) (t : A) (bytes : List ToldLine) (u : A)
     → Tells acts now t bytes u → Tells others now (f t) bytes (f u)
 tells f acts others m now t _ _ nothing = nothing
 tells f acts others m now t _ _ (says text w before act) = says text (f w) (tells f acts others m now t _ _ before) (m _ _ _ act)
 
-tells_all : {A B : Type 0} (f : A → B) (acts : A → Act → A → Type 0) (others : B → Act → B → Type 0) (m : Maps f acts others) (now : ℕ) (t : A) (bytes : List ℕ) (u : A)
+tells_all : {A B : Type 0} (f : A → B) (acts : A → Act → A → Type 0) (others : B → Act → B → Type 0) (m : Maps f acts others) (now : ℕ) (t : A) (bytes : List ToldLine) (u : A)
     → TellsAll acts now t bytes u → TellsAll others now (f t) bytes (f u)
 tells_all f acts others m now t bytes u x =
     record { last = f x.last; tells = tells f acts others m now t bytes x.last x.tells; none_left = m _ _ _ x.none_left }
 
-obeys : {A B : Type 0} (f : A → B) (acts : A → Act → A → Type 0) (others : B → Act → B → Type 0) (m : Maps f acts others) (now : ℕ) (t : A) (order bytes : List ℕ) (u : A)
+obeys : {A B : Type 0} (f : A → B) (acts : A → Act → A → Type 0) (others : B → Act → B → Type 0) (m : Maps f acts others) (now : ℕ) (t : A) (order : List ℕ) (bytes : List ToldLine) (u : A)
     → Obeys acts now t order bytes u → Obeys others now (f t) order bytes (f u)
 obeys f acts others m now t order bytes u x = record {
   answer = x.answer;
@@ -42,14 +43,14 @@ obeys f acts others m now t order bytes u x = record {
 }
 
 obeys_due : {A B : Type 0} (f : A → B) (acts : A → Act → A → Type 0) (others : B → Act → B → Type 0) (m : Maps f acts others) (now : ℕ) (t : A)
-    (left : Option (List Timed)) (bytes : List ℕ) (u : A) (fewer : Option (List Timed))
+    (left : Option (List Timed)) (bytes : List ToldLine) (u : A) (fewer : Option (List Timed))
     → ObeysDue acts now t left bytes u fewer → ObeysDue others now (f t) left bytes (f u) fewer
 obeys_due f acts others m now t left _ _ _ no_order = no_order
 obeys_due f acts others m now t left _ _ _ (one_order text more w last before next goes_on obeyed) =
     one_order text more (f w) last (obeys_due f acts others m now t left _ _ _ before) next goes_on (obeys f acts others m now _ text more w obeyed)
 obeys_due f acts others m now t left _ _ _ (looks more last before looked) = looks more last (obeys_due f acts others m now t left _ _ _ before) looked
 
-obeys_all : {A B : Type 0} (f : A → B) (acts : A → Act → A → Type 0) (others : B → Act → B → Type 0) (m : Maps f acts others) (now : ℕ) (s : State A) (bytes : List ℕ)
+obeys_all : {A B : Type 0} (f : A → B) (acts : A → Act → A → Type 0) (others : B → Act → B → Type 0) (m : Maps f acts others) (now : ℕ) (s : State A) (bytes : List ToldLine)
     (goes_on : Bool) (t : State A) → ObeysAll acts now s bytes goes_on t → ObeysAll others now (at f s) bytes goes_on (at f t)
 obeys_all f acts others m now s bytes goes_on t x = record {
   first = x.first;
@@ -61,7 +62,7 @@ obeys_all f acts others m now s bytes goes_on t x = record {
   are = x.are;
 }
 
-minds : {A B : Type 0} (f : A → B) (acts : A → Act → A → Type 0) (others : B → Act → B → Type 0) (m : Maps f acts others) (now : ℕ) (s : State A) (bytes : List ℕ)
+minds : {A B : Type 0} (f : A → B) (acts : A → Act → A → Type 0) (others : B → Act → B → Type 0) (m : Maps f acts others) (now : ℕ) (s : State A) (bytes : List ToldLine)
     (goes_on : Bool) (t : State A) → Minds acts now s bytes goes_on t → Minds others now (at f s) bytes goes_on (at f t)
 minds f acts others m now s bytes goes_on t x = record {
   ticked = f x.ticked;
@@ -76,13 +77,13 @@ minds f acts others m now s bytes goes_on t x = record {
   are = x.are;
 }
 
-behind : {A B : Type 0} (f : A → B) (acts : A → Act → A → Type 0) (others : B → Act → B → Type 0) (m : Maps f acts others) (count : ℕ) (s : State A) (bytes : List ℕ)
+behind : {A B : Type 0} (f : A → B) (acts : A → Act → A → Type 0) (others : B → Act → B → Type 0) (m : Maps f acts others) (count : ℕ) (s : State A) (bytes : List ToldLine)
     (goes_on : Bool) (t : State A) → Behind acts count s bytes goes_on t → Behind others count (at f s) bytes goes_on (at f t)
 behind f acts others m count s _ _ _ (between not) = between not
 behind f acts others m count s _ _ _ (eighth is x) = eighth is (minds f acts others m _ s _ _ _ x)
 
 steps : {A B : Type 0} (f : A → B) (acts : A → Act → A → Type 0) (others : B → Act → B → Type 0) (m : Maps f acts others) (count : ℕ) (s : State A) (comes out : ℕ)
-    (bytes : List ℕ) (goes_on : Bool) (t : State A) → Steps acts count s comes out bytes goes_on t → Steps others count (at f s) comes out bytes goes_on (at f t)
+    (bytes : List ToldLine) (goes_on : Bool) (t : State A) → Steps acts count s comes out bytes goes_on t → Steps others count (at f s) comes out bytes goes_on (at f t)
 steps f acts others m count s comes out bytes goes_on t x = record {
   middle = at f x.middle;
   first = x.first;
@@ -100,14 +101,14 @@ steps f acts others m count s comes out bytes goes_on t x = record {
 }
 
 runs : {A B : Type 0} (f : A → B) (acts : A → Act → A → Type 0) (others : B → Act → B → Type 0) (m : Maps f acts others) (count : ℕ) (s : State A)
-    (come out bytes : List ℕ) (goes_on : Bool) (t : State A) → Runs acts count s come out bytes goes_on t
+    (come out : List ℕ) (bytes : List ToldLine) (goes_on : Bool) (t : State A) → Runs acts count s come out bytes goes_on t
     → Runs others count (at f s) come out bytes goes_on (at f t)
 runs f acts others m count s _ _ _ _ _ begins = begins
 runs f acts others m count s _ _ _ _ _ (octet comes out more goes_on u before step) =
     octet comes out more goes_on (at f u) (runs f acts others m count s _ _ _ _ _ before) (steps f acts others m _ _ comes out more goes_on u step)
 
 serves : {A B : Type 0} (f : A → B) (acts : A → Act → A → Type 0) (others : B → Act → B → Type 0) (m : Maps f acts others) (bits : Bits) (count : ℕ) (s : State A)
-    (read written bytes : List ℕ) (goes_on : Bool) (next : ℕ) (t : State A) → Serves acts bits count s read written bytes goes_on next t
+    (read written : List ℕ) (bytes : List ToldLine) (goes_on : Bool) (next : ℕ) (t : State A) → Serves acts bits count s read written bytes goes_on next t
     → Serves others bits count (at f s) read written bytes goes_on next (at f t)
 serves f acts others m bits count s read written bytes goes_on next t x = record {
   out = x.out;

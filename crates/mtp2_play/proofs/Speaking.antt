@@ -13,10 +13,7 @@ use Rattle.line_play.specs.Lines.{end_acts}
 use Rattle.line_play.specs.Opening.{IsNewOver}
 use Rattle.line_play.specs.declared.link.end.LinkEnd.{LinkEnd}
 use Rattle.line_filter.specs.Reporting.{Stand}
-use Rattle.mtp2_play.specs.Spoken.{AreGiven, ordered_by, SpokeBy, Spoke, SpokeOver, Begun, BegunOver, IsUntouched}
-use Rattle.mtp2_words.specs.Ends.{limits_over}
-use Rattle.resend_store.specs.declared.messages.Mode.{Mode}
-use Rattle.resend_store.specs.declared.messages.RoundLimits.{RoundLimits}
+use Rattle.mtp2_play.specs.Spoken.{chosen_by, AreGiven, ordered_by, SpokeBy, Spoke, SpokeOver, Begun, BegunOver, IsUntouched}
 use Rattle.mtp2_words.specs.declared.ends.LineEnd.{LineEnd}
 
 pub spoke : {O P : Type 0} (octets : Option (List ℕ)) (left : O → Option (List Timed)) (bits : Bits) (ahead count : ℕ) (old new : Desk LinkEnd O P) (before after : Streams)
@@ -66,21 +63,14 @@ begun_of orders one other bits ahead old new same h =
     let P : Term → Type 0 = λ t. Begun orders t bits ahead old new in
     subst P same h
 
--- with the limits replaced by equal ones
-pub over_limits : (known : Option (List ℕ)) (one other : RoundLimits) (mode : Mode) (term : Term) → one ≡ other → IsGiven known (IsNewOver one mode term)
-    → IsGiven known (IsNewOver other mode term)
-over_limits known one other mode term same h =
-    let P : RoundLimits → Type 0 = λ l. IsGiven known (IsNewOver l mode term) in
-    subst P same h
-
 -- on the set of some bytes
-pub over_set : (known : Option (List ℕ)) (usual : RoundLimits) (end : LineEnd) (term : Term) (old new : Line) → IsGiven known (IsNewOver (limits_over usual end) end.mode term)
-    → Spoke end.orders term end.bits (min end.ahead MOST_AHEAD) old new → IsGiven known (SpokeOver usual end old new)
-over_set known usual end term old new h spoke =
+pub over_set : (known : Option (List ℕ)) (end : LineEnd) (term : Term) (old new : Line) → IsGiven known (IsNewOver (chosen_by end) end.mode term)
+    → Spoke end.orders term end.bits (min end.ahead MOST_AHEAD) old new → IsGiven known (SpokeOver end old new)
+over_set known end term old new h spoke =
     record { bytes = h.bytes; are_known = h.are_known; holds = record { term = term; is_new = h.holds; spoke = spoke } }
 
-pub begun_over : (known : Option (List ℕ)) (usual : RoundLimits) (end : LineEnd) (term : Term) (old new : Line) → IsGiven known (IsNewOver (limits_over usual end) end.mode term)
-    → IsUntouched old new ⊎ Begun end.orders term end.bits (min end.ahead MOST_AHEAD) old new → IsUntouched old new ⊎ IsGiven known (BegunOver usual end old new)
-begun_over known usual end term old new h (inl same) = inl same
-begun_over known usual end term old new h (inr it) =
+pub begun_over : (known : Option (List ℕ)) (end : LineEnd) (term : Term) (old new : Line) → IsGiven known (IsNewOver (chosen_by end) end.mode term)
+    → IsUntouched old new ⊎ Begun end.orders term end.bits (min end.ahead MOST_AHEAD) old new → IsUntouched old new ⊎ IsGiven known (BegunOver end old new)
+begun_over known end term old new h (inl same) = inl same
+begun_over known end term old new h (inr it) =
     inr (record { bytes = h.bytes; are_known = h.are_known; holds = record { term = term; is_new = h.holds; begun = it } })

@@ -12,7 +12,6 @@ use Rattle.sdl_tables.proofs.Growing.{taken_more}
 use Rattle.sdl_lex.specs.Lexed.{Answers}
 use Rattle.sdl_lex.specs.declared.lexemes.Token.{Token}
 use Rattle.sdl_tables.specs.Plain.{PlainBlock}
-use Rattle.sdl_tree.specs.Syntax.{Reads}
 use Rattle.script_point.specs.Pointed.{IsPointed, IsHead, IsBegin, IsEnd}
 use Rattle.script_point.specs.Pointing.{token_end}
 use Rattle.script_point.specs.declared.notes.Notes.{Notes}
@@ -22,7 +21,7 @@ use Rattle.sdl_warnings.specs.declared.warning.Warning.{Warning}
 use Rattle.mtp2_words.specs.declared.requests.Warned.{Warned}
 use Rattle.mtp2_words.specs.declared.requests.Warned.TheVariants.{Unsaid, Told, Counted}
 use Rattle.mtp2_play.specs.Checking.{IsWarned, IsUnwarned, warned_status}
-use Rattle.mtp2_play.specs.Warned.{IsLong, IsShort, PointsWhole, IsWarning, AreTold, WarnsOf, MOST_SHOWN, warned_at}
+use Rattle.mtp2_play.specs.Warned.{IsMeant, IsLong, IsShort, PointsWhole, IsWarning, AreTold, WarnsOf, MOST_SHOWN, warned_at}
 
 -- ---- the lines of one warning
 
@@ -134,12 +133,12 @@ not_zero n = elim (cases_eq n 0) [
 ]
 
 pub block_warned : (name text : List ℕ) (tokens : List Token) (block : PlainBlock) (found shown seen : List Warning) (old new : List ℕ) (none : Bool) → Answers text (Ok tokens)
-    → Reads tokens block → AreWarnings block found → shown ≡ found → seen ≡ found → AreTold name text tokens shown old new → none ≡ (length seen == 0) → WarnsOf name text old new (not none)
-block_warned name text tokens block found shown seen old new none lexed reads are same sees told empty = record {
+    → IsMeant tokens block → AreWarnings block found → shown ≡ found → seen ≡ found → AreTold name text tokens shown old new → none ≡ (length seen == 0) → WarnsOf name text old new (not none)
+block_warned name text tokens block found shown seen old new none lexed meant are same sees told empty = record {
   tokens = tokens;
   lexed = lexed;
   block = block;
-  reads = reads;
+  meant = meant;
   found = found;
   are = are;
   told = let P : List Warning → Type 0 = λ l. AreTold name text tokens l old new in subst P same told;
@@ -153,7 +152,7 @@ warned_by_one name text old new w = record {
   tokens = w.tokens;
   lexed = w.lexed;
   block = w.block;
-  reads = w.reads;
+  meant = w.meant;
   some = λ none.
       let many = ltb-true 0 (length w.found) (sym w.is_some) in
       let count = length_permutation (block_warnings w.block) w.found w.are.all in
@@ -166,7 +165,7 @@ unwarned_by_none name text old new w = record {
   tokens = w.tokens;
   lexed = w.lexed;
   block = w.block;
-  reads = w.reads;
+  meant = w.meant;
   none =
       let few = ltb-false 0 (length w.found) (sym w.is_some) in
       let count = length_permutation (block_warnings w.block) w.found w.are.all in

@@ -2,27 +2,27 @@
 use Rattle.std.specs.Prelude.{◌≡◌, ◌⊎◌, ℕ, Bool, if◌then◌else◌, List, [], Option, Ok}
 use Rattle.sdl_lex.specs.Lexed.{Answers}
 use Rattle.sdl_lex.specs.declared.lexemes.Token.{Token}
-use Rattle.sdl_tree.specs.Syntax.{Reads}
 use Rattle.sdl_tables.specs.Plain.{PlainBlock}
 use Rattle.sdl_warnings.specs.Warned.{block_warnings}
 use Rattle.script_check.specs.Checked.{IsGiven, PrintsCosts, PrintsRefusal}
+use Rattle.mtp2_play.specs.Warned.{IsMeant}
 use Rattle.mtp2_words.specs.declared.requests.Warned.{Warned}
 use Rattle.mtp2_words.specs.declared.requests.Warned.TheVariants.{Unsaid, Told, Counted}
 
--- the text reads as a block with some warning
+-- the text means a block with some warning
 pub record IsWarned (text : List ℕ) : Type 0 where
   pub tokens : List Token
   pub lexed : Answers text (Ok tokens)
   pub block : PlainBlock
-  pub reads : Reads tokens block
+  pub meant : IsMeant tokens block
   pub some : block_warnings block ≡ [] → ⊥
 
--- the text reads as a block with none
+-- the text means a block with none
 pub record IsUnwarned (text : List ℕ) : Type 0 where
   pub tokens : List Token
   pub lexed : Answers text (Ok tokens)
   pub block : PlainBlock
-  pub reads : Reads tokens block
+  pub meant : IsMeant tokens block
   pub none : block_warnings block ≡ []
 
 -- the exit status for an accepted text, by whether it has a warning

@@ -3,6 +3,7 @@ pub mod Compared
 pub mod Measured
 pub mod Printed
 pub mod Served
+pub mod SetBegins
 pub mod SetRuns
 pub mod Sets
 pub mod Spoken

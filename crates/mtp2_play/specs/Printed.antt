@@ -18,13 +18,12 @@ use Rattle.line_filter.specs.Filters.{Line as Octets}
 use Rattle.line_play.specs.Opening.{IsNoSet}
 use Rattle.line_play.specs.declared.set.opening.SetPlan.{SetPlan}
 use Rattle.mtp2_play.specs.SetRuns.{RanOver, plan_of}
-use Rattle.mtp2_play.specs.Spoken.{SpokeOver, BegunOver, IsUntouched}
-use Rattle.resend_store.specs.declared.messages.RoundLimits.{RoundLimits}
+use Rattle.mtp2_play.specs.Spoken.{chosen_by, SpokeOver, BegunOver, IsUntouched}
 use Rattle.mtp2_words.specs.declared.ends.LineEnd.{LineEnd}
+use Rattle.mtp2_words.specs.declared.set_ends.SetEnd.{SetEnd}
 use Rattle.mtp2_play.specs.Checking.{IsCheckedBytes}
 use Rattle.mtp2_play.specs.Compared.{IsCompared}
-use Rattle.mtp2_play.specs.Sets.{own_text_of}
-use Rattle.mtp2_words.specs.Limits.{usual_limits_of}
+use Rattle.mtp2_play.specs.Sets.{own_text_of, word_text}
 use Rattle.mtp2_words.specs.Own.{text_of}
 use Rattle.mtp2_words.specs.mtp2_text_types.own.OwnSet.{OwnSet}
 use Rattle.mtp2_words.specs.declared.seeing.Seeing.{Seeing}
@@ -70,10 +69,10 @@ pub record AreCheckedAll (sets : List Named) (warned : Warned) (status : ℕ)
 pub record IsPlayedOn (set : Named) (echo : Bool) (status : ℕ) (old new : Option (List ℕ)) :
     Type 0 where
   pub held :
-      status ≡ 0 → IsOnSet (own_text_of set) None (IsPlayed (usual_limits_of set) echo old new)
+      status ≡ 0 → IsOnSet (own_text_of set) None (λ limits. IsPlayed limits echo old new)
   pub missed :
       status ≡ 1 →
-      IsOnSet (own_text_of set) None (IsPlayedInPart (usual_limits_of set) echo old new)
+      IsOnSet (own_text_of set) None (λ limits. IsPlayedInPart limits echo old new)
   pub refused : status ≡ 2 → IsRefused (own_text_of set) None old new
 
 -- the output of `play`, and the text that it has written to the file of the requested view, if
@@ -83,11 +82,11 @@ pub record IsWatchedOn (set : Named) (echo : Bool) (wanted : Wanted) (status : �
   pub held :
       status ≡ 0 →
       IsOnSet (own_text_of set) None
-      (IsWatched (usual_limits_of set) echo wanted old new begun now)
+      (λ limits. IsWatched limits echo wanted old new begun now)
   pub missed :
       status ≡ 1 →
       IsOnSet (own_text_of set) None
-      (IsWatchedInPart (usual_limits_of set) echo wanted old new begun now)
+      (λ limits. IsWatchedInPart limits echo wanted old new begun now)
   pub refused : status ≡ 2 → IsRefused (own_text_of set) None old new
 
 -- the path of the file for a view of a run
@@ -129,24 +128,26 @@ pub record IsFramed (word : List ℕ) (status : ℕ) (old new : Option (List ℕ
   pub refused : status ≡ 2 → PrintsFault old new word
   pub ends : IsDone status
 
--- The run of `line` on its line, with the set of these bytes. With status 0 a new terminal that
--- runs the set spoke there as requested. With any status its output is a beginning of that of such
--- a run. The limits of forced retransmission are the usual ones, except those that are chosen. A
--- set is refused for its text, or for a name that it lacks, before anything is read or written.
-pub record IsSpoken (known : Option (List ℕ)) (usual : RoundLimits) (end : LineEnd) (status : ℕ)
+-- The run of `line` on its line, with the set of these bytes and this name. With status 0 a new
+-- terminal that runs the set spoke there as requested. With any status its output is a beginning of
+-- that of such a run. The limits of forced retransmission are those of the set's text, except those
+-- that are chosen. A set is refused for its text, for a limit in it, or for a name that it lacks,
+-- before anything is read or written.
+pub record IsSpoken (name : List ℕ) (known : Option (List ℕ)) (end : LineEnd) (status : ℕ)
     (old new : Octets) : Type 0 where
-  pub spoke : status ≡ 0 → IsGiven known (SpokeOver usual end old new)
-  pub begun : IsUntouched old new ⊎ IsGiven known (BegunOver usual end old new)
-  pub refused : status ≡ 2 → IsGiven known (IsNoSet None None)
+  pub spoke : status ≡ 0 → IsGiven known (SpokeOver end old new)
+  pub begun : IsUntouched old new ⊎ IsGiven known (BegunOver end old new)
+  pub refused : status ≡ 2 → IsGiven known (IsNoSet name (chosen_by end) end.mode None None)
   pub untouched : status ≡ 2 → IsUntouched old new
   pub ends : IsDone status
 
--- The run of `set` on its lines, with the process set of these bytes. With status 0 a new link set
--- that runs the processes ran there, round by round. The set is refused for its text, or for a name
--- that it lacks.
-pub record IsSetRun (known : Option (List ℕ)) (plan : SetPlan) (ahead status : ℕ) : Type 0 where
-  pub ran : status ≡ 0 → IsGiven known (RanOver plan ahead)
-  pub refused : status ≡ 2 → IsGiven known (IsNoSet None None)
+-- The run of `set` on its lines, with the process set of these bytes and this name. With status 0 a
+-- new link set that runs the processes ran there, round by round, on the orders of its source. The
+-- set is refused for its text, for a limit in it, or for a name that it lacks.
+pub record IsSetRun (name : List ℕ) (known : Option (List ℕ)) (plan : SetPlan) (end : SetEnd)
+    (status : ℕ) : Type 0 where
+  pub ran : status ≡ 0 → IsGiven known (RanOver plan end)
+  pub refused : status ≡ 2 → IsGiven known (IsNoSet name plan.limits plan.mode None None)
   pub ends : IsDone status
 
 -- the output of `text`: the text of a built-in set
@@ -162,9 +163,9 @@ IsAnswered (Play set script seen) status old new =
     IsPlayedOn set seen.echo status old.written new.written
 IsAnswered (Soak script workers) status old new = IsServed workers status old.written new.written
 IsAnswered (Line set end) status old new =
-    IsSpoken (own_text_of set) (usual_limits_of set) end status old new
+    IsSpoken (word_text set) (own_text_of set) end status old new
 IsAnswered (Tend set lines end) status old new =
-    IsSetRun (own_text_of set) (plan_of set (length lines.items) end) end.ahead status
+    IsSetRun (word_text set) (own_text_of set) (plan_of (length lines.items) end) end status
     × IsUntouched old new
 IsAnswered (Frame octets) status old new = IsFramed octets.now status old.written new.written
 IsAnswered (Draw set process states) status old new = IsDone status

@@ -11,8 +11,7 @@ use Rattle.line_filter.specs.declared.filter.Bits.{Bits}
 use Rattle.line_play.specs.Lines.{end_acts}
 use Rattle.line_play.specs.Opening.{IsNewOver}
 use Rattle.line_play.specs.declared.link.end.LinkEnd.{LinkEnd}
-use Rattle.mtp2_words.specs.Ends.{limits_over}
-use Rattle.resend_store.specs.declared.messages.RoundLimits.{RoundLimits}
+use Rattle.line_play.specs.declared.link.opening.ChosenLimits.{ChosenLimits}
 use Rattle.mtp2_words.specs.declared.ends.LineEnd.{LineEnd}
 
 -- without a path of orders there are none; the orders of a path aren't known
@@ -54,11 +53,15 @@ pub record Spoke {A : Type 0} (orders : Option A) (term : Term) (bits : Bits) (a
       (record { read = old.read; written = old.written; told = told_before })
       (record { read = new.read; written = new.written; told = told })
 
--- a new terminal that runs the set of these bytes spoke, with the chosen limits or these
-pub record SpokeOver (usual : RoundLimits) (end : LineEnd) (old new : Line) (bytes : List ℕ) :
+-- the limits that words choose
+abbrev pub chosen_by : LineEnd → ChosenLimits
+chosen_by end = record { messages = end.messages; octets = end.octets }
+
+-- a new terminal that runs the set of these bytes spoke, with the chosen limits or its text's
+pub record SpokeOver (end : LineEnd) (old new : Line) (bytes : List ℕ) :
     Type 0 where
   pub term : Term
-  pub is_new : IsNewOver (limits_over usual end) end.mode term bytes
+  pub is_new : IsNewOver (chosen_by end) end.mode term bytes
   pub spoke : Spoke end.orders term end.bits (min end.ahead MOST_AHEAD) old new
 
 -- A terminal began to speak: its output is a beginning of `ahead` octets of silence, followed by
@@ -71,11 +74,12 @@ pub record Begun {A : Type 0} (orders : Option A) (term : Term) (bits : Bits) (a
   pub is_first : IsFirst octets term first
   pub begun : IsBegun end_acts bits ahead 0 first old new
 
--- a new terminal that runs the set of these bytes began to speak, with the chosen limits or these
-pub record BegunOver (usual : RoundLimits) (end : LineEnd) (old new : Line) (bytes : List ℕ) :
+-- a new terminal that runs the set of these bytes began to speak, with the chosen limits or its
+-- text's
+pub record BegunOver (end : LineEnd) (old new : Line) (bytes : List ℕ) :
     Type 0 where
   pub term : Term
-  pub is_new : IsNewOver (limits_over usual end) end.mode term bytes
+  pub is_new : IsNewOver (chosen_by end) end.mode term bytes
   pub begun : Begun end.orders term end.bits (min end.ahead MOST_AHEAD) old new
 
 -- nothing was read on the line, or written there

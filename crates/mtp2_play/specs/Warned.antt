@@ -9,6 +9,7 @@ use Rattle.sdl_tables.specs.Plain.{PlainBlock}
 use Rattle.script_point.specs.Pointed.{IsPointed, IsHead, IsBegin, IsEnd}
 use Rattle.script_point.specs.Pointing.{token_word}
 use Rattle.script_point.specs.declared.notes.Notes.{Notes}
+use Rattle.turn_verify.specs.Meanings.{meaning_of}
 use Rattle.sdl_warnings.specs.Warned.{AreWarnings}
 use Rattle.sdl_warnings.specs.Printed.{kind_name, kind_text}
 use Rattle.sdl_warnings.specs.declared.warning.Warning.{Warning}
@@ -61,13 +62,19 @@ pub record AreTold (name text : List ℕ) (tokens : List Token) (found : List Wa
   pub point : AllZip (IsWarning text tokens) found each
   pub all : new ≡ old ++ flat_map (λ lines. name ++ lines) each
 
--- the output grows by the lines of the warnings of the block that a text reads as; whether there is
+-- the tokens read as a block that means this one: with values in place of its synonyms
+pub record IsMeant (tokens : List Token) (b : PlainBlock) : Type 0 where
+  pub written : PlainBlock
+  pub reads : Reads tokens written
+  pub means : b ≡ meaning_of written
+
+-- the output grows by the lines of the warnings of the block that a text means; whether there is
 -- one
 pub record WarnsOf (name text old new : List ℕ) (some : Bool) : Type 0 where
   pub tokens : List Token
   pub lexed : Answers text (Ok tokens)
   pub block : PlainBlock
-  pub reads : Reads tokens block
+  pub meant : IsMeant tokens block
   pub found : List Warning
   pub are : AreWarnings block found
   pub told : AreTold name text tokens found old new

@@ -1,9 +1,5 @@
--- The sets in the program: the word that names each, its text, and its limits of forced
--- retransmission (Q.703, 6.4).
+-- The sets in the program: the word that names each, and its text.
 use Rattle.std.specs.Prelude.{◌≡◌, ℕ, List, codes}
-use Rattle.resend_store.specs.Limits.{N1}
-use Rattle.resend_store.specs.Messages.{usual_limits}
-use Rattle.resend_store.specs.declared.messages.RoundLimits.{RoundLimits}
 use Rattle.mtp2_text.specs.declared.own.OwnSet.{OwnSet}
 use Rattle.mtp2_text.specs.declared.own.OwnSet.TheVariants.{Standard, Q703, Monitors}
 use Rattle.mtp2_text.specs.declared.standard_text.TheConstants.{STANDARD}
@@ -19,16 +15,6 @@ abbrev pub text_of : OwnSet → List ℕ
 text_of Standard = STANDARD.now
 text_of Q703 = Q703_TEXT.now
 text_of Monitors = MONITORS.now
-
--- N2 of `q703`, unless another value is chosen.
-abbrev pub Q703_OCTETS : ℕ
-Q703_OCTETS = 3000
-
--- The limits, unless others are chosen.
-abbrev pub limits_of : OwnSet → RoundLimits
-limits_of Standard = usual_limits
-limits_of Q703 = record { messages = N1; octets = Q703_OCTETS }
-limits_of Monitors = usual_limits
 
 -- A word names none of the sets.
 abbrev pub NamesNone : List ℕ → Type 0

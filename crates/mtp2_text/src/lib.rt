@@ -8,11 +8,13 @@ ghost use Rattle.turn_verify.specs.Blocks.{MatchesBlock};
 ghost use Rattle.turn_verify.specs.Meant.{IsSetOf};
 ghost use Rattle.turn_verify.specs.Loaded.{IsLoaded, IsRead, IsSoundText, Gives, IsRefused};
 
+mod limits;
 mod monitors_text;
 mod own;
 mod q703_text;
 mod standard_text;
 
+pub use limits::{LimitName, NO_LIMITS, TextLimits, text_limits};
 pub use monitors_text::MONITORS;
 pub use own::OwnSet;
 pub use q703_text::Q703;

@@ -1,4 +1,4 @@
-//! The sets in the program: their words, their texts, the loaded sets, and their limits of forced retransmission.
+//! The sets in the program: their words, their texts, and the loaded sets.
 
 ghost use Rattle.std.specs.Prelude.{◌≡◌, List, IfOk, IfErr, IfSome, IsNone, IsUtf8};
 ghost use Rattle.sdl_lex.specs.declared.lexemes.Token as lexeme;
@@ -6,18 +6,13 @@ ghost use Rattle.sdl_ast.specs.Plain.{PlainBlock};
 ghost use Rattle.turn_verify.specs.Blocks.{MatchesBlock};
 ghost use Rattle.turn_verify.specs.Meant.{IsSetOf};
 ghost use Rattle.turn_verify.specs.Loaded.{IsLoaded, IsRead, IsSoundText, Gives, IsRefused};
-ghost use Rattle.mtp2_text.specs.Own.{limits_of, text_of, word_of, NamesNone};
+ghost use Rattle.mtp2_text.specs.Own.{text_of, word_of, NamesNone};
 
 use crate::monitors_text::MONITORS;
 use crate::q703_text::Q703;
 use crate::standard_text::STANDARD;
-use resend_store::{RoundLimits, USUAL_LIMITS};
 use std::alloc::Global;
 use turn_verify::{LoadFault, Verified, load};
-
-/// The number of unacknowledged octets that forces cyclic retransmission over the set `q703`, unless another is chosen.
-/// On a full line they take less time than the far side may take to acknowledge a message.
-const Q703_OCTETS: u16 = 3_000;
 
 /// The set of a text.
 fn set_of(alloc: Global, text: &str) -> Result<Verified, LoadFault>
@@ -91,18 +86,5 @@ impl OwnSet {
         ensures refused { IfErr result (IsRefused (text_of self)) }
     {
         set_of(alloc, self.text())
-    }
-
-    /// The limits of forced retransmission over the set, unless others are chosen.
-    pub fn round_limits(self) -> RoundLimits
-        ensures { result ≡ limits_of self }
-    {
-        match self {
-            Self::Q703 => RoundLimits {
-                messages: USUAL_LIMITS.messages,
-                octets: Q703_OCTETS,
-            },
-            Self::Standard | Self::Monitors => USUAL_LIMITS,
-        }
     }
 }

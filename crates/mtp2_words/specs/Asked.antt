@@ -14,7 +14,7 @@ use Rattle.mtp2_words.specs.declared.ends.LineEnd.{LineEnd}
 use Rattle.mtp2_words.specs.declared.ends.LineWords.{LineWords}
 use Rattle.mtp2_words.specs.Words.{command_of, says_true, workers_of, IsNamed}
 use Rattle.mtp2_words.specs.Words.{warned_of}
-use Rattle.mtp2_words.specs.Words.{IsSource, IsText, IsSetText, IsNoSetText}
+use Rattle.mtp2_words.specs.Words.{IsSource, IsText}
 use Rattle.mtp2_text.specs.Own.{word_of, NamesNone}
 use Rattle.mtp2_words.specs.Seeing.{IsSeenBy, IsNoSeeing}
 use Rattle.mtp2_words.specs.declared.seeing.Seeing.{Seeing}
@@ -102,9 +102,9 @@ pub record AsksEnd (given : Given) (end : LineEnd) : Type 0 where
   pub under_ids : AreUnderIds given words
   pub end_is : IsEndOf words end
 
--- `line`: the set that --text names, and the end of a link
+-- `line`: the process set that --set names, and the end of a link
 pub record AsksLine (given : Given) (set : Named) (end : LineEnd) : Type 0 where
-  pub set_is : IsText (given (codes "text")) set
+  pub set_is : IsText (given (codes "set")) set
   pub asks_end : AsksEnd given end
 
 -- each word for an end of a link set has its own id
@@ -113,23 +113,26 @@ pub record AreSetUnderIds (given : Given) (words : SetWords) : Type 0 where
   pub own : given (codes "own") ≡ Some words.own.now
   pub peer : given (codes "peer") ≡ Some words.peer.now
   pub network : given (codes "network") ≡ option_map (λ w. w.now) words.network
+  pub n1 : given (codes "n1") ≡ option_map (λ w. w.now) words.n1
+  pub n2 : given (codes "n2") ≡ option_map (λ w. w.now) words.n2
   pub orders : given (codes "orders") ≡ option_map (λ w. w.now) words.orders
   pub reports : given (codes "reports") ≡ option_map (λ w. w.now) words.reports
   pub capture : given (codes "capture") ≡ option_map (λ w. w.now) words.capture
+  pub measures : given (codes "measures") ≡ option_map (λ w. w.now) words.measures
   pub bits : given (codes "bits") ≡ option_map (λ w. w.now) words.bits
   pub ahead : given (codes "ahead") ≡ option_map (λ w. w.now) words.ahead
   pub no_test : says_true (given (codes "no-test")) ≡ words.no_test
 
--- the end of a link set that MODE, --own, --peer, --network, --orders, --reports, --capture,
--- --bits, --ahead and --no-test describe
+-- the end of a link set that MODE, --own, --peer, --network, --n1, --n2, --orders, --reports,
+-- --capture, --measures, --bits, --ahead and --no-test describe
 pub record AsksSetEnd (given : Given) (end : SetEnd) : Type 0 where
   pub words : SetWords
   pub under_ids : AreSetUnderIds given words
   pub end_is : IsSetEndOf words end
 
--- `set`: the process set that --set or --text names, and the end of a link set
+-- `set`: the process set that --set names, and the end of a link set
 pub record AsksSet (given : Given) (set : Named) (end : SetEnd) : Type 0 where
-  pub set_is : IsSetText (given (codes "set")) (given (codes "text")) set
+  pub set_is : IsText (given (codes "set")) set
   pub asks_end : AsksSetEnd given end
 
 -- the lines are those that the words name, 1 to 16
@@ -224,10 +227,10 @@ pub record SaysNoEnd (given : Given) : Type 0 where
   pub under_ids : AreUnderIds given words
   pub no_end : IsNoEnd words
 
--- `line`: standard input as --text, no MODE, or words that describe no end
+-- `line`: standard input as --set, no MODE, or words that describe no end
 abbrev pub IsNoLine : Given → Type 0
 IsNoLine given =
-    (given (codes "text") ≡ Some (codes "stdin"))
+    (given (codes "set") ≡ Some (codes "stdin"))
     ⊎ ((given (codes "MODE") ≡ None) ⊎ SaysNoEnd given)
 
 -- the words for an end of a link set are there, and one of them is invalid
@@ -247,10 +250,10 @@ IsNoSetEndBy given =
     (given (codes "MODE") ≡ None)
     ⊎ ((given (codes "own") ≡ None) ⊎ ((given (codes "peer") ≡ None) ⊎ SaysNoSetEnd given))
 
--- `set`: both --set and --text, or one that names no set, no such end, or no lines
+-- `set`: standard input as --set, words that describe no end, or no lines
 abbrev pub IsNoSet : Given → List Row → Type 0
 IsNoSet given rows =
-    IsNoSetText (given (codes "set")) (given (codes "text"))
+    (given (codes "set") ≡ Some (codes "stdin"))
     ⊎ (IsNoSetEndBy given ⊎ AreNoLines (all_of (codes "link") rows))
 
 -- `frame`: no HEX

@@ -61,11 +61,11 @@ soak_command =
     with_rule (with_rule (new_app (codes "soak")) (plain_word (codes "SCRIPT")))
     (record (option_word (codes "workers")) { required = true })
 
--- `line MODE`, with --text, without its other options
+-- `line MODE`, with --set, without its other options
 abbrev pub line_begun : App
 line_begun =
     with_rule (with_rule (new_app (codes "line")) (plain_word (codes "MODE")))
-    (option_word (codes "text"))
+    (option_word (codes "set"))
 
 -- a command with the options for an end of a link on its line
 abbrev pub with_line_options : App → App
@@ -116,25 +116,27 @@ with_links command =
     with_rule
     (with_rule
     (with_rule
-    (with_rule
     (with_rule (with_rule command (needed_words (codes "link"))) (needed_word (codes "own")))
-    (needed_word (codes "peer"))) (option_word (codes "network"))) (option_word (codes "set")))
-    (option_word (codes "text"))
+    (needed_word (codes "peer"))) (option_word (codes "network"))) (option_word (codes "set"))
 
--- a command with the options for an end on its lines
+-- a command with the options for orders and reports
 abbrev pub with_streams : App → App
 with_streams command =
     with_rule
     (with_rule
-    (with_rule
-    (with_rule
     (with_rule (with_rule command (option_word (codes "orders"))) (option_word (codes "reports")))
-    (option_word (codes "capture"))) (option_word (codes "bits")))
-    (option_word (codes "ahead"))) (flag_word (codes "no-test"))
+    (option_word (codes "capture"))) (option_word (codes "measures"))
+
+-- a command with the options for the lines of a set
+abbrev pub with_octets : App → App
+with_octets command =
+    with_rule
+    (with_rule (with_rule command (option_word (codes "bits"))) (option_word (codes "ahead")))
+    (flag_word (codes "no-test"))
 
 -- `set MODE`, with all options
 abbrev pub set_command : App
-set_command = with_streams (with_links set_begun)
+set_command = with_limit_options (with_octets (with_streams (with_links set_begun)))
 
 -- `frame HEX`
 abbrev pub frame_command : App

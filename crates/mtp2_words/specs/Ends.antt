@@ -2,7 +2,6 @@
 use Rattle.std.specs.Prelude.{◌≡◌, ◌⊎◌, ℕ, nat_le, if◌then◌else◌, List, Option, Some, None}
 use Rattle.std.specs.Prelude.{option_map, option_and_then, bytes_eq, codes}
 use Rattle.script_links.specs.resend_store_types.messages.Mode.{Mode}
-use Rattle.script_links.specs.resend_store_types.messages.RoundLimits.{RoundLimits}
 use Rattle.script_links.specs.Numbers.{count_of}
 use Rattle.script_links.specs.Orders.{mode_named}
 use Rattle.line_filter.specs.Filters.{MOST_AHEAD}
@@ -34,18 +33,6 @@ ahead_named word = option_and_then few (count_of word)
 abbrev pub ahead_of : Option (List ℕ) → Option ℕ
 ahead_of None = Some 0
 ahead_of (Some word) = ahead_named word
-
--- the chosen value, or else the usual one
-abbrev pub chosen_or : ℕ → Option ℕ → ℕ
-chosen_or usual None = usual
-chosen_or usual (Some chosen) = chosen
-
--- the limits of an end, if these are the usual ones
-abbrev pub limits_over : RoundLimits → LineEnd → RoundLimits
-limits_over usual end = record {
-  messages = chosen_or usual.messages end.messages;
-  octets = chosen_or usual.octets end.octets;
-}
 
 -- the end that the words describe
 pub record IsEndOf (words : LineWords) (end : LineEnd) : Type 0 where

@@ -3,20 +3,9 @@ use Rattle.std.specs.Prelude.{ℕ, List, Option, Some, None, option_map, option_
 use Rattle.std.specs.Int.{is_in_range}
 use Rattle.std.specs.Prelude.{if◌then◌else◌}
 use Rattle.script_links.specs.Limits.{N1, N2, LEAST_N2}
-use Rattle.script_links.specs.Messages.{usual_limits}
 use Rattle.script_links.specs.resend_store_types.messages.Mode.{Mode}
 use Rattle.script_links.specs.resend_store_types.messages.Mode.TheVariants.{Basic, Cyclic}
-use Rattle.script_links.specs.resend_store_types.messages.RoundLimits.{RoundLimits}
 use Rattle.script_links.specs.Numbers.{count_of}
-use Rattle.mtp2_words.specs.declared.requests.Named.{Named}
-use Rattle.mtp2_words.specs.declared.requests.Named.TheVariants.{Own, Stdin, File}
-use Rattle.mtp2_text.specs.Own.{limits_of}
-
--- the limits for a set, if none are chosen
-abbrev pub usual_limits_of : Named → RoundLimits
-usual_limits_of (Own own) = limits_of own
-usual_limits_of Stdin = usual_limits
-usual_limits_of (File path) = usual_limits
 
 -- a number, if it is in this range
 abbrev pub within : ℕ → ℕ → ℕ → Option ℕ

@@ -3,7 +3,9 @@ use Rattle.std.specs.Prelude.{◌≡◌, ◌==◌, ◌⊎◌, ℕ, ◌&&◌, nat
 use Rattle.std.specs.Prelude.{if◌then◌else◌, Option, Some, None, option_map, option_and_then}
 use Rattle.script_links.specs.Numbers.{count_of}
 use Rattle.script_links.specs.Orders.{mode_named}
+use Rattle.script_links.specs.resend_store_types.messages.Mode.{Mode}
 use Rattle.mtp2_words.specs.Ends.{bits_of, ahead_named}
+use Rattle.mtp2_words.specs.Limits.{messages_of, octets_of}
 use Rattle.mtp2_words.specs.declared.set_ends.SetEnd.{SetEnd}
 use Rattle.mtp2_words.specs.declared.set_ends.SetWords.{SetWords}
 
@@ -37,10 +39,20 @@ pub record IsSetEndOf (words : SetWords) (end : SetEnd) : Type 0 where
   pub network_is : network_of (option_map (λ w. w.now) words.network) ≡ Some end.network
   pub bits_are : bits_of (option_map (λ w. w.now) words.bits) ≡ Some end.bits
   pub ahead_is : set_ahead_of (option_map (λ w. w.now) words.ahead) ≡ Some end.ahead
+  pub messages_are : messages_of end.mode (option_map (λ w. w.now) words.n1) ≡ Some end.messages
+  pub octets_are : octets_of end.mode (option_map (λ w. w.now) words.n2) ≡ Some end.octets
   pub orders_are : option_map (λ w. w.now) end.orders ≡ option_map (λ w. w.now) words.orders
   pub reports_are : option_map (λ w. w.now) end.reports ≡ option_map (λ w. w.now) words.reports
   pub capture_is : option_map (λ w. w.now) end.capture ≡ option_map (λ w. w.now) words.capture
+  pub measures_are : option_map (λ w. w.now) end.measures ≡ option_map (λ w. w.now) words.measures
   pub tests_are : end.tests ≡ not words.no_test
+
+-- N1 or N2 is a word that is no limit of the error correction
+pub record HasNoSetLimit (words : SetWords) : Type 0 where
+  pub mode : Mode
+  pub mode_is : mode_named words.mode.now ≡ Some mode
+  pub none : (messages_of mode (option_map (λ w. w.now) words.n1) ≡ None)
+      ⊎ (octets_of mode (option_map (λ w. w.now) words.n2) ≡ None)
 
 -- one of the words is invalid, or both points are the same
 abbrev pub IsNoSetEnd : SetWords → Type 0
@@ -50,4 +62,4 @@ IsNoSetEnd words =
     ⊎ (point_named words.own.now ≡ point_named words.peer.now)
     ⊎ (network_of (option_map (λ w. w.now) words.network) ≡ None)
     ⊎ (bits_of (option_map (λ w. w.now) words.bits) ≡ None)
-    ⊎ (set_ahead_of (option_map (λ w. w.now) words.ahead) ≡ None)
+    ⊎ (set_ahead_of (option_map (λ w. w.now) words.ahead) ≡ None) ⊎ HasNoSetLimit words

@@ -7,7 +7,7 @@ use Rattle.script_links.specs.Numbers.{count_of}
 use Rattle.mtp2_words.specs.declared.requests.Named.{Named}
 use Rattle.mtp2_words.specs.declared.requests.Named.TheVariants.{Own, Stdin, File}
 use Rattle.mtp2_text.specs.Own.{word_of, NamesNone}
-use Rattle.mtp2_text.specs.declared.own.OwnSet.TheVariants.{Standard, Q703}
+use Rattle.mtp2_text.specs.declared.own.OwnSet.TheVariants.{Q703}
 use Rattle.mtp2_words.specs.declared.requests.Source.{Source}
 use Rattle.mtp2_words.specs.declared.requests.Source.TheVariants.{Stdin as stdin}
 use Rattle.mtp2_words.specs.declared.requests.Source.TheVariants.{File as script_file}
@@ -78,12 +78,6 @@ IsSoak script_word workers_word (Draw set process states) = ⊥
 IsSoak script_word workers_word (Print set) = ⊥
 IsSoak script_word workers_word (Diff old new) = ⊥
 
--- the built-in set that a word names
-abbrev pub IsOwnNamed : Named → List ℕ → Type 0
-IsOwnNamed (Own own) word = word ≡ word_of own
-IsOwnNamed Stdin word = ⊥
-IsOwnNamed (File path) word = ⊥
-
 -- the request of `text`, from a word
 abbrev pub IsPrint : List ℕ → Request → Type 0
 IsPrint word (Check sets warned) = ⊥
@@ -102,31 +96,16 @@ pub record IsDiff (old_word new_word : List ℕ) (old new : Named) : Type 0 wher
   pub new_is : IsNamed new new_word
   pub one_input : AreStdin old_word new_word → ⊥
 
--- the set that a word names for a terminal on a line: not standard input, which is the line
+-- the set that a word names for `line` or `set`: not standard input
 abbrev pub IsTextNamed : Named → List ℕ → Type 0
 IsTextNamed (Own own) word = word ≡ word_of own
 IsTextNamed Stdin word = ⊥
 IsTextNamed (File path) word = (path.now ≡ word) × IsFileName word
 
--- the set of a terminal on a line, from an optional word; `standard` if there is none
+-- the set from an optional word; `q703` if there is none
 abbrev pub IsText : Option (List ℕ) → Named → Type 0
-IsText None set = set ≡ Own Standard
+IsText None set = set ≡ Own Q703
 IsText (Some word) set = IsTextNamed set word
-
--- the processes of a link set, from an optional word for a built-in set or one for a text, not
--- both; `q703` if there is neither
-abbrev pub IsSetText : Option (List ℕ) → Option (List ℕ) → Named → Type 0
-IsSetText None None set = set ≡ Own Q703
-IsSetText None (Some text) set = IsTextNamed set text
-IsSetText (Some own) None set = IsOwnNamed set own
-IsSetText (Some own) (Some text) set = ⊥
-
--- both words are there, or the one that is there names no set
-abbrev pub IsNoSetText : Option (List ℕ) → Option (List ℕ) → Type 0
-IsNoSetText None None = ⊥
-IsNoSetText None (Some text) = text ≡ codes "stdin"
-IsNoSetText (Some own) None = NamesNone own
-IsNoSetText (Some own) (Some text) = Unit {0}
 
 -- whether an option without a word was entered
 abbrev pub says_true : Option (List ℕ) → Bool

@@ -51,7 +51,7 @@ fn check_command<'a>(alloc: Global) -> Result<Command<'a>, AllocError>
     let warn = flag_word(
         alloc,
         "warn",
-        "Prints the warnings of an accepted text (W1 to W10) on standard error",
+        "Prints the warnings of an accepted text (A1 to A10) on standard error",
     );
     let error = flag_word(
         alloc,
@@ -62,7 +62,7 @@ fn check_command<'a>(alloc: Global) -> Result<Command<'a>, AllocError>
         alloc,
         "check",
         "Checks a set of processes, and prints what each of its transitions costs",
-        "Prints for START and for each input of each process PROCESS START or PROCESS STATE/INPUT, and then\nbudget (the most steps of a turn), depth (the most operands at once) and effects (the most effects of\na turn). Then it prints accepted. Exits with 0, or with 2 after a line refused CODE Name where the text\nis refused (F1, L1 to L3, P1, P2, S1 to S11), 4 where memory, a file, a read or a write fails.\nThe place of a refusal is told on standard error: FILE:LINE:COLUMN, the line, and carets under the word.\nOf several sets each line has the name of its set in front, and the exit status is the greatest one.",
+        "Prints for START and for each input of each process PROCESS START or PROCESS STATE/INPUT, and then\nbudget (the most steps of a turn), depth (the most operands at once) and effects (the most effects of\na turn). Then it prints accepted. Exits with 0, or with 2 after a line refused CODE Name if the text\nis refused (F1, L1 to L3, P1, P2, S1 to S11), 4 if memory, a file, a read or a write fails.\nThe place of a refusal is told on standard error: FILE:LINE:COLUMN, the line, and carets under the word.\nOf several sets each line has the name of its set in front, and the exit status is the greatest one.",
     )
     .arg(set)?
     .arg(warn)?
@@ -87,7 +87,7 @@ fn play_begun<'a>(alloc: Global) -> Result<Command<'a>, AllocError>
         alloc,
         "play",
         "Runs a script on a set of processes, or on one end of a signalling link or of a set of links",
-        "First lines: ports N (1 to 64), env N (1 to 1024), journal N (16 to 65536).\nCommands: offer P SIG v.., begin P, finish P, skip P, tick N, env, rest, flood N P SIG v.., state P, value P x, expect TEXT.\nA script may begin with terminal basic, terminal cyclic or terminal cyclic N1 N2 (1 to 127 messages, 300 to 8192 octets): then one end of a link runs on the set, with the commands\ncommand W (power, start, stop, emergency, calm, outage, back, busy, free, flush, continue, overload), unit HEX, units N HEX, errors N, line HEX, msu HEX, out N, tick N,\ntold, accepted, retrieve, retrieve N, measure NAME, measure reset, state P, value P x, expect TEXT. A unit may be HEX, or words as out prints them (of an MSU sio HEX sif HEX).\nWith group basic N or group cyclic N (1 to 16) one end of N links runs, with command, unit, line, out, tick, state, value and expect of link L after on L, and\nsend HEX, bound HEX, fail, message HEX, retrieve, abandon, divert, rebalance, table, held, unsure, link, admit yes, admit no.\nPrints a line for each command but on and expect, and for each unit that goes out; one that is refused prints refused CODE Name (B1 to B12, W1, W2, E1, K1 to K5), and the run goes on.\nExits with 0, or 1 after failed line N where an expect failed, 2 after refused CODE Name where the set or the script is refused\n(F1, L1 to L3, P1, P2, S1 to S11, X1; X2 NoName NAME where the set lacks a name that a terminal wants), 4 where memory, a file, a read or a write fails.",
+        "First lines: ports N (1 to 64), env N (1 to 1024), journal N (16 to 65536).\nCommands: offer P SIG v.., begin P, finish P, skip P, tick N, env, rest, flood N P SIG v.., state P, value P x, expect TEXT.\nA script may begin with terminal basic, terminal cyclic or terminal cyclic N1 N2 (1 to 127 messages, 300 to 8192 octets): then one end of a link runs on the set, with the commands\ncommand W (power, start, stop, emergency, calm, outage, back, busy, free, flush, continue, overload), unit HEX, units N HEX, errors N, line HEX, msu HEX, out N, tick N,\ntold, accepted, retrieve, retrieve N, measure NAME, measure reset, state P, value P x, expect TEXT. A unit may be HEX, or words as out prints them (of an MSU sio HEX sif HEX).\nWith group basic N or group cyclic N (1 to 16) one end of N links runs, with command, unit, line, out, tick, state, value and expect of link L after on L, and\nsend HEX, bound HEX, fail, message HEX, retrieve, abandon, divert, rebalance, table, held, unsure, link, admit yes, admit no.\nPrints a line for each command but on and expect, and for each unit that goes out; one that is refused prints refused CODE Name (B1 to B12, W1, W2, E1, K1 to K5), and the run goes on.\nExits with 0, or 1 after failed line N if an expect failed, 2 after refused CODE Name if the set or the script is refused\n(F1, L1 to L3, P1, P2, S1 to S11, X1; X2 NoName NAME if the set lacks a name that a terminal requires,\nor its N1 or N2, NAME, is out of range), 4 if memory, a file, a read or a write fails.",
     )
     .arg(set)?
     .arg(script)
@@ -118,7 +118,7 @@ fn with_turn_options<'a>(alloc: Global, command: Command<'a>) -> Result<Command<
         alloc,
         "turns",
         "A..B",
-        "Which turns are drawn, by their numbers in a trace; all where nothing is said",
+        "Which turns are drawn, by their numbers in a trace; all unless given",
     );
     command.arg(echo)?.arg(trace)?.arg(chart)?.arg(turns)
 }
@@ -180,7 +180,7 @@ fn soak_command<'a>(alloc: Global) -> Result<Command<'a>, AllocError>
         alloc,
         "soak",
         "Has threads work on links of the set standard while a script's signals come to them",
-        "First line: links N (1 to 16). Then on L, offer P SIG v.., tick N.\nPrints seats agree or seats differ, and audit yes or audit no: whether what was counted is what happened, and whether each event\nthat was accepted stands at its place. Exits with 0, or 1 where something differs, 2 after refused CODE Name where the script is\nrefused (F1, X1), 4 where memory, a file, a read or a write fails or no thread can be started.",
+        "First line: links N (1 to 16). Then on L, offer P SIG v.., tick N.\nPrints seats agree or seats differ, and audit yes or audit no: whether what was counted is what happened, and whether each event\nthat was accepted stands at its place. Exits with 0, or 1 if something differs, 2 after refused CODE Name if the script is\nrefused (F1, X1), 4 if memory, a file, a read or a write fails or no thread can be started.",
     )
     .arg(script)?
     .arg(workers)
@@ -206,32 +206,35 @@ fn with_line_options<'a>(alloc: Global, command: Command<'a>) -> Result<Command<
         alloc,
         "bits",
         "low|high",
-        "Which bit of an octet is the first on the line; low where nothing is said",
+        "Which bit of an octet is the first on the line; low unless given",
     );
     let ahead = option_word(
         alloc,
         "ahead",
         "N",
-        "How many octets of 1s go out before any octet came in, 0 to 8000; else none",
+        "How many octets of 1s go out before any octet came in, 0 to 8000; none unless given",
     );
     command.arg(orders)?.arg(reports)?.arg(bits)?.arg(ahead)
 }
 
 /// Adds the options for forced cyclic retransmission.
-fn with_limit_options<'a>(alloc: Global, command: Command<'a>) -> Result<Command<'a>, AllocError>
+pub(crate) fn with_limit_options<'a>(
+    alloc: Global,
+    command: Command<'a>,
+) -> Result<Command<'a>, AllocError>
     ensures { has_globals command.entry ≡ false → IfOk result (IsCommand (with_limit_options (app_of command.entry))) }
 {
     let messages = option_word(
         alloc,
         "n1",
         "N",
-        "For cyclic: how many unacknowledged messages have all go again, 1 to 127; 127 where nothing is said",
+        "For cyclic: how many unacknowledged messages force retransmission, 1 to 127; unless given, the N1 of the text, else 127",
     );
     let octets = option_word(
         alloc,
         "n2",
         "N",
-        "For cyclic: how many unacknowledged octets do, 300 to 8192; 8192 where nothing is said, with q703 3000",
+        "For cyclic: how many unacknowledged octets force it, 300 to 8192; unless given, the N2 of the text, else 8192",
     );
     command.arg(messages)?.arg(octets)
 }
@@ -268,7 +271,7 @@ fn with_measures_option<'a>(alloc: Global, command: Command<'a>) -> Result<Comma
         alloc,
         "measures",
         "PATH",
-        "A file for what was measured, NAME N a line, written at the end of the run",
+        "A file for measurements, NAME N a line, written at the end of the run",
     );
     command.arg(measures)
 }
@@ -278,20 +281,20 @@ fn line_begun<'a>(alloc: Global) -> Result<Command<'a>, AllocError>
     ensures { IfOk result (IsCommand line_begun) }
 {
     let mode = plain_word(alloc, "MODE", "The error correction: basic or cyclic");
-    let text = option_word(
+    let set = option_word(
         alloc,
-        "text",
-        "TEXT",
-        "standard (as where nothing is said), q703, or a file with the text of a set of processes",
+        "set",
+        "SET",
+        "The processes of the link: q703 (unless another is given), standard, or a file with the text of a set of processes",
     );
     bare_command(
         alloc,
         "line",
         "Puts one end of a signalling link on a channel of 64 kbit/s: line octets come on standard input and go to standard output",
-        "Writes one octet for each that it reads; 8 octets are a millisecond, and no clock is read. Orders: power, start, stop, emergency, calm,\noutage, back, busy, free, flush, continue, overload, msu HEX, told, accepted, retrieve, retrieve N, measure, measure NAME, measure reset, at MS (what follows waits until that millisecond), state P, value P x, quit; # begins a comment,\nand a report MS ok ORDER is obeyed as at MS and that order. Reports, each after its millisecond: in service, down R, far out,\nfar back, cleared, message HEX, state P S, value P x V, told TEXT, accepted ok N, retrieve ok N, measure NAME ok N, measure NAME N, ok ORDER, refused CODE Name, lost N (what a FIFO had no room for).\nUnits that a capture's FIFO had no room for, and lines that a trace's had none for, are told at the end on standard error: MS lost N capture, MS lost N trace.\nExits with 0 at the end of input or after quit, 2 after refused CODE Name on standard error where the text is refused, 4 where memory,\na file, a read or a write fails.",
+        "Writes one octet for each that it reads; 8 octets are a millisecond, and no clock is read.\nOrders: power, start, stop, emergency, calm, outage, back, busy, free, flush, continue, overload, msu HEX, told,\naccepted, retrieve, retrieve N, measure, measure NAME, measure reset, state P, value P x, at MS (what follows waits\nuntil that millisecond), quit. # begins a comment, and a report MS ok ORDER is obeyed as at MS and that order.\nReports, each after its millisecond: in service, down R, far out, far back, cleared, message HEX, state P S,\nvalue P x V, told TEXT, accepted ok N, retrieve ok N, retrieve N ok N, measure NAME ok N, measure NAME N, ok ORDER,\nrefused CODE Name, orders truncated, lost N (what a FIFO had no room for).\nUnits that a capture's FIFO had no room for, and lines that a trace's had none for, are told at the end on standard\nerror: MS lost N capture, MS lost N trace.\nExits with 0 at the end of input or after quit, 2 after refused CODE Name on standard error if the text is refused,\n4 if memory, a file, a read or a write fails.",
     )
     .arg(mode)?
-    .arg(text)
+    .arg(set)
 }
 
 /// The command `line`.
@@ -316,7 +319,7 @@ fn frame_command<'a>(alloc: Global) -> Result<Command<'a>, AllocError>
         alloc,
         "frame",
         "Reads one signal unit and prints its fields",
-        "Prints FISU, LSSU or MSU with the unit's fields, then the number of its bits on the line.\nExits with 0, or with 2 where the octets are refused (H1, U1 to U4), 4 where memory or a write fails.",
+        "Prints FISU, LSSU or MSU with the unit's fields, then the number of its bits on the line.\nExits with 0, or with 2 if the octets are refused (H1, U1 to U4), 4 if memory or a write fails.",
     )
     .arg(octets)
 }
@@ -330,12 +333,16 @@ fn diff_command<'a>(alloc: Global) -> Result<Command<'a>, AllocError>
         "OLD",
         "standard, q703, monitors, a file with the text of a set of processes, or stdin for standard input",
     );
-    let new = plain_word(alloc, "NEW", "The same, for the set beside it");
+    let new = plain_word(
+        alloc,
+        "NEW",
+        "The set to compare it with, named in the same way",
+    );
     bare_command(
         alloc,
         "diff",
         "Says what two sets of processes differ in",
-        "Prints a line for what they declare and each transition that is gone (-), means or says something else (~) or is\nadded (+), by names; then same K of N transitions, and whether a terminal finds its names in them.\nExits with 0 where they are alike, 1 where they differ, 2 after a line OLD: refused CODE Name .. or NEW: .. where a\ntext is refused (as for check), 4 where memory, a file, a read or a write fails.",
+        "Prints a line for what they declare and each transition that is gone (-), means or says something else (~) or is\nadded (+), by names; then same K of N transitions, and whether a terminal finds its names in them.\nExits with 0 if they are alike, 1 if they differ, 2 after a line OLD: refused CODE Name .. or NEW: .. if a\ntext is refused (as for check), 4 if memory, a file, a read or a write fails.",
     )
     .arg(old)?
     .arg(new)
@@ -360,7 +367,7 @@ fn draw_command<'a>(alloc: Global) -> Result<Command<'a>, AllocError>
         alloc,
         "draw",
         "Draws a set of processes, or one of them",
-        "Writes a picture to standard output: of a set its block diagram in Graphviz's language, of a process SDL-GR in SVG,\nor with --states its state diagram in Graphviz's language (dot -Tsvg makes a picture of these).\nExits with 0, or with 2 after a line refused CODE Name where the text is refused (as for check) or no process\nhas that name (B10 NoActor), 4 where memory, a file, a read or a write fails.",
+        "Writes a picture to standard output: of a set its block diagram in Graphviz's language, of a process SDL-GR in SVG,\nor with --states its state diagram in Graphviz's language (dot -Tsvg makes a picture of these).\nExits with 0, or with 2 after a line refused CODE Name if the text is refused (as for check) or no process\nhas that name (B10 NoActor), 4 if memory, a file, a read or a write fails.",
     )
     .arg(set)?
     .arg(process)?
@@ -376,7 +383,7 @@ fn text_command<'a>(alloc: Global) -> Result<Command<'a>, AllocError>
         alloc,
         "text",
         "Prints the text of a set of the program's own",
-        "Exits with 0, or with 4 where a write fails.",
+        "Exits with 0, or with 4 if a write fails.",
     )
     .arg(set)
 }

@@ -1,11 +1,11 @@
 //! The words that describe one end of a link.
 ghost use Rattle.std.specs.Prelude.{◌≡◌, IfSome, IsNone, option_map};
 ghost use Rattle.script_links.specs.Orders.{mode_named};
-ghost use Rattle.mtp2_words.specs.Ends.{bits_named, bits_of, ahead_named, ahead_of, limits_over, IsEndOf, IsNoEnd};
+ghost use Rattle.mtp2_words.specs.Ends.{bits_named, bits_of, ahead_named, ahead_of, IsEndOf, IsNoEnd};
 
 use crate::limits::{messages_of, octets_of};
 use line_filter::{Bits, MOST_AHEAD};
-use script_links::{Mode, RoundLimits, count, mode_named};
+use script_links::{Mode, count, mode_named};
 
 /// One end of a link on a line.
 #[derive(Clone, Copy, PartialEq, Eq, Debug)]
@@ -39,9 +39,9 @@ pub struct LineEnd<'a> {
 pub struct LineWords<'a> {
     /// `basic` or `cyclic`.
     pub mode: &'a str,
-    /// Digits, 1 to 127, only for `cyclic`; the limit of the set if none.
+    /// Digits, 1 to 127, only for `cyclic`; the limit of the set's text if none.
     pub n1: Option<&'a str>,
-    /// Digits, 300 to 8,192, only for `cyclic`; the limit of the set if none.
+    /// Digits, 300 to 8,192, only for `cyclic`; the limit of the set's text if none.
     pub n2: Option<&'a str>,
     /// A file or a FIFO with orders.
     pub orders: Option<&'a str>,
@@ -59,18 +59,6 @@ pub struct LineWords<'a> {
     pub every: bool,
     /// A file for measurements.
     pub measures: Option<&'a str>,
-}
-
-impl LineEnd<'_> {
-    /// Returns the limits of forced retransmission, if `usual` are the usual ones.
-    pub fn limits_over(&self, usual: RoundLimits) -> RoundLimits
-        ensures { result ≡ limits_over usual self.now }
-    {
-        RoundLimits {
-            messages: self.messages.unwrap_or(usual.messages),
-            octets: self.octets.unwrap_or(usual.octets),
-        }
-    }
 }
 
 /// The bit order that a word names.

@@ -3,6 +3,7 @@
 
 mod arguments;
 mod commands;
+mod complaints;
 mod ends;
 mod flags;
 mod limits;

@@ -1,21 +1,8 @@
 //! The limits of forced retransmission, from words.
 ghost use Rattle.std.specs.Prelude.{◌≡◌, option_map};
-ghost use Rattle.mtp2_words.specs.Limits.{usual_limits_of, messages_named, messages_of, octets_named, octets_of};
+ghost use Rattle.mtp2_words.specs.Limits.{messages_named, messages_of, octets_named, octets_of};
 
-use crate::requests::Named;
-use script_links::{Mode, RoundLimits, USUAL_LIMITS, count};
-
-impl Named<'_> {
-    /// Returns the limits of forced retransmission for this set, if none are chosen.
-    pub fn usual_limits(&self) -> RoundLimits
-        ensures { result ≡ usual_limits_of self.now }
-    {
-        match self {
-            Named::Own(own) => own.round_limits(),
-            Named::Stdin | Named::File(_) => USUAL_LIMITS,
-        }
-    }
-}
+use script_links::{Mode, count};
 
 /// The number of messages that a word states, 1 to 127.
 fn messages_named(word: &str) -> Option<u8>

@@ -1,9 +1,10 @@
 //! The command `set`, and its words.
 ghost use Rattle.std.specs.Prelude.{◌≡◌, IfOk, false};
 ghost use Rattle.clap.specs.Words.{rule_of, app_of};
-ghost use Rattle.mtp2_words.specs.Commands.{needed_word, needed_words, set_begun, with_links, with_streams, set_command, has_globals, IsCommand};
+ghost use Rattle.mtp2_words.specs.Commands.{needed_word, needed_words, set_begun, with_links, with_streams, with_octets, set_command, has_globals, IsCommand};
 
 use crate::arguments::{bare_command, flag_word, option_word, plain_word};
+use crate::commands::with_limit_options;
 use clap::{Arg, ArgAction, Command};
 use std::alloc::{AllocError, Global};
 
@@ -32,7 +33,7 @@ fn set_begun<'a>(alloc: Global) -> Result<Command<'a>, AllocError>
         alloc,
         "set",
         "Runs one end of a set of up to 16 signalling links between two points, each link on a channel of 64 kbit/s",
-        "Writes one octet on a line for each that it reads there; a millisecond is one of the clock. Links that are to be in service are started and tested; as\none goes down its messages go on by the others, each once and in order. Orders: on L, on all, then power, start, stop, emergency, calm, outage, back, busy,\nfree, flush, continue, overload, state P, value P x, measure, measure NAME, measure reset; send HEX, table, held, unsure, rebalance, at MS, quit; # begins a\ncomment, and a report MS ok ORDER is obeyed as at MS and that order. Reports, each after its millisecond: L in service, L down R, L far out, L far back,\nL message HEX, L started, L changeover, L says COO N by M, L hears COA N by M, L unsure N, L diverted N, L tested, L line silent, L line back, L line ended,\nL line failed, L line open, shared L .., L state P S, L value P x V, L measure NAME N, L held N sent N, unsure N, ok ORDER, refused CODE Name, lost N.\nExits with 0 after quit, or once no line could be opened for 10 seconds and all have ended; 2 after refused CODE Name on standard error where the text is\nrefused, 4 where memory, orders or reports fail, or no line could be opened for 10 seconds and one had failed.",
+        "Writes one octet on a line for each that it reads there; a millisecond is one of the clock. Links that are to be in\nservice are started and tested. If one goes down, its messages go by the others, each once and in order, except those\nthat are reported as unsure.\nOrders: on L, on all, and for these links, or for those that the order names (stop 0 3, busy all), power, start, stop,\nemergency, calm, outage, back, busy, free, flush, continue, overload, state P, value P x, measure, measure NAME,\nmeasure reset; send HEX, table, held, unsure, rebalance, reopen, at MS (what follows waits until that millisecond),\nleave, leave SECONDS, quit. =TAG before an order stands before its answer too; # begins a comment, and a report\nMS ok ORDER is obeyed as at MS and that order. Answers: ok ORDER or refused CODE Name, and after ok, by the order,\ntable L0 .. L15, L held N sent N, unsure N, L state P S, L value P x V, L measure NAME N.\nReports, each after its millisecond: begins DATE VERSION TEXT DIGEST, L started, L in service, L tested, L looped,\nL down R, L far out, L far back, L changeover, L says COO N by M, L hears COA N by M, L diverted N, L unsure N,\nshared L0 .. L15, L message HEX, L line silent, L line back, L line ended, L line failed, L line open,\norders truncated, reader away, reader back, late N, lost N (what a FIFO had no room for).\nExits with 0 after quit or leave, or if no line could be opened for 10 seconds and all have ended; 2 after refused\nCODE Name on standard error if the text is refused; 4 if memory, orders, reports or the capture fail, or no line could\nbe opened for 10 seconds and one had failed.",
     )
     .arg(mode)
 }
@@ -45,7 +46,7 @@ fn with_links<'a>(alloc: Global, command: Command<'a>) -> Result<Command<'a>, Al
         alloc,
         "link",
         "LINE",
-        "A line: a device, or IN,OUT, a file to read and one to write. Once for each link, up to 16 times; the first is link 0, in the same order at both ends",
+        "A line: a device, or IN,OUT (a file to read and one to write). Given once for each link, up to 16 times, in the same order at both ends; the first is link 0",
     );
     let own = needed_word(alloc, "own", "N", "The code of this point, 0 to 16383");
     let peer = needed_word(
@@ -58,30 +59,23 @@ fn with_links<'a>(alloc: Global, command: Command<'a>) -> Result<Command<'a>, Al
         alloc,
         "network",
         "0..3",
-        "The network indicator of the set's own messages; 2 where nothing is said",
+        "The network indicator of the set's own messages; 2 unless given",
     );
     let set = option_word(
         alloc,
         "set",
         "SET",
-        "The processes of the links: q703 (as where nothing is said), or standard",
-    );
-    let text = option_word(
-        alloc,
-        "text",
-        "TEXT",
-        "In place of --set: a file with the text of a set of processes, q703 or standard",
+        "The processes of the links: q703 (unless another is given), standard, or a file with the text of a set of processes",
     );
     command
         .arg(link)?
         .arg(own)?
         .arg(peer)?
         .arg(network)?
-        .arg(set)?
-        .arg(text)
+        .arg(set)
 }
 
-/// Adds the options for an end on its lines.
+/// Adds the options for orders and reports.
 fn with_streams<'a>(alloc: Global, command: Command<'a>) -> Result<Command<'a>, AllocError>
     ensures { has_globals command.entry ≡ false → IfOk result (IsCommand (with_streams (app_of command.entry))) }
 {
@@ -103,24 +97,40 @@ fn with_streams<'a>(alloc: Global, command: Command<'a>) -> Result<Command<'a>, 
         "PATH",
         "A file or a FIFO for the units that go out and come in, in pcap's format; those that say nothing new are left out",
     );
+    let measures = option_word(
+        alloc,
+        "measures",
+        "PATH",
+        "A file for measurements in Prometheus' text format, replaced by a new one every 5 seconds",
+    );
+    command
+        .arg(orders)?
+        .arg(reports)?
+        .arg(capture)?
+        .arg(measures)
+}
+
+/// Adds the options for the lines of a set.
+fn with_octets<'a>(alloc: Global, command: Command<'a>) -> Result<Command<'a>, AllocError>
+    ensures { has_globals command.entry ≡ false → IfOk result (IsCommand (with_octets (app_of command.entry))) }
+{
     let bits = option_word(
         alloc,
         "bits",
         "low|high",
-        "Which bit of an octet is the first on the lines; low where nothing is said",
+        "Which bit of an octet is the first on the lines; low unless given",
     );
     let ahead = option_word(
         alloc,
         "ahead",
         "N",
-        "How many octets of 1s go out on each line before any octet came in, and after each second of silence, 0 to 8000; 64 where nothing is said",
+        "How many octets of 1s go out on each line before any octet came in, and after each second of silence, 0 to 8000; 64 unless given",
     );
     let no_test = flag_word(
         alloc,
         "no-test",
         "Links carry messages as soon as they are in service, without a test",
     );
-    let command = command.arg(orders)?.arg(reports)?.arg(capture)?;
     command.arg(bits)?.arg(ahead)?.arg(no_test)
 }
 
@@ -128,5 +138,11 @@ fn with_streams<'a>(alloc: Global, command: Command<'a>) -> Result<Command<'a>, 
 pub(crate) fn set_command<'a>(alloc: Global) -> Result<Command<'a>, AllocError>
     ensures { IfOk result (IsCommand set_command) }
 {
-    with_streams(alloc, with_links(alloc, set_begun(alloc)?)?)
+    with_limit_options(
+        alloc,
+        with_octets(
+            alloc,
+            with_streams(alloc, with_links(alloc, set_begun(alloc)?)?)?,
+        )?,
+    )
 }

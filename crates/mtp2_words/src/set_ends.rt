@@ -3,6 +3,7 @@ ghost use Rattle.std.specs.Prelude.{◌≡◌, IfSome, IsNone, option_map, lengt
 ghost use Rattle.mtp2_words.specs.SetEnds.{point_named, network_of, set_ahead_of, are_few, IsSetEndOf, IsNoSetEnd};
 
 use crate::ends::{ahead_named, bits_of};
+use crate::limits::{messages_of, octets_of};
 use line_filter::Bits;
 use script_links::{Mode, count, mode_named};
 
@@ -26,12 +27,18 @@ pub struct SetEnd<'a> {
     pub peer: u16,
     /// The network indicator, 0 to 3.
     pub network: u8,
+    /// The number of unacknowledged messages that forces cyclic retransmission (N1), 1 to 127, if chosen.
+    pub messages: Option<u8>,
+    /// The number of unacknowledged octets of SIO and SIF that does (N2), 300 to 8,192, if chosen.
+    pub octets: Option<u16>,
     /// The path of its orders; no orders if none.
     pub orders: Option<&'a str>,
     /// The path for its reports; standard error if none.
     pub reports: Option<&'a str>,
     /// The path for captures of its lines; no captures if none.
     pub capture: Option<&'a str>,
+    /// The file of its measurements, which is written again and again; none if not named.
+    pub measures: Option<&'a str>,
     /// Which bit of an octet is sent first.
     pub bits: Bits,
     /// The number of octets of 1s sent on each line before any octet is received, and after each second of silence.
@@ -51,12 +58,18 @@ pub struct SetWords<'a> {
     pub peer: &'a str,
     /// Digits, at most 3; 2 if none.
     pub network: Option<&'a str>,
+    /// Digits, 1 to 127, only for cyclic; that of the process set if none.
+    pub n1: Option<&'a str>,
+    /// Digits, 300 to 8,192, only for cyclic; that of the process set if none.
+    pub n2: Option<&'a str>,
     /// A file or a FIFO with orders.
     pub orders: Option<&'a str>,
     /// A file or a FIFO for reports.
     pub reports: Option<&'a str>,
     /// A file or a FIFO for captures.
     pub capture: Option<&'a str>,
+    /// A file for measurements.
+    pub measures: Option<&'a str>,
     /// `low` or `high`; `low` if none.
     pub bits: Option<&'a str>,
     /// Digits, at most 8,000; 64 if none.
@@ -66,7 +79,7 @@ pub struct SetWords<'a> {
 }
 
 /// A point code, from a word.
-fn point_named(word: &str) -> Option<u16>
+pub(crate) fn point_named(word: &str) -> Option<u16>
     ensures { result ≡ point_named word.now }
 {
     match count(word) {
@@ -76,7 +89,7 @@ fn point_named(word: &str) -> Option<u16>
 }
 
 /// The network indicator, from its optional word.
-fn network_of(word: Option<&str>) -> Option<u8>
+pub(crate) fn network_of(word: Option<&str>) -> Option<u8>
     ensures { result ≡ network_of (option_map (λ w. w.now) word.entry) }
 {
     match word {
@@ -89,7 +102,7 @@ fn network_of(word: Option<&str>) -> Option<u8>
 }
 
 /// The number of octets sent ahead, from its optional word.
-fn set_ahead_of(word: Option<&str>) -> Option<usize>
+pub(crate) fn set_ahead_of(word: Option<&str>) -> Option<usize>
     ensures { result ≡ set_ahead_of (option_map (λ w. w.now) word.entry) }
 {
     match word {
@@ -117,6 +130,8 @@ pub fn set_end<'a>(words: &SetWords<'a>) -> Option<SetEnd<'a>>
         return None;
     }
     let network = network_of(words.network)?;
+    let messages = messages_of(mode, words.n1)?;
+    let octets = octets_of(mode, words.n2)?;
     let bits = bits_of(words.bits)?;
     let ahead = set_ahead_of(words.ahead)?;
     Some(SetEnd {
@@ -124,9 +139,12 @@ pub fn set_end<'a>(words: &SetWords<'a>) -> Option<SetEnd<'a>>
         own,
         peer,
         network,
+        messages,
+        octets,
         orders: words.orders,
         reports: words.reports,
         capture: words.capture,
+        measures: words.measures,
         bits,
         ahead,
         tests: !words.no_test,

@@ -1,16 +1,14 @@
 //! The words of the command `set`.
-ghost use Rattle.std.specs.Prelude.{◌≡◌, IfOk, IfSome, IsNone, IsSomeAnd, option_map, codes};
+ghost use Rattle.std.specs.Prelude.{◌≡◌, IfOk, IfSome, IsNone, IsSomeAnd, codes};
 ghost use Rattle.clap.specs.Words.{all_of, found_of, rows_of};
-ghost use Rattle.mtp2_words.specs.Words.{command_of, IsOwnNamed, IsSetText, IsNoSetText};
-ghost use Rattle.mtp2_text.specs.Own.{NamesNone};
+ghost use Rattle.mtp2_words.specs.Words.{command_of};
 ghost use Rattle.mtp2_words.specs.Asked.{given_by, IsAsked, AreAllAsked, AsksSetEnd, IsNoSetEndBy, IsNoSet, AreLinesOf, AreNoLines};
 
 use crate::flags::is_given;
-use crate::requests::{Named, Request};
+use crate::requests::Request;
 use crate::set_ends::{SetEnd, SetWords, are_few, set_end};
-use crate::words::text_named;
+use crate::words::text_of;
 use clap::ArgMatches;
-use mtp2_text::OwnSet;
 use std::alloc::{AllocError, Global};
 
 /// The end of a link set that the matches of `set` describe, without its lines.
@@ -26,9 +24,12 @@ fn end_of<'a>(given: &ArgMatches<'a>) -> Option<SetEnd<'a>>
         own,
         peer,
         network: given.get_str("network"),
+        n1: given.get_str("n1"),
+        n2: given.get_str("n2"),
         orders: given.get_str("orders"),
         reports: given.get_str("reports"),
         capture: given.get_str("capture"),
+        measures: given.get_str("measures"),
         bits: given.get_str("bits"),
         ahead: given.get_str("ahead"),
         no_test: is_given(given.get_str("no-test")),
@@ -52,34 +53,6 @@ fn lines_of<'a>(alloc: Global, given: &ArgMatches<'a>) -> Result<Option<Vec<&'a 
     }
 }
 
-/// The built-in set that a word names; none if it names none.
-fn own_named<'a>(word: &str) -> Option<Named<'a>>
-    ensures some { IfSome result (λ set. IsOwnNamed set word.now) }
-    ensures none { IsNone result → NamesNone word.now }
-{
-    match OwnSet::named(word) {
-        Some(own) => Some(Named::Own(own)),
-        None => None,
-    }
-}
-
-/// The processes of the links, from a word for a built-in set or one for a text: `q703` without any, none with both.
-fn text_of<'a>(own: Option<&'a str>, text: Option<&'a str>) -> Option<Named<'a>>
-    ensures some { IfSome result (IsSetText (option_map (λ w. w.now) own.entry) (option_map (λ w. w.now) text.entry)) }
-    ensures none { IsNone result → IsNoSetText (option_map (λ w. w.now) own.entry) (option_map (λ w. w.now) text.entry) }
-{
-    match own {
-        Some(own) => match text {
-            Some(_) => None,
-            None => own_named(own),
-        },
-        None => match text {
-            Some(text) => text_named(text),
-            None => Some(Named::Own(OwnSet::Q703)),
-        },
-    }
-}
-
 /// The request of the matches of `set`.
 pub(crate) fn tended<'a>(
     alloc: Global,
@@ -90,7 +63,7 @@ pub(crate) fn tended<'a>(
     ensures all { IfOk result (λ o. IfSome o (AreAllAsked (rows_of (found_of given.now)))) }
     ensures none { IfOk result (λ o. IsNone o → IsNoSet (given_by given.now) (rows_of (found_of given.now))) }
 {
-    let Some(set) = text_of(given.get_str("set"), given.get_str("text")) else {
+    let Some(set) = text_of(given.get_str("set")) else {
         return Ok(None);
     };
     let Some(end) = end_of(given) else {

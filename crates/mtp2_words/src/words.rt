@@ -8,10 +8,11 @@ ghost use Rattle.mtp2_text.specs.Own.{NamesNone};
 ghost use Rattle.mtp2_words.specs.TurnedDown.{IsTurnedDown};
 
 use crate::commands::all_commands;
+use crate::complaints::complaint_of;
 use crate::ends::{LineEnd, LineWords, line_end};
 use crate::flags::{is_given, warned_of};
 use crate::requests::{Named, Request, Source, Warned};
-use crate::says::{are_stdin, complaint_of, workers_of};
+use crate::says::{are_stdin, workers_of};
 use crate::seeing::Seeing;
 use crate::set_words::tended;
 use crate::sights::seen_of;
@@ -72,8 +73,8 @@ fn soaked<'a>(script: &'a str, workers: &str) -> Option<Request<'a>>
     }
 }
 
-/// The set that a word names for a terminal on a line. Standard input isn't allowed: it is the line.
-pub(crate) fn text_named(word: &str) -> Option<Named<'_>>
+/// The process set that a word names, for `line` or `set`. Standard input is no text for them.
+fn text_named(word: &str) -> Option<Named<'_>>
     ensures some { IfSome result (λ set. IsTextNamed set word.now) }
     ensures none { IsNone result → word.now ≡ codes "stdin" }
 {
@@ -84,14 +85,14 @@ pub(crate) fn text_named(word: &str) -> Option<Named<'_>>
     }
 }
 
-/// The set of a terminal on a line, from its optional word; `standard` if there is none.
-fn text_of<'a>(word: Option<&'a str>) -> Option<Named<'a>>
+/// The process set from an optional word; `q703` if there is none.
+pub(crate) fn text_of<'a>(word: Option<&'a str>) -> Option<Named<'a>>
     ensures some { IfSome result (IsText (option_map (λ w. w.now) word.entry)) }
     ensures none { IsNone result → option_map (λ w. w.now) word.entry ≡ Some (codes "stdin") }
 {
     match word {
         Some(word) => text_named(word),
-        None => Some(Named::Own(OwnSet::Standard)),
+        None => Some(Named::Own(OwnSet::Q703)),
     }
 }
 
@@ -123,7 +124,7 @@ fn lined<'a>(given: &ArgMatches<'a>) -> Option<Request<'a>>
     ensures all { IfSome result (AreAllAsked (rows_of (found_of given.now))) }
     ensures none { IsNone result → IsNoLine (given_by given.now) }
 {
-    let set = text_of(given.get_str("text"))?;
+    let set = text_of(given.get_str("set"))?;
     let end = line_of(given)?;
     Some(Request::Line { set, end })
 }

@@ -2,10 +2,11 @@
 use Rattle.std.proofs.Common.{◌≡◌, ℕ, List, ◌++◌, Option, None, Some, IfSome, subst}
 use Rattle.std.specs.Io.KnownBytes.{Appends}
 use Rattle.turn_code.specs.declared.draft.Draft.{Draft}
+use Rattle.script_check.specs.declared.sets.FoundSet.{FoundSet}
 use Rattle.script_check.specs.declared.sets.SetFault.{SetFault}
 use Rattle.script_check.specs.Printed.{refusal_line}
 use Rattle.script_check.specs.declared.sets.Refusal.{Refusal}
-use Rattle.script_check.specs.Checked.{IsGiven, IsAccepted, IsNotAccepted, IsSetOf, IsRefusal, IsRefusalOf, IsRefusedAt, PrintsPointed, PrintsRefusal}
+use Rattle.script_check.specs.Checked.{IsGiven, IsAccepted, IsNotAccepted, IsSetOf, IsFound, IsRefusal, IsRefusalOf, IsRefusedAt, PrintsPointed, PrintsRefusal}
 
 -- An accepted set implies that its bytes are accepted.
 pub is_accepted : (bytes : List ℕ) (d : Draft) → IsSetOf bytes d → IsAccepted bytes
@@ -15,8 +16,8 @@ held_of : (known : Option (List ℕ)) (bytes : List ℕ) (P : List ℕ → Type 
 held_of None bytes P is holds = tt
 held_of (Some all) bytes P is holds = subst P is holds
 
-pub accepted_bytes : (known : Option (List ℕ)) (d : Draft) → IsGiven known (λ bytes. IsSetOf bytes d) → IfSome known IsAccepted
-accepted_bytes known d g = held_of known g.bytes IsAccepted g.are_known (is_accepted g.bytes d g.holds)
+pub accepted_found : (known : Option (List ℕ)) (found : FoundSet) → IsGiven known (λ bytes. IsFound bytes found) → IfSome known IsAccepted
+accepted_found known found g = held_of known g.bytes IsAccepted g.are_known (is_accepted g.bytes found.set g.holds.is_set)
 
 pub refused_bytes : (known : Option (List ℕ)) (fault : SetFault) → IsGiven known (λ bytes. IsRefusalOf bytes fault) → IfSome known IsNotAccepted
 refused_bytes known fault g = held_of known g.bytes IsNotAccepted g.are_known g.holds.refused

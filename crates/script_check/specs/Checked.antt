@@ -10,12 +10,15 @@ use Rattle.script_point.specs.mtp2_text_types.own.OwnSet.{OwnSet}
 use Rattle.script_point.specs.mtp2_text_types.own.OwnSet.TheVariants as own
 use Rattle.plain_text.specs.Reading.{LONGEST}
 use Rattle.turn_code.specs.declared.draft.Draft.{Draft}
-use Rattle.turn_verify.specs.Loaded.{IsSound, IsLoaded, IsRefused}
+use Rattle.sdl_tables.specs.Plain.{PlainBlock}
+use Rattle.turn_verify.specs.Loaded.{IsSound, IsLoaded, IsWritten, IsRefused}
+use Rattle.script_point.specs.TextLimits.{AreLimitsOf}
 use Rattle.turn_verify.specs.declared.loading.LoadFault.{LoadFault}
 use Rattle.turn_verify.specs.declared.loading.LoadFault.TheVariants.{NoMemory}
 use Rattle.script_point.specs.declared.notes.Explained.{Explained}
 use Rattle.script_point.specs.Pointing.{IsPointedOut}
 use Rattle.script_point.specs.Pointed.{bare_text, IsHead}
+use Rattle.script_check.specs.declared.sets.FoundSet.{FoundSet}
 use Rattle.script_check.specs.declared.sets.Refusal.{Refusal}
 use Rattle.script_check.specs.declared.sets.SetFault.{SetFault}
 use Rattle.script_check.specs.declared.sets.SetFault.TheVariants.{NotRead, NotText, Load}
@@ -67,6 +70,12 @@ pub record IsRefusal (fault : SetFault) : Type 0 where
 pub record IsSetOf (bytes : List ℕ) (d : Draft) : Type 0 where
   pub utf8 : IsUtf8 bytes
   pub loaded : IsLoaded bytes d
+
+-- the bytes are a text, with its set and its limits of forced retransmission
+pub record IsFound (bytes : List ℕ) (found : FoundSet) : Type 0 where
+  pub is_set : IsSetOf bytes found.set
+  pub limits :
+      (ts : List Token) (b : PlainBlock) → IsWritten bytes ts b → AreLimitsOf b found.limits
 
 -- The bytes aren't UTF-8, or their text has this fault; no claim if memory or a read failed.
 abbrev pub IsFaultOf : List ℕ → SetFault → Type 0

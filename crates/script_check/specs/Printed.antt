@@ -12,6 +12,8 @@ use Rattle.turn_code.specs.declared.draft.Trigger.{Trigger}
 use Rattle.turn_code.specs.declared.draft.Trigger.TheVariants.{Signal, Timer}
 use Rattle.turn_verify.specs.Printed as loading
 pub use Rattle.plain_text.specs.Lines.{line_of}
+use Rattle.script_point.specs.TextLimits.{limit_text}
+use Rattle.script_point.specs.mtp2_text_types.limits.LimitName.{LimitName}
 use Rattle.script_check.specs.declared.sets.SetFault.{SetFault}
 use Rattle.script_check.specs.declared.sets.SetFault.TheVariants.{NotRead, NotText, Load}
 
@@ -32,6 +34,10 @@ abbrev pub costs_text : Cert → List ℕ
 costs_text cert =
     codes "budget " ++ decimal cert.budget ++ codes " depth " ++ decimal cert.depth
     ++ codes " effects " ++ decimal cert.effects
+
+-- `refused X2 NoName NAME`, about a limit of a text that is out of its range
+abbrev pub limit_line : LimitName → List ℕ
+limit_line name = line_of (codes "refused X2 NoName " ++ limit_text name)
 
 -- The name of the signal, or of the timer of a process, that an input takes.
 abbrev pub trigger_text : List DraftSignal → List (List ℕ) → Trigger → List ℕ

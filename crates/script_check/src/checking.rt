@@ -2,11 +2,12 @@
 ghost use Rattle.std.specs.Prelude.{◌≡◌, ◌⊎◌, ◌++◌, IfSome, OnOk};
 ghost use Rattle.std.specs.Io.KnownBytes.{Appends};
 ghost use Rattle.script_check.specs.Checked.{given, IsGiven, IsAccepted, IsNotAccepted, IsRefusal, PrintsCosts, PrintsPointed, PrintsRefusal};
-ghost use Rattle.script_check.specs.Printed.{refusal_line};
+ghost use Rattle.script_check.specs.Printed.{limit_line, refusal_line};
 
 use crate::costs::write_set;
 use crate::sets::{Refusal, SetFault, SetWord, find_set};
 use plain_text::{DONE, FAILED, REFUSED, refuse};
+use script_point::LimitName;
 use std::alloc::Global;
 use std::io::{self, Read, Write};
 
@@ -33,7 +34,7 @@ pub fn check<R: Read + Drop, W: Write, E: Write>(
     ensures status { (result ≡ 0) ⊎ (result ≡ 2) ⊎ (result ≡ 4) }
 {
     match find_set(alloc, set) {
-        Ok(set) => match write_set(alloc, writer, &set) {
+        Ok(found) => match write_set(alloc, writer, &found.set) {
             Ok(()) => DONE,
             Err(_) => FAILED,
         },
@@ -88,4 +89,13 @@ pub fn write_refusal<W: Write>(alloc: Global, writer: &mut W, fault: &SetFault) 
         return FAILED;
     }
     refuse(alloc, writer, &format_args!("refused {fault}"))
+}
+
+/// Writes that a limit of forced retransmission of a text is out of its range: `refused X2 NoName N1`. Returns the exit
+/// status.
+pub fn refuse_limit<W: Write>(alloc: Global, writer: &mut W, limit: LimitName) -> u8
+    ensures printed { result ≡ 2 → Appends (W.contents writer.old) (W.contents writer.new) (limit_line limit) }
+    ensures status { (result ≡ 2) ⊎ (result ≡ 4) }
+{
+    refuse(alloc, writer, &format_args!("refused X2 NoName {limit}"))
 }

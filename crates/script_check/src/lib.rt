@@ -12,8 +12,9 @@ mod receivers;
 mod sets;
 mod sort_notes;
 mod sorts;
+mod synonym_sorts;
 mod telling;
 
-pub use checking::{check, refuse_set, tell_refusal, write_refusal};
+pub use checking::{check, refuse_limit, refuse_set, tell_refusal, write_refusal};
 pub use script_point::in_front;
-pub use sets::{Refusal, SetFault, SetWord, find_set, load_set};
+pub use sets::{FoundSet, Refusal, SetFault, SetWord, find_set, load_set};

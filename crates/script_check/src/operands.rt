@@ -4,6 +4,18 @@ use sdl_scopes::sort_in;
 use sdl_tables::ProcessTable;
 use sdl_tree::{BinaryOperator, Expression, Sort, UnaryOperator};
 
+/// Tells the sorts of expressions.
+pub(crate) trait Sorted {
+    /// The sort of an expression.
+    fn sort_of(&self, expression: &Expression) -> Option<Sort>;
+}
+
+impl Sorted for ProcessTable<'_> {
+    fn sort_of(&self, expression: &Expression) -> Option<Sort> {
+        sort_in(self, expression)
+    }
+}
+
 /// The side of an operator on which an operand stands.
 #[derive(Clone, Copy)]
 pub(crate) enum Side {
@@ -41,14 +53,14 @@ fn is_denied(operand: &Expression) -> bool {
 }
 
 /// Why an operand that begins at a place is wrong, if it has another sort than the required one.
-fn operand_cause(
-    process: &ProcessTable,
+fn operand_cause<S: Sorted>(
+    sorts: &S,
     side: Side,
     want: Option<Sort>,
     operand: &Expression,
     at: u32,
 ) -> Option<Cause> {
-    let found = sort_in(process, operand);
+    let found = sorts.sort_of(operand);
     if place(operand) != at || found == want {
         return None;
     }
@@ -69,8 +81,8 @@ pub(crate) fn first_of(one: Option<Cause>, other: Option<Cause>) -> Option<Cause
 }
 
 /// Why the operand that begins at a place of an expression is wrong; of several operands the outermost.
-pub(crate) fn in_expression(
-    process: &ProcessTable,
+pub(crate) fn in_expression<S: Sorted>(
+    sorts: &S,
     expression: &Expression,
     at: u32,
 ) -> Option<Cause> {
@@ -83,8 +95,8 @@ pub(crate) fn in_expression(
             operand,
             ..
         } => {
-            let own = unary_cause(process, *operator, operand, at);
-            let inside = in_expression(process, operand, at);
+            let own = unary_cause(sorts, *operator, operand, at);
+            let inside = in_expression(sorts, operand, at);
             first_of(own, inside)
         }
         Expression::Binary {
@@ -93,17 +105,17 @@ pub(crate) fn in_expression(
             right,
             ..
         } => {
-            let own = binary_cause(process, *operator, left, right, at);
-            let in_left = in_expression(process, left, at);
-            let in_right = in_expression(process, right, at);
+            let own = binary_cause(sorts, *operator, left, right, at);
+            let in_left = in_expression(sorts, left, at);
+            let in_right = in_expression(sorts, right, at);
             first_of(own, first_of(in_left, in_right))
         }
     }
 }
 
 /// Why the operand of a unary operator is wrong, if it begins at the place.
-fn unary_cause(
-    process: &ProcessTable,
+fn unary_cause<S: Sorted>(
+    sorts: &S,
     operator: UnaryOperator,
     operand: &Expression,
     at: u32,
@@ -112,20 +124,20 @@ fn unary_cause(
         UnaryOperator::Negate => Sort::Integer,
         UnaryOperator::Not => Sort::Boolean,
     };
-    operand_cause(process, Side::Behind(operator), Some(want), operand, at)
+    operand_cause(sorts, Side::Behind(operator), Some(want), operand, at)
 }
 
 /// Why one of two operands is wrong, if it begins at the place.
-fn binary_cause(
-    process: &ProcessTable,
+fn binary_cause<S: Sorted>(
+    sorts: &S,
     operator: BinaryOperator,
     left: &Expression,
     right: &Expression,
     at: u32,
 ) -> Option<Cause> {
-    let want = operand_sort(operator, sort_in(process, left));
+    let want = operand_sort(operator, sorts.sort_of(left));
     first_of(
-        operand_cause(process, Side::Left(operator), want, left, at),
-        operand_cause(process, Side::Right(operator), want, right, at),
+        operand_cause(sorts, Side::Left(operator), want, left, at),
+        operand_cause(sorts, Side::Right(operator), want, right, at),
     )
 }

@@ -2,14 +2,14 @@
 ghost use Rattle.std.specs.Prelude.{◌≡◌, ◌↔◌, List, ℕ, Ok, Err, IfOk, IfErr, IsFalse};
 ghost use Rattle.plain_text.specs.Reading.{Keeps};
 ghost use Rattle.turn_verify.specs.Loaded.{IsRefused};
-ghost use Rattle.script_check.specs.Checked.{given, own_word, IsGiven, IsRefusal, IsRefusalOf, IsRefusedAt, IsSetOf, IsText, IsTold, IsTooLong, PointsIn, PointsOut};
+ghost use Rattle.script_check.specs.Checked.{given, own_word, IsFound, IsGiven, IsRefusal, IsRefusalOf, IsRefusedAt, IsSetOf, IsText, IsTold, IsTooLong, PointsIn, PointsOut};
 ghost use Rattle.script_point.specs.Own.{text_of};
 ghost use Rattle.script_check.specs.declared.sets.SetFault.TheVariants.{NotRead};
 ghost use Rattle.script_check.specs.declared.sets.SetWord.TheVariants.{Text};
 
 use crate::telling::told_of;
 use plain_text::{MOST_BYTES, TextRead, line_at_limit, read_text};
-use script_point::{OwnSet, point_head, point_nowhere, point_out};
+use script_point::{OwnSet, TextLimits, point_head, point_nowhere, point_out, text_limits};
 use sdl_lex::LexFault;
 use std::alloc::{AllocError, Global};
 use std::io::Read;
@@ -105,6 +105,15 @@ pub struct Refusal {
     pub pointed: Vec<u8>,
 }
 
+/// A set of processes, with the limits of forced retransmission that its text has.
+#[derive(Drop)]
+pub struct FoundSet {
+    /// The set.
+    pub set: Verified,
+    /// The limits of its text.
+    pub limits: TextLimits,
+}
+
 /// The fault of a text that is too long and begins with these bytes.
 fn too_long(kept: &[u8]) -> LoadFault
     ensures { (bytes : List ℕ) → IsTooLong bytes kept.now → IsRefused bytes result }
@@ -116,8 +125,8 @@ fn too_long(kept: &[u8]) -> LoadFault
 }
 
 /// The set of a text that was read, or why it has none.
-fn set_in(alloc: Global, read: &TextRead) -> Result<Verified, SetFault>
-    ensures set { IfOk result (λ v. (bytes : List ℕ) → Keeps bytes read.now → IsSetOf bytes v) }
+fn set_in(alloc: Global, read: &TextRead) -> Result<FoundSet, SetFault>
+    ensures set { IfOk result (λ found. (bytes : List ℕ) → Keeps bytes read.now → IsFound bytes found) }
     ensures fault { IfErr result (λ e. IsRefusal e → (bytes : List ℕ) → Keeps bytes read.now → IsRefusalOf bytes e) }
 {
     if !read.is_text {
@@ -132,25 +141,38 @@ fn set_in(alloc: Global, read: &TextRead) -> Result<Verified, SetFault>
     }
 }
 
+/// A set with the limits of its text.
+fn with_limits(alloc: Global, text: &str, set: Verified) -> Result<FoundSet, SetFault>
+    requires { IsSetOf text.now set }
+    ensures set { IfOk result (IsFound text.now) }
+    ensures fault { IfErr result (λ e. IsRefusal e → ⊥) }
+    ensures read { IfErr result (λ e. e ≡ NotRead → ⊥) }
+{
+    match text_limits(alloc, text) {
+        Ok(limits) => Ok(FoundSet { set, limits }),
+        Err(_) => Err(SetFault::Load(LoadFault::NoMemory)),
+    }
+}
+
 /// The set of a text, or why it has none.
-fn text_set(alloc: Global, text: &str) -> Result<Verified, SetFault>
-    ensures set { IfOk result (IsSetOf text.now) }
+fn text_set(alloc: Global, text: &str) -> Result<FoundSet, SetFault>
+    ensures set { IfOk result (IsFound text.now) }
     ensures fault { IfErr result (λ e. IsRefusal e → IsRefusalOf text.now e) }
 {
     match load(alloc, text) {
-        Ok(set) => Ok(set),
+        Ok(set) => with_limits(alloc, text, set),
         Err(fault) => Err(SetFault::Load(fault)),
     }
 }
 
 /// A built-in set.
-fn own_set(alloc: Global, own: OwnSet) -> Result<Verified, SetFault>
-    ensures set { IfOk result (IsSetOf (text_of own)) }
+fn own_set(alloc: Global, own: OwnSet) -> Result<FoundSet, SetFault>
+    ensures set { IfOk result (IsFound (text_of own)) }
     ensures fault { IfErr result (λ e. IsRefusal e → IsRefusalOf (text_of own) e) }
     ensures own { IfErr result (λ e. e ≡ NotRead → ⊥) }
 {
     match own.load(alloc) {
-        Ok(set) => Ok(set),
+        Ok(set) => with_limits(alloc, own.text(), set),
         Err(fault) => Err(SetFault::Load(fault)),
     }
 }
@@ -211,9 +233,9 @@ fn refusal_of(alloc: Global, kept: &[u8], fault: SetFault) -> Refusal
 fn pointed_set(
     alloc: Global,
     kept: &[u8],
-    loaded: Result<Verified, SetFault>,
-) -> Result<Verified, Refusal>
-    ensures set { IfOk result (λ v. loaded ≡ Ok v) }
+    loaded: Result<FoundSet, SetFault>,
+) -> Result<FoundSet, Refusal>
+    ensures set { IfOk result (λ found. loaded ≡ Ok found) }
     ensures fault { IfErr result (λ r. IsRefusal r.fault → (loaded ≡ Err r.fault) × PointsOut kept.now r.fault r.pointed.items) }
     ensures read { IfErr result (λ r. r.fault ≡ NotRead → loaded ≡ Err NotRead) }
 {
@@ -224,8 +246,8 @@ fn pointed_set(
 }
 
 /// The set of the text that a reader returns, or why it has none, and the place.
-fn read_set<R: Read>(alloc: Global, reader: &mut R) -> Result<Verified, Refusal>
-    ensures set { IfOk result (λ v. IsGiven (R.remaining reader.old) (λ bytes. IsSetOf bytes v)) }
+fn read_set<R: Read>(alloc: Global, reader: &mut R) -> Result<FoundSet, Refusal>
+    ensures set { IfOk result (λ found. IsGiven (R.remaining reader.old) (λ bytes. IsFound bytes found)) }
     ensures fault { IfErr result (λ r. IsRefusal r.fault → IsGiven (R.remaining reader.old) (λ bytes. IsRefusedAt bytes r)) }
 {
     match read_text(alloc, reader) {
@@ -240,15 +262,15 @@ fn read_set<R: Read>(alloc: Global, reader: &mut R) -> Result<Verified, Refusal>
     }
 }
 
-/// The set that a command names, or why there is none and the place in its text. The whole text is read: bytes that
-/// aren't UTF-8 are reported before a text that is too long. It keeps at most 262,145 bytes.
+/// The set that a command names, with the limits of its text, or why there is none and the place in its text. The whole
+/// text is read: bytes that aren't UTF-8 are reported before a text that is too long. It keeps at most 262,145 bytes.
 ///
 /// # Errors
 ///
 /// The fault is [`SetFault::NotText`] (F1) if the bytes aren't UTF-8, [`SetFault::Load`] if `load` refuses the text,
 /// [`SetFault::NotRead`] if a read failed (never for built-in sets), or [`LoadFault::NoMemory`].
-pub fn find_set<R: Read + Drop>(alloc: Global, set: SetWord<R>) -> Result<Verified, Refusal>
-    ensures set { IfOk result (λ v. IsGiven (given R.remaining set) (λ bytes. IsSetOf bytes v)) }
+pub fn find_set<R: Read + Drop>(alloc: Global, set: SetWord<R>) -> Result<FoundSet, Refusal>
+    ensures set { IfOk result (λ found. IsGiven (given R.remaining set) (λ bytes. IsFound bytes found)) }
     ensures fault { IfErr result (λ r. IsRefusal r.fault → IsGiven (given R.remaining set) (λ bytes. IsRefusedAt bytes r)) }
     ensures read { IfErr result (λ r. r.fault ≡ NotRead → IsText set) }
 {
@@ -258,14 +280,14 @@ pub fn find_set<R: Read + Drop>(alloc: Global, set: SetWord<R>) -> Result<Verifi
     }
 }
 
-/// The set that a command names, or why there is none: as `find_set`, without the place.
-pub fn load_set<R: Read + Drop>(alloc: Global, set: SetWord<R>) -> Result<Verified, SetFault>
-    ensures set { IfOk result (λ v. IsGiven (given R.remaining set) (λ bytes. IsSetOf bytes v)) }
+/// The set that a command names, with the limits of its text, or why there is none: as `find_set`, without the place.
+pub fn load_set<R: Read + Drop>(alloc: Global, set: SetWord<R>) -> Result<FoundSet, SetFault>
+    ensures set { IfOk result (λ found. IsGiven (given R.remaining set) (λ bytes. IsFound bytes found)) }
     ensures fault { IfErr result (λ e. IsRefusal e → IsGiven (given R.remaining set) (λ bytes. IsRefusalOf bytes e)) }
     ensures read { IfErr result (λ e. e ≡ NotRead → IsText set) }
 {
     match find_set(alloc, set) {
-        Ok(set) => Ok(set),
+        Ok(found) => Ok(found),
         Err(Refusal { fault, pointed: _ }) => Err(fault),
     }
 }

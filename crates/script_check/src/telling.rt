@@ -7,18 +7,20 @@ ghost use Rattle.script_check.specs.Telling.{Fits, FitsRule, IsNameAt, IsNamed, 
 use crate::answers::no_answer;
 use crate::ends::no_end;
 use crate::limits::tell_over;
+use crate::operands::Side;
 use crate::receivers::{no_receiver, two_receivers};
 use crate::sort_notes::explain;
-use crate::sorts::wrong_sort;
+use crate::sorts::{Cause, wrong_sort};
+use crate::synonym_sorts::wrong_synonym;
 use script_point::{
     Explained, Notes, Reading, add_notes, process_at, push_all, tokens_of, unset_read,
 };
-use sdl_lex::{Lexeme, Name, Token};
+use sdl_lex::{Lexeme, Name, Symbol, Token, Word};
 use sdl_sound::{RuleFault, Step};
 use sdl_tables::{BlockTable, ProcessTable, TableFault};
-use sdl_tree::{Block, ParseFault, parse};
+use sdl_tree::{Block, ParseFault, Sort, UnaryOperator, parse};
 use std::alloc::{AllocError, Global};
-use turn_verify::LoadFault;
+use turn_verify::{LoadFault, meaning};
 
 /// The most tokens of a process that are parsed again with each token that might follow them.
 const MOST_TRIED: usize = 4096;
@@ -44,6 +46,35 @@ fn of_unset(
     }
 }
 
+/// Whether a token may be the last one of an operand.
+fn ends_operand(read: &Reading<'_>, index: usize) -> bool {
+    match read.tokens.get(index) {
+        Some(token) => match token.lexeme {
+            Lexeme::Number(_) | Lexeme::Name(_) | Lexeme::Symbol(Symbol::Close) => true,
+            Lexeme::Word(word) => word == Word::True || word == Word::False,
+            _ => false,
+        },
+        None => false,
+    }
+}
+
+/// Why a name after a minus is wrong: it is a Boolean.
+fn negated(read: &Reading<'_>, index: usize) -> Option<Cause> {
+    let sign = index.saturating_sub(1);
+    if !read.is_name(index)
+        || read.symbol(sign) != Some(Symbol::Minus)
+        || ends_operand(read, sign.saturating_sub(1))
+    {
+        return None;
+    }
+    Some(Cause::Operand {
+        side: Side::Behind(UnaryOperator::Negate),
+        want: Some(Sort::Integer),
+        found: Some(Sort::Boolean),
+        is_denied: false,
+    })
+}
+
 /// Adds the notes for a rule that is broken at a place of a process.
 fn of_place(
     alloc: Global,
@@ -54,10 +85,16 @@ fn of_place(
     fault: &RuleFault,
 ) -> Result<(), AllocError> {
     match fault {
-        RuleFault::WrongSort(at) => match wrong_sort(block, process, *at) {
-            Some(cause) => explain(alloc, &mut told.notes, &cause),
-            None => Ok(()),
-        },
+        RuleFault::WrongSort(at) => {
+            let cause = match negated(read, read.index_at(*at)) {
+                Some(cause) => Some(cause),
+                None => wrong_sort(block, process, *at),
+            };
+            match cause {
+                Some(cause) => explain(alloc, &mut told.notes, &cause),
+                None => Ok(()),
+            }
+        }
         RuleFault::NoReceiver(at) => {
             no_receiver(alloc, &mut told.notes, block, process, read.text, *at)
         }
@@ -118,6 +155,25 @@ fn of_tree(
     }
 }
 
+/// Whether a synonym of a block as it is written has an expression of a wrong sort, and the note on it.
+fn of_synonyms(
+    alloc: Global,
+    notes: &mut Notes,
+    block: &Block,
+    fault: &RuleFault,
+) -> Result<bool, AllocError> {
+    let RuleFault::WrongSort(at) = fault else {
+        return Ok(false);
+    };
+    match wrong_synonym(alloc, block, *at)? {
+        Some(cause) => {
+            explain(alloc, notes, &cause)?;
+            Ok(true)
+        }
+        None => Ok(false),
+    }
+}
+
 /// Adds the notes that the syntax tree of a text yields for a rule that it breaks.
 fn add_of_tree(
     alloc: Global,
@@ -126,7 +182,13 @@ fn add_of_tree(
     fault: &RuleFault,
 ) -> Result<(), AllocError> {
     match parse(alloc, read.tokens) {
-        Ok(block) => of_tree(alloc, told, &block, read, fault),
+        Ok(block) => {
+            if of_synonyms(alloc, &mut told.notes, &block, fault)? {
+                return Ok(());
+            }
+            let meant = meaning(alloc, &block)?;
+            of_tree(alloc, told, &meant, read, fault)
+        }
         Err(ParseFault::NoMemory) => Err(AllocError),
         Err(_) => Ok(()),
     }

@@ -27,10 +27,12 @@ use Rattle.turn_code.specs.declared.trouble.Trouble.TheVariants.{NoState, Outsid
 use Rattle.turn_code.specs.declared.value.Value.{Value}
 use Rattle.turn_code.specs.declared.value.Value.TheVariants.{Int, Bool as Truth}
 use Rattle.turn_code.specs.Run.{Progress, tick, begun, ended}
-use Rattle.script_covered.specs.Ways.{Taken, at, else_of, Way, stands, behind, goes_with, then_way, is_for, with_value, valued, behind_action, taken_in, action_place, end_place, way_of, chosen_way, connection_at, joined_at, joined_way, whole_way}
+use Rattle.script_covered.specs.Ways.{Taken, at, else_of, Way, stands, behind, goes_with, then_way, is_for, with_value, behind_action, taken_in, action_place, end_place, way_of, chosen_way, connection_at, joined_at, joined_way, whole_way}
 use Rattle.script_covered.specs.Covered.{turn_way}
 use Rattle.script_covered.specs.Meant.{meant_end, ComesTo}
-use Rattle.script_covered.proofs.Readings.{Values, Reads, ids, value_reads, Keeps, perform_keeps, places_keep, tried, found_so}
+use Rattle.sdl_meaning.specs.Valued.{valued, Reads}
+use Rattle.sdl_meaning.proofs.Readings.{Values, ids, value_reads}
+use Rattle.script_covered.proofs.Readings.{Keeps, perform_keeps, places_keep, tried, found_so}
 
 -- ---- statements, for which no JOIN is followed
 

@@ -15,7 +15,8 @@ use Rattle.sdl_ast.specs.Views.{plain_statement, tree_of, action_of, text_of, st
 use Rattle.sdl_ast.proofs.Views.{text_of-is, plain_answer-is, plain_decides, decision_of-is, statement_of-act}
 use Rattle.sdl_tables.specs.Names.{variable_names}
 use Rattle.turn_code.specs.declared.value.Value.{Value}
-use Rattle.script_covered.specs.Ways.{Taken, at, else_of, end_place, Way, stands, behind, goes_with, then_way, is_for, with_value, valued, way_of, chosen_way, behind_action, action_place, joined_at, joined_way, way_on, whole_way, through}
+use Rattle.script_covered.specs.Ways.{Taken, at, else_of, end_place, Way, stands, behind, goes_with, then_way, is_for, with_value, way_of, chosen_way, behind_action, action_place, joined_at, joined_way, way_on, whole_way, through}
+use Rattle.sdl_meaning.specs.Valued.{valued}
 use Rattle.script_covered.specs.Covered.{HasTaken}
 use Rattle.script_covered.specs.OnWay.{IsOnWay}
 use Rattle.script_covered.specs.declared.coverage.Counts.{Counts}

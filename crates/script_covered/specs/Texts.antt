@@ -6,6 +6,7 @@ use Rattle.sdl_lex.specs.declared.lexemes.Token.{Token}
 use Rattle.sdl_ast.specs.Plain.{PlainBlock}
 use Rattle.sdl_ast.specs.Views.{block_of}
 use Rattle.sdl_tree.specs.Syntax.{Reads}
+use Rattle.sdl_rules.specs.Expansion.{expanded}
 use Rattle.sdl_tables.specs.Names.{Input, inputs_by_state, processes_of}
 use Rattle.sdl_tables.specs.Rows.{rows_inputs}
 use Rattle.sdl_tables.specs.declared.process_table.InputRow.{InputRow}
@@ -14,11 +15,13 @@ use Rattle.script_covered.specs.Covered.{Covers}
 use Rattle.script_covered.specs.Lcov.{lcov_text}
 use Rattle.script_covered.specs.declared.text_coverage.TextCoverage.{TextCoverage}
 
--- the text reads as the block
+-- the text means the block: it reads as a block whose expansion this is
 pub record IsTextOf (text : List ℕ) (b : PlainBlock) : Type 0 where
   pub tokens : List Token
   pub lexed : Answers text (Ok tokens)
-  pub reads : Reads tokens b
+  pub written : PlainBlock
+  pub reads : Reads tokens written
+  pub means : b ≡ expanded written
 
 abbrev pub inputs_in : Vec (Vec InputRow) → List (List Input)
 inputs_in states = map rows_inputs states.items

@@ -1,68 +1,20 @@
 -- The path of a turn through a text: the parts that it takes, in order, and how it goes on. It
 -- depends only on the values of variables, not on signals sent or timers set.
-use Rattle.std.specs.Prelude.{ℕ, zero, suc, ◌+◌, pos, Bool, true, false, List, [], ◌∷◌, ◌++◌}
-use Rattle.std.specs.Prelude.{Option, None, Some, if◌then◌else◌, slice_get, slice_set, unwrap_or}
-use Rattle.std.specs.Prelude.{option_and_then}
+use Rattle.std.specs.Prelude.{ℕ, zero, suc, ◌+◌, Bool, false, List, [], ◌∷◌, ◌++◌, Option, None}
+use Rattle.std.specs.Prelude.{Some, if◌then◌else◌, slice_get, slice_set, unwrap_or, option_and_then}
 use Rattle.std.specs.List.{list_any}
 use Rattle.sdl_ast.specs.declared.expression.Identifier.{Identifier}
-use Rattle.sdl_ast.specs.declared.expression.UnaryOperator.{UnaryOperator}
-use Rattle.sdl_ast.specs.declared.expression.BinaryOperator.{BinaryOperator}
 use Rattle.sdl_ast.specs.declared.tree.End.{End}
 use Rattle.sdl_ast.specs.declared.tree.End.TheVariants.{NextState, Stop, Join}
 use Rattle.sdl_ast.specs.declared.tree.Range.{Range}
-use Rattle.sdl_ast.specs.Plain.{Tree, number, truth, variable, unary, binary, PlainAssignment}
-use Rattle.sdl_ast.specs.Plain.{PlainAction, task, output, set_timer, reset_timer, Text, falls}
-use Rattle.sdl_ast.specs.Plain.{ends, does, decides, Choice, nothing_else, otherwise, answer}
-use Rattle.sdl_ast.specs.Plain.{PlainConnection, PlainProcess}
+use Rattle.sdl_ast.specs.Plain.{PlainAssignment, PlainAction, task, output, set_timer, reset_timer}
+use Rattle.sdl_ast.specs.Plain.{Text, falls, ends, does, decides, Choice, nothing_else, otherwise}
+use Rattle.sdl_ast.specs.Plain.{answer, PlainConnection, PlainProcess}
 use Rattle.sdl_tables.specs.Names.{number_of, variable_names, connector_names}
-use Rattle.sdl_sound.specs.Longest.{is_division}
-use Rattle.sdl_meaning.specs.Act.{apply_one, apply_two, working, divide, divisor_of, covers_integer}
-use Rattle.sdl_meaning.specs.Act.{covers_truth}
-use Rattle.sdl_meaning.specs.Outcomes.{Outcome, goes_on, over}
-use Rattle.turn_code.specs.Run.{Progress}
-use Rattle.turn_code.specs.Values.{wrap}
+use Rattle.sdl_meaning.specs.Act.{covers_integer, covers_truth}
+use Rattle.sdl_meaning.specs.Valued.{valued}
 use Rattle.turn_code.specs.declared.value.Value.{Value}
 use Rattle.turn_code.specs.declared.value.Value.TheVariants.{Int, Bool as Truth}
-
--- ---- the values of expressions
-
--- a progress in which nothing was done
-abbrev pub fresh : Progress
-fresh = record { variables = []; effects = []; count = 0 }
-
-abbrev pub found : Outcome Value → Option Value
-found (goes_on x s) = Some x
-found (over e s) = None
-
--- the value of a variable, if it is set
-abbrev pub held : Option ℕ → List (Option Value) → Option Value
-held None vs = None
-held (Some n) vs = unwrap_or (slice_get vs n) None
-
-abbrev pub is_truth : Value → Bool
-is_truth (Int x) = false
-is_truth (Truth b) = true
-
--- the result of an operator on one value, on two values, and on a value and a divisor; none if a
--- value has the wrong sort
-abbrev pub made_of_one : UnaryOperator → Value → Option Value
-made_of_one op x = found (apply_one op x fresh)
-
-abbrev pub made_of_two : BinaryOperator → Value → Value → Option Value
-made_of_two op x y = found (apply_two (working (is_truth x) op) x y fresh)
-
-abbrev pub quotient_of : BinaryOperator → Tree → Value → Option Value
-quotient_of op t x = found (divide op (divisor_of t) x fresh)
-
--- the value of an expression, if the variables of these names have these values
-abbrev pub valued : List Identifier → Tree → List (Option Value) → Option Value
-valued ids (number k n) vs = Some (Int (wrap (pos n)))
-valued ids (truth k b) vs = Some (Truth b)
-valued ids (variable k n) vs = held (number_of ids n.name) vs
-valued ids (unary k op t) vs = option_and_then (made_of_one op) (valued ids t vs)
-valued ids (binary k op t u) vs =
-    option_and_then (λ x. if is_division op then quotient_of op u x
-    else option_and_then (made_of_two op x) (valued ids u vs)) (valued ids t vs)
 
 -- ---- the values of variables
 

@@ -13,6 +13,7 @@ mod values;
 mod ways;
 
 pub use sdl_lex::tokens;
+pub use sdl_rules::expand;
 pub use sdl_tables::BlockTable;
 pub use sdl_tree::parse;
 pub use text_coverage::TextCoverage;

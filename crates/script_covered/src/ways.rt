@@ -11,9 +11,10 @@ ghost use Rattle.script_covered.specs.Covered.{HasTaken, passed};
 ghost use Rattle.script_covered.specs.OnWay.{IsOnWay};
 
 use crate::coverage::Counts;
-use crate::values::{answers, evaluate};
+use crate::values::answers;
 use arrayvec::ArrayVec;
 use sdl_ast::{Action, Assignment, Connection, Decision, End, Identifier, Statement, Transition};
+use sdl_meaning::evaluate;
 use sdl_tables::{NameTable, ProcessTable};
 use turn_code::{Input, Value, copied_variables};
 

@@ -21,7 +21,7 @@ pub use heads::{GroupHead, TermHead};
 pub use octets::octets_in;
 pub use orders::{Order, mode_named, order_in};
 pub use play_faults::play_fault;
-pub use resend_store::{Mode, RoundLimits, USUAL_LIMITS};
+pub use resend_store::{Mode, RoundLimits};
 pub use script::{AnyScript, TermSaid, TermScript, any_script};
 pub use script_lines::count;
 pub use verbs::{TermVerb, term_verb_in};

@@ -5,8 +5,9 @@ use Rattle.plain_text.specs.Reading.{LONGEST, IsReading}
 use Rattle.plain_text.specs.declared.reading.TextRead.{TextRead}
 use Rattle.turn_code.specs.declared.draft.Draft.{Draft}
 use Rattle.script_check.proofs.Long.{all_kept}
-use Rattle.script_check.specs.Checked.{IsSetOf, IsGiven, IsAccepted, PrintsRefusal}
-use Rattle.resend_store.specs.declared.messages.RoundLimits.{RoundLimits}
+use Rattle.script_check.specs.Checked.{IsSetOf, IsFound, IsGiven, IsAccepted, PrintsRefusal}
+use Rattle.script_check.specs.declared.sets.FoundSet.{FoundSet}
+use Rattle.mtp2_text.specs.declared.limits.TextLimits.{TextLimits}
 use Rattle.script_seen.specs.Turn.{Turn}
 use Rattle.script_seen.specs.Watched.{Notice, TurnEnd, Throw as OneThrow, ends, throws}
 use Rattle.script_covered.specs.Texts.{IsCovering, IsLcov}
@@ -60,11 +61,11 @@ pub accepted_as : (known : Option (List ℕ)) (bytes : List ℕ) → IfSome know
 accepted_as None bytes is a = tt
 accepted_as (Some all) bytes is a = subst IsAccepted is a
 
-pub covered_as : (name : List ℕ) (known : Option (List ℕ)) (bytes : List ℕ) (usual : RoundLimits) (script old new from to : Option (List ℕ)) → IfSome known (λ all. bytes ≡ all)
-    → IsOnSet (Some bytes) script (IsTextCovered name (Some bytes) usual old new from to) → IsOnSet known script (IsTextCovered name known usual old new from to)
-covered_as name known bytes usual script old new from to is s = record {
-  draft = s.draft;
-  is_set = given_as known bytes (λ all. IsSetOf all s.draft) is s.is_set;
+pub covered_as : (name : List ℕ) (known : Option (List ℕ)) (bytes : List ℕ) (script old new from to : Option (List ℕ)) → IfSome known (λ all. bytes ≡ all)
+    → IsOnSet (Some bytes) script (λ l. IsTextCovered name (Some bytes) l old new from to) → IsOnSet known script (λ l. IsTextCovered name known l old new from to)
+covered_as name known bytes script old new from to is s = record {
+  found = s.found;
+  is_set = given_as known bytes (λ all. IsFound all s.found) is s.is_set;
   of_script = record {
     bytes = s.of_script.bytes;
     are_known = s.of_script.are_known;
@@ -77,11 +78,11 @@ covered_as name known bytes usual script old new from to is s = record {
   };
 }
 
-pub covered_in_part_as : (name : List ℕ) (known : Option (List ℕ)) (bytes : List ℕ) (usual : RoundLimits) (script old new from to : Option (List ℕ)) → IfSome known (λ all. bytes ≡ all)
-    → IsOnSet (Some bytes) script (IsTextCoveredInPart name (Some bytes) usual old new from to) → IsOnSet known script (IsTextCoveredInPart name known usual old new from to)
-covered_in_part_as name known bytes usual script old new from to is s = record {
-  draft = s.draft;
-  is_set = given_as known bytes (λ all. IsSetOf all s.draft) is s.is_set;
+pub covered_in_part_as : (name : List ℕ) (known : Option (List ℕ)) (bytes : List ℕ) (script old new from to : Option (List ℕ)) → IfSome known (λ all. bytes ≡ all)
+    → IsOnSet (Some bytes) script (λ l. IsTextCoveredInPart name (Some bytes) l old new from to) → IsOnSet known script (λ l. IsTextCoveredInPart name known l old new from to)
+covered_in_part_as name known bytes script old new from to is s = record {
+  found = s.found;
+  is_set = given_as known bytes (λ all. IsFound all s.found) is s.is_set;
   of_script = record {
     bytes = s.of_script.bytes;
     are_known = s.of_script.are_known;
@@ -95,39 +96,39 @@ covered_in_part_as name known bytes usual script old new from to is s = record {
 }
 
 -- `IsSomeCovered` follows if there is such a text
-as_some : (name : List ℕ) (known : Option (List ℕ)) (usual : RoundLimits) (old new from to : Option (List ℕ)) (d : Draft) (said : List ℕ)
+as_some : (name : List ℕ) (known : Option (List ℕ)) (usual : TextLimits) (old new from to : Option (List ℕ)) (d : Draft) (said : List ℕ)
     → IsTextCovered name known usual old new from to d said → IsPlaySeen usual Coverage old new from to d said
 as_some name known usual old new from to d said c = record { name = name; text = c.text; is_set = c.is_set; told = c.told }
 
-as_some_in_part : (name : List ℕ) (known : Option (List ℕ)) (usual : RoundLimits) (old new from to : Option (List ℕ)) (d : Draft) (said : List ℕ)
+as_some_in_part : (name : List ℕ) (known : Option (List ℕ)) (usual : TextLimits) (old new from to : Option (List ℕ)) (d : Draft) (said : List ℕ)
     → IsTextCoveredInPart name known usual old new from to d said → IsPlaySeenInPart usual Coverage old new from to d said
 as_some_in_part name known usual old new from to d said c = record { name = name; text = c.text; is_set = c.is_set; told = c.told }
 
-pub some_covered : (name : List ℕ) (known : Option (List ℕ)) (usual : RoundLimits) (wanted : Wanted) (set script old new from to : Option (List ℕ)) → wanted ≡ Coverage
-    → IsOnSet set script (IsTextCovered name known usual old new from to) → IsOnSet set script (IsPlaySeen usual wanted old new from to)
-some_covered name known usual wanted set script old new from to is s = record {
-  draft = s.draft;
+pub some_covered : (name : List ℕ) (known : Option (List ℕ)) (wanted : Wanted) (set script old new from to : Option (List ℕ)) → wanted ≡ Coverage
+    → IsOnSet set script (λ l. IsTextCovered name known l old new from to) → IsOnSet set script (λ l. IsPlaySeen l wanted old new from to)
+some_covered name known wanted set script old new from to is s = record {
+  found = s.found;
   is_set = s.is_set;
   of_script =
-      let P : Wanted → Type 0 = λ w. IsPlaySeen usual w old new from to s.draft s.of_script.bytes in
+      let P : Wanted → Type 0 = λ w. IsPlaySeen s.found.limits w old new from to s.found.set s.of_script.bytes in
       record {
         bytes = s.of_script.bytes;
         are_known = s.of_script.are_known;
-        holds = subst P (sym is) (as_some name known usual old new from to s.draft s.of_script.bytes s.of_script.holds);
+        holds = subst P (sym is) (as_some name known s.found.limits old new from to s.found.set s.of_script.bytes s.of_script.holds);
       };
 }
 
-pub some_covered_in_part : (name : List ℕ) (known : Option (List ℕ)) (usual : RoundLimits) (wanted : Wanted) (set script old new from to : Option (List ℕ)) → wanted ≡ Coverage
-    → IsOnSet set script (IsTextCoveredInPart name known usual old new from to) → IsOnSet set script (IsPlaySeenInPart usual wanted old new from to)
-some_covered_in_part name known usual wanted set script old new from to is s = record {
-  draft = s.draft;
+pub some_covered_in_part : (name : List ℕ) (known : Option (List ℕ)) (wanted : Wanted) (set script old new from to : Option (List ℕ)) → wanted ≡ Coverage
+    → IsOnSet set script (λ l. IsTextCoveredInPart name known l old new from to) → IsOnSet set script (λ l. IsPlaySeenInPart l wanted old new from to)
+some_covered_in_part name known wanted set script old new from to is s = record {
+  found = s.found;
   is_set = s.is_set;
   of_script =
-      let P : Wanted → Type 0 = λ w. IsPlaySeenInPart usual w old new from to s.draft s.of_script.bytes in
+      let P : Wanted → Type 0 = λ w. IsPlaySeenInPart s.found.limits w old new from to s.found.set s.of_script.bytes in
       record {
         bytes = s.of_script.bytes;
         are_known = s.of_script.are_known;
-        holds = subst P (sym is) (as_some_in_part name known usual old new from to s.draft s.of_script.bytes s.of_script.holds);
+        holds = subst P (sym is) (as_some_in_part name known s.found.limits old new from to s.found.set s.of_script.bytes s.of_script.holds);
       };
 }
 
@@ -135,36 +136,36 @@ pub refused_as : (known : Option (List ℕ)) (bytes : List ℕ) (script old new 
     → IsRefused known script old new
 refused_as known bytes script old new is (set_refused g) = set_refused (given_as known bytes (PrintsRefusal old new) is g)
 refused_as known bytes script old new is (script_refused s) =
-    script_refused (record { draft = s.draft; is_set = given_as known bytes (λ all. IsSetOf all s.draft) is s.is_set; of_script = s.of_script })
+    script_refused (record { found = s.found; is_set = given_as known bytes (λ all. IsFound all s.found) is s.is_set; of_script = s.of_script })
 
 -- for the bytes of a text
-pub of_bytes : (usual : RoundLimits) (old new from to : Option (List ℕ)) (name text bytes : List ℕ) (d : Draft) (said : List ℕ) → text ≡ bytes
+pub of_bytes : (usual : TextLimits) (old new from to : Option (List ℕ)) (name text bytes : List ℕ) (d : Draft) (said : List ℕ) → text ≡ bytes
     → IsPlayTold usual old new (IsCoveredBy name text from to) d said → IsPlayTold usual old new (IsCoveredBy name bytes from to) d said
 of_bytes usual old new from to name text bytes d said is told =
     let P : List ℕ → Type 0 = λ bs. IsPlayTold usual old new (IsCoveredBy name bs from to) d said in
     subst P is told
 
-pub of_bytes_in_part : (usual : RoundLimits) (old new from to : Option (List ℕ)) (name text bytes : List ℕ) (d : Draft) (said : List ℕ) → text ≡ bytes
+pub of_bytes_in_part : (usual : TextLimits) (old new from to : Option (List ℕ)) (name text bytes : List ℕ) (d : Draft) (said : List ℕ) → text ≡ bytes
     → IsPlayToldInPart usual old new (IsCoveredBy name text from to) d said → IsPlayToldInPart usual old new (IsCoveredBy name bytes from to) d said
 of_bytes_in_part usual old new from to name text bytes d said is told =
     let P : List ℕ → Type 0 = λ bs. IsPlayToldInPart usual old new (IsCoveredBy name bs from to) d said in
     subst P is told
 
 -- for the set of these bytes
-pub bytes_covered : (name bytes : List ℕ) (usual : RoundLimits) (old new from to : Option (List ℕ)) (d : Draft) (said : List ℕ) → IsGiven (Some bytes) (λ all. IsSetOf all d)
-    → IsPlayTold usual old new (IsCoveredBy name bytes from to) d said → IsTextCovered name (Some bytes) usual old new from to d said
-bytes_covered name bytes usual old new from to d said given told = record {
+pub bytes_covered : (name bytes : List ℕ) (old new from to : Option (List ℕ)) (found : FoundSet) (said : List ℕ) → IsGiven (Some bytes) (λ all. IsFound all found)
+    → IsPlayTold found.limits old new (IsCoveredBy name bytes from to) found.set said → IsTextCovered name (Some bytes) found.limits old new from to found.set said
+bytes_covered name bytes old new from to found said given told = record {
   text = bytes;
   is_known = refl;
-  is_set = subst (λ (all : List ℕ). IsSetOf all d) given.are_known given.holds;
+  is_set = subst (λ (all : List ℕ). IsSetOf all found.set) given.are_known given.holds.is_set;
   told = told;
 }
 
-pub bytes_covered_in_part : (name bytes : List ℕ) (usual : RoundLimits) (old new from to : Option (List ℕ)) (d : Draft) (said : List ℕ) → IsGiven (Some bytes) (λ all. IsSetOf all d)
-    → IsPlayToldInPart usual old new (IsCoveredBy name bytes from to) d said → IsTextCoveredInPart name (Some bytes) usual old new from to d said
-bytes_covered_in_part name bytes usual old new from to d said given told = record {
+pub bytes_covered_in_part : (name bytes : List ℕ) (old new from to : Option (List ℕ)) (found : FoundSet) (said : List ℕ) → IsGiven (Some bytes) (λ all. IsFound all found)
+    → IsPlayToldInPart found.limits old new (IsCoveredBy name bytes from to) found.set said → IsTextCoveredInPart name (Some bytes) found.limits old new from to found.set said
+bytes_covered_in_part name bytes old new from to found said given told = record {
   text = bytes;
   is_known = refl;
-  is_set = subst (λ (all : List ℕ). IsSetOf all d) given.are_known given.holds;
+  is_set = subst (λ (all : List ℕ). IsSetOf all found.set) given.are_known given.holds.is_set;
   told = told;
 }

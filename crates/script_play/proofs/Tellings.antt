@@ -4,6 +4,7 @@ use Rattle.std.specs.Prelude.{◌⊎◌}
 use Rattle.std.specs.Global.{Vec}
 use Rattle.std.specs.Io.KnownBytes.{Appends}
 use Rattle.turn_code.specs.declared.draft.Draft.{Draft}
+use Rattle.mtp2_text.specs.declared.limits.TextLimits.{TextLimits}
 use Rattle.resend_store.specs.declared.messages.RoundLimits.{RoundLimits}
 use Rattle.script_links.specs.TermScripts.{PlainAnyScript, book, terminal, asks_told}
 use Rattle.script_links.specs.GroupScripts.{PlainPlayScript, other, group}
@@ -41,15 +42,15 @@ part_as usual d (other s) P Q f w = other_part_as usual d s P Q f w
 part_as usual d (group s) P Q f w = absurd w
 
 -- a property of the watcher, replaced by one that follows from it
-pub play_told_as : (usual : RoundLimits) (old new : Option (List ℕ)) (d : Draft) (bytes : List ℕ) (P Q : List Notice → Type 0)
-    → ((ns : List Notice) → P ns → Q ns) → IsPlayTold usual old new P d bytes → IsPlayTold usual old new Q d bytes
-play_told_as usual old new d bytes P Q f w =
-    record { utf8 = w.utf8; script = w.script; reads = w.reads; run = w.run; told = told_as usual d w.script P Q f w.told }
+pub play_told_as : (limits : TextLimits) (old new : Option (List ℕ)) (d : Draft) (bytes : List ℕ) (P Q : List Notice → Type 0)
+    → ((ns : List Notice) → P ns → Q ns) → IsPlayTold limits old new P d bytes → IsPlayTold limits old new Q d bytes
+play_told_as limits old new d bytes P Q f w =
+    record { utf8 = w.utf8; script = w.script; reads = w.reads; usual = w.usual; is_usual = w.is_usual; run = w.run; told = told_as w.usual d w.script P Q f w.told }
 
-pub play_part_as : (usual : RoundLimits) (old new : Option (List ℕ)) (d : Draft) (bytes : List ℕ) (P Q : List Notice → Type 0)
-    → ((ns : List Notice) → P ns → Q ns) → IsPlayToldInPart usual old new P d bytes → IsPlayToldInPart usual old new Q d bytes
-play_part_as usual old new d bytes P Q f w =
-    record { utf8 = w.utf8; script = w.script; reads = w.reads; missed = w.missed; told = part_as usual d w.script P Q f w.told }
+pub play_part_as : (limits : TextLimits) (old new : Option (List ℕ)) (d : Draft) (bytes : List ℕ) (P Q : List Notice → Type 0)
+    → ((ns : List Notice) → P ns → Q ns) → IsPlayToldInPart limits old new P d bytes → IsPlayToldInPart limits old new Q d bytes
+play_part_as limits old new d bytes P Q f w =
+    record { utf8 = w.utf8; script = w.script; reads = w.reads; usual = w.usual; is_usual = w.is_usual; missed = w.missed; told = part_as w.usual d w.script P Q f w.told }
 
 -- a text that the watcher determines was written
 pub told_to : {E X : Type 0} (r : Result (Vec ℕ) E) (old new : Option (List ℕ)) (C : X → Type 0) (text : X → List ℕ) → IsToldTo r old new

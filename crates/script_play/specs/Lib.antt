@@ -8,3 +8,4 @@ pub mod Traced
 pub use Rattle.script_lines.specs.Words
 pub use Rattle.script_seen.specs.TracedActs
 pub use Rattle.script_seen.specs.declared as script_seen_types
+pub mod Limits

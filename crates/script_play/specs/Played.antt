@@ -1,5 +1,6 @@
 -- The meaning of `play`'s status for the script and for the text written.
-use Rattle.std.specs.Prelude.{◌≡◌, ◌++◌, ℕ, Bool, true, false, List, Option, Ok, Err, IsUtf8, codes}
+use Rattle.std.specs.Prelude.{◌≡◌, ◌++◌, ℕ, Bool, true, false, List, Option, Some, Ok, Err, IsUtf8}
+use Rattle.std.specs.Prelude.{codes}
 use Rattle.std.specs.Fmt.{decimal}
 use Rattle.std.specs.Io.KnownBytes.{Appends}
 use Rattle.turn_code.specs.declared.draft.Draft.{Draft}
@@ -9,7 +10,12 @@ use Rattle.script_book.specs.Played.{first_book, IsWritten, IsMissed}
 use Rattle.resend_store.specs.declared.messages.RoundLimits.{RoundLimits}
 use Rattle.script_links.specs.TermScripts.{PlainAnyScript, book, terminal}
 use Rattle.script_links.specs.GroupScripts.{PlainPlayScript, other, group, play_script_of}
-use Rattle.script_check.specs.Checked.{IsGiven, IsSetOf, PrintsRefusal}
+use Rattle.script_check.specs.Checked.{IsGiven, IsFound, PrintsRefusal}
+use Rattle.script_check.specs.Printed.{limit_line}
+use Rattle.script_check.specs.declared.sets.FoundSet.{FoundSet}
+use Rattle.mtp2_text.specs.declared.limits.TextLimits.{TextLimits}
+use Rattle.mtp2_text.specs.declared.limits.LimitName.{LimitName}
+use Rattle.script_play.specs.Limits.{usual_over, wrong_for}
 use Rattle.plain_text.specs.Lines.{line_of}
 use Rattle.script_seen.specs.TermRuns.{IsOfNew, IsTermWritten, IsTermFailed, LacksName}
 use Rattle.script_lines.specs.Lines.{PlainLine, lines_of}
@@ -92,19 +98,23 @@ IsMissedAs usual false lines d s old new = IsMissedIn usual d s old new
 IsMissedAs usual true lines d s old new = AreShownMissed usual lines d s old new
 
 -- the bytes are a script, all of whose commands were obeyed
-pub record IsPlayed (usual : RoundLimits) (echo : Bool) (old new : Option (List ℕ)) (d : Draft)
+pub record IsPlayed (limits : TextLimits) (echo : Bool) (old new : Option (List ℕ)) (d : Draft)
     (bytes : List ℕ) : Type 0 where
   pub utf8 : IsUtf8 bytes
   pub script : PlainPlayScript
   pub reads : play_script_of bytes ≡ Ok script
+  pub usual : RoundLimits
+  pub is_usual : usual_over limits script ≡ Some usual
   pub run : IsObeyedAs usual echo (lines_of bytes) d script old new
 
 -- the bytes are a script, and one of its expectations failed
-pub record IsPlayedInPart (usual : RoundLimits) (echo : Bool) (old new : Option (List ℕ))
+pub record IsPlayedInPart (limits : TextLimits) (echo : Bool) (old new : Option (List ℕ))
     (d : Draft) (bytes : List ℕ) : Type 0 where
   pub utf8 : IsUtf8 bytes
   pub script : PlainPlayScript
   pub reads : play_script_of bytes ≡ Ok script
+  pub usual : RoundLimits
+  pub is_usual : usual_over limits script ≡ Some usual
   pub missed : IsMissedAs usual echo (lines_of bytes) d script old new
 
 -- ---- refusals
@@ -126,19 +136,36 @@ abbrev pub HasNoTerminal : Draft → PlainPlayScript → Option (List ℕ) → O
 HasNoTerminal d (other s) old new = HasNoOther d s old new
 HasNoTerminal d (group s) old new = LacksName d old new
 
--- the bytes are a script of a terminal or of links, and the process set lacks a name that a
--- terminal needs: only the line about the first such name was written
-pub record IsWithoutTerminal (old new : Option (List ℕ)) (d : Draft) (bytes : List ℕ) : Type 0 where
+-- the bytes are a script of a terminal or of links, no limit that applies is out of its range, and
+-- the process set lacks a name that a terminal needs: only the line about the first such name was
+-- written
+pub record IsWithoutTerminal (limits : TextLimits) (old new : Option (List ℕ)) (d : Draft)
+    (bytes : List ℕ) : Type 0 where
   pub utf8 : IsUtf8 bytes
   pub script : PlainPlayScript
   pub reads : play_script_of bytes ≡ Ok script
+  pub usual : RoundLimits
+  pub is_usual : usual_over limits script ≡ Some usual
   pub lacks : HasNoTerminal d script old new
 
+-- the bytes are a script of a terminal or of links whose first line chooses no limits, and a limit
+-- of the text is out of its range; only the line about the first such limit was written
+pub record IsWithoutLimit (limits : TextLimits) (old new : Option (List ℕ)) (bytes : List ℕ) :
+    Type 0 where
+  pub utf8 : IsUtf8 bytes
+  pub script : PlainPlayScript
+  pub reads : play_script_of bytes ≡ Ok script
+  pub name : LimitName
+  pub wrong : wrong_for limits script ≡ Some name
+  pub printed : Appends old new (limit_line name)
+
 -- why nothing ran on a process set: the bytes are no script, whatever the set; or they are a script
--- of a terminal or of links, and the set lacks a name
-pub data IsNotRun (old new : Option (List ℕ)) (d : Draft) (bytes : List ℕ) : Type 0 where
-  no_script : IsNoScript old new bytes → IsNotRun old new d bytes
-  no_terminal : IsWithoutTerminal old new d bytes → IsNotRun old new d bytes
+-- of a terminal or of links, and its text has a wrong limit or lacks a name
+pub data IsNotRun (limits : TextLimits) (old new : Option (List ℕ)) (d : Draft)
+    (bytes : List ℕ) : Type 0 where
+  no_script : IsNoScript old new bytes → IsNotRun limits old new d bytes
+  no_limit : IsWithoutLimit limits old new bytes → IsNotRun limits old new d bytes
+  no_terminal : IsWithoutTerminal limits old new d bytes → IsNotRun limits old new d bytes
 
 -- a bad line is reported by its number; running out of memory is no refusal
 abbrev pub PrintsFault : ScriptFault → Option (List ℕ) → Option (List ℕ) → Type 0
@@ -146,14 +173,17 @@ PrintsFault (BadLine line) old new =
     Appends old new (line_of (codes "refused X1 BadLine line " ++ decimal line))
 PrintsFault NoMemory old new = ⊥
 
--- the bytes of the set are accepted, and P holds of their set and of the bytes of the script
-pub record IsOnSet (set script : Option (List ℕ)) (P : Draft → List ℕ → Type 0) : Type 0 where
-  pub draft : Draft
-  pub is_set : IsGiven set (λ bytes. IsSetOf bytes draft)
-  pub of_script : IsGiven script (P draft)
+-- the bytes of the set are accepted, and P holds of their limits, of their set and of the bytes of
+-- the script
+pub record IsOnSet (set script : Option (List ℕ)) (P : TextLimits → Draft → List ℕ → Type 0) :
+    Type 0 where
+  pub found : FoundSet
+  pub is_set : IsGiven set (λ bytes. IsFound bytes found)
+  pub of_script : IsGiven script (P found.limits found.set)
 
 -- why nothing ran: the set is refused, whatever the script is; or the set is accepted, and the
 -- script is refused or can't run on it
 pub data IsRefused (set script old new : Option (List ℕ)) : Type 0 where
   set_refused : IsGiven set (PrintsRefusal old new) → IsRefused set script old new
-  script_refused : IsOnSet set script (IsNotRun old new) → IsRefused set script old new
+  script_refused : IsOnSet set script (λ limits. IsNotRun limits old new)
+      → IsRefused set script old new

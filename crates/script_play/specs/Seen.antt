@@ -18,6 +18,8 @@ use Rattle.script_seen.specs.WatchedKinds.{IsTermWatchedInPart}
 use Rattle.script_covered.specs.Texts.{IsLcov}
 use Rattle.script_play.specs.Captured.{IsCaptured, IsCapturedInPart}
 use Rattle.script_play.specs.CapturedSets.{IsSetCaptured, IsSetCapturedInPart}
+use Rattle.mtp2_text.specs.declared.limits.TextLimits.{TextLimits}
+use Rattle.script_play.specs.Limits.{usual_over}
 use Rattle.script_play.specs.Played.{IsObeyed, IsMissedIn, IsPlayed, IsPlayedInPart}
 use Rattle.script_play.specs.Charted.{charted_of}
 use Rattle.script_play.specs.Thrown.{thrown_of}
@@ -53,21 +55,25 @@ AreToldInPart usual d (other s) P = IsOtherToldInPart usual d s P
 AreToldInPart usual d (group s) P = ⊥
 
 -- the bytes are a script, all of whose commands were obeyed, and P holds of its notices
-pub record IsPlayTold (usual : RoundLimits) (old new : Option (List ℕ))
+pub record IsPlayTold (limits : TextLimits) (old new : Option (List ℕ))
     (P : List Notice → Type 0) (d : Draft) (bytes : List ℕ) : Type 0 where
   pub utf8 : IsUtf8 bytes
   pub script : PlainPlayScript
   pub reads : play_script_of bytes ≡ Ok script
+  pub usual : RoundLimits
+  pub is_usual : usual_over limits script ≡ Some usual
   pub run : IsObeyed usual d script old new
   pub told : AreTold usual d script P
 
 -- the bytes are a script, and one of its expectations failed; P holds of the notices of the
 -- commands before it
-pub record IsPlayToldInPart (usual : RoundLimits) (old new : Option (List ℕ))
+pub record IsPlayToldInPart (limits : TextLimits) (old new : Option (List ℕ))
     (P : List Notice → Type 0) (d : Draft) (bytes : List ℕ) : Type 0 where
   pub utf8 : IsUtf8 bytes
   pub script : PlainPlayScript
   pub reads : play_script_of bytes ≡ Ok script
+  pub usual : RoundLimits
+  pub is_usual : usual_over limits script ≡ Some usual
   pub missed : IsMissedIn usual d script old new
   pub told : AreToldInPart usual d script P
 
@@ -115,20 +121,24 @@ AreCapturedInPart usual every d (group s) old new =
     IsOfNewSet d usual s.head (IsSetCapturedInPart every s.commands old new)
 
 -- the bytes are a script, all of whose commands were obeyed, and whose links are captured
-pub record IsPlayCaptured (usual : RoundLimits) (every : Bool) (old new from to : Option (List ℕ))
+pub record IsPlayCaptured (limits : TextLimits) (every : Bool) (old new from to : Option (List ℕ))
     (d : Draft) (bytes : List ℕ) : Type 0 where
   pub utf8 : IsUtf8 bytes
   pub script : PlainPlayScript
   pub reads : play_script_of bytes ≡ Ok script
+  pub usual : RoundLimits
+  pub is_usual : usual_over limits script ≡ Some usual
   pub run : IsObeyed usual d script old new
   pub captured : AreCaptured usual every d script from to
 
 -- `IsPlayCaptured`, up to an expectation that failed
-pub record IsPlayCapturedInPart (usual : RoundLimits) (every : Bool)
+pub record IsPlayCapturedInPart (limits : TextLimits) (every : Bool)
     (old new from to : Option (List ℕ)) (d : Draft) (bytes : List ℕ) : Type 0 where
   pub utf8 : IsUtf8 bytes
   pub script : PlainPlayScript
   pub reads : play_script_of bytes ≡ Ok script
+  pub usual : RoundLimits
+  pub is_usual : usual_over limits script ≡ Some usual
   pub missed : IsMissedIn usual d script old new
   pub captured : AreCapturedInPart usual every d script from to
 
@@ -146,34 +156,34 @@ pub record IsCoveredBy (name text : List ℕ) (old new : Option (List ℕ)) (ns 
   pub written : Appends old new out
 
 -- the coverage of the set's text was written; the text has these bytes if they are known
-pub record IsTextCovered (name : List ℕ) (known : Option (List ℕ)) (usual : RoundLimits)
+pub record IsTextCovered (name : List ℕ) (known : Option (List ℕ)) (limits : TextLimits)
     (old new from to : Option (List ℕ)) (d : Draft) (bytes : List ℕ) : Type 0 where
   pub text : List ℕ
   pub is_known : IfSome known (λ all. text ≡ all)
   pub is_set : IsSetOf text d
-  pub told : IsPlayTold usual old new (IsCoveredBy name text from to) d bytes
+  pub told : IsPlayTold limits old new (IsCoveredBy name text from to) d bytes
 
-pub record IsTextCoveredInPart (name : List ℕ) (known : Option (List ℕ)) (usual : RoundLimits)
+pub record IsTextCoveredInPart (name : List ℕ) (known : Option (List ℕ)) (limits : TextLimits)
     (old new from to : Option (List ℕ)) (d : Draft) (bytes : List ℕ) : Type 0 where
   pub text : List ℕ
   pub is_known : IfSome known (λ all. text ≡ all)
   pub is_set : IsSetOf text d
-  pub told : IsPlayToldInPart usual old new (IsCoveredBy name text from to) d bytes
+  pub told : IsPlayToldInPart limits old new (IsCoveredBy name text from to) d bytes
 
 -- the coverage of some text of the set was written, with some file name
-pub record IsSomeCovered (usual : RoundLimits) (old new from to : Option (List ℕ)) (d : Draft)
+pub record IsSomeCovered (limits : TextLimits) (old new from to : Option (List ℕ)) (d : Draft)
     (bytes : List ℕ) : Type 0 where
   pub name : List ℕ
   pub text : List ℕ
   pub is_set : IsSetOf text d
-  pub told : IsPlayTold usual old new (IsCoveredBy name text from to) d bytes
+  pub told : IsPlayTold limits old new (IsCoveredBy name text from to) d bytes
 
-pub record IsSomeCoveredInPart (usual : RoundLimits) (old new from to : Option (List ℕ))
+pub record IsSomeCoveredInPart (limits : TextLimits) (old new from to : Option (List ℕ))
     (d : Draft) (bytes : List ℕ) : Type 0 where
   pub name : List ℕ
   pub text : List ℕ
   pub is_set : IsSetOf text d
-  pub told : IsPlayToldInPart usual old new (IsCoveredBy name text from to) d bytes
+  pub told : IsPlayToldInPart limits old new (IsCoveredBy name text from to) d bytes
 
 -- ---- the view of a run
 
@@ -184,50 +194,50 @@ told_of Thrown d ns = thrown_of d ns
 
 -- the bytes are a script that was run, and the requested view of the run was written
 abbrev pub IsPlaySeen :
-    RoundLimits → Wanted → Option (List ℕ) → Option (List ℕ) → Option (List ℕ) → Option (List ℕ)
+    TextLimits → Wanted → Option (List ℕ) → Option (List ℕ) → Option (List ℕ) → Option (List ℕ)
     → Draft → List ℕ → Type 0
-IsPlaySeen usual (Trace every) old new from to d bytes =
-    IsPlayTraced usual every old new from to d bytes
-IsPlaySeen usual (Capture every) old new from to d bytes =
-    IsPlayCaptured usual every old new from to d bytes
-IsPlaySeen usual (AtEnd told) old new from to d bytes =
-    IsPlayTold usual old new (Grew (told_of told) d from to) d bytes
-IsPlaySeen usual Coverage old new from to d bytes = IsSomeCovered usual old new from to d bytes
+IsPlaySeen limits (Trace every) old new from to d bytes =
+    IsPlayTraced limits every old new from to d bytes
+IsPlaySeen limits (Capture every) old new from to d bytes =
+    IsPlayCaptured limits every old new from to d bytes
+IsPlaySeen limits (AtEnd told) old new from to d bytes =
+    IsPlayTold limits old new (Grew (told_of told) d from to) d bytes
+IsPlaySeen limits Coverage old new from to d bytes = IsSomeCovered limits old new from to d bytes
 
 abbrev pub IsPlaySeenInPart :
-    RoundLimits → Wanted → Option (List ℕ) → Option (List ℕ) → Option (List ℕ) → Option (List ℕ)
+    TextLimits → Wanted → Option (List ℕ) → Option (List ℕ) → Option (List ℕ) → Option (List ℕ)
     → Draft → List ℕ → Type 0
-IsPlaySeenInPart usual (Trace every) old new from to d bytes =
-    IsPlayTracedInPart usual every old new from to d bytes
-IsPlaySeenInPart usual (Capture every) old new from to d bytes =
-    IsPlayCapturedInPart usual every old new from to d bytes
-IsPlaySeenInPart usual (AtEnd told) old new from to d bytes =
-    IsPlayToldInPart usual old new (Grew (told_of told) d from to) d bytes
-IsPlaySeenInPart usual Coverage old new from to d bytes =
-    IsSomeCoveredInPart usual old new from to d bytes
+IsPlaySeenInPart limits (Trace every) old new from to d bytes =
+    IsPlayTracedInPart limits every old new from to d bytes
+IsPlaySeenInPart limits (Capture every) old new from to d bytes =
+    IsPlayCapturedInPart limits every old new from to d bytes
+IsPlaySeenInPart limits (AtEnd told) old new from to d bytes =
+    IsPlayToldInPart limits old new (Grew (told_of told) d from to) d bytes
+IsPlaySeenInPart limits Coverage old new from to d bytes =
+    IsSomeCoveredInPart limits old new from to d bytes
 
 -- ---- with an echo, with a view in a file, or with neither
 
 -- A script was played with an echo of its lines, if `echo` is true; else with the requested view in
 -- a file, if there is one, whose content was `was` and is now `has`.
-pub data IsWatched (usual : RoundLimits) (echo : Bool) (wanted : Wanted)
+pub data IsWatched (limits : TextLimits) (echo : Bool) (wanted : Wanted)
     (old new : Option (List ℕ)) (begun now : Option (Option (List ℕ))) (d : Draft)
     (bytes : List ℕ) : Type 0 where
-  has_lines : echo ≡ true → IsPlayed usual echo old new d bytes
-      → IsWatched usual echo wanted old new begun now d bytes
-  has_neither : echo ≡ false → begun ≡ None → IsPlayed usual echo old new d bytes
-      → IsWatched usual echo wanted old new begun now d bytes
+  has_lines : echo ≡ true → IsPlayed limits echo old new d bytes
+      → IsWatched limits echo wanted old new begun now d bytes
+  has_neither : echo ≡ false → begun ≡ None → IsPlayed limits echo old new d bytes
+      → IsWatched limits echo wanted old new begun now d bytes
   has_file : (was has : Option (List ℕ)) → echo ≡ false → begun ≡ Some was → now ≡ Some has
-      → IsPlaySeen usual wanted old new was has d bytes
-      → IsWatched usual echo wanted old new begun now d bytes
+      → IsPlaySeen limits wanted old new was has d bytes
+      → IsWatched limits echo wanted old new begun now d bytes
 
-pub data IsWatchedInPart (usual : RoundLimits) (echo : Bool) (wanted : Wanted)
+pub data IsWatchedInPart (limits : TextLimits) (echo : Bool) (wanted : Wanted)
     (old new : Option (List ℕ)) (begun now : Option (Option (List ℕ))) (d : Draft)
     (bytes : List ℕ) : Type 0 where
-  has_lines_in_part : echo ≡ true → IsPlayedInPart usual echo old new d bytes
-      → IsWatchedInPart usual echo wanted old new begun now d bytes
-  has_neither_in_part : echo ≡ false → begun ≡ None → IsPlayedInPart usual echo old new d bytes
-      → IsWatchedInPart usual echo wanted old new begun now d bytes
+  has_lines_in_part : echo ≡ true → IsPlayedInPart limits echo old new d bytes
+      → IsWatchedInPart limits echo wanted old new begun now d bytes
+  has_neither_in_part : echo ≡ false → begun ≡ None → IsPlayedInPart limits echo old new d bytes
+      → IsWatchedInPart limits echo wanted old new begun now d bytes
   has_file_in_part : (was has : Option (List ℕ)) → echo ≡ false → begun ≡ Some was → now ≡ Some has
-      → IsPlaySeenInPart usual wanted old new was has d bytes
-      → IsWatchedInPart usual echo wanted old new begun now d bytes
+      → IsPlaySeenInPart limits wanted old new was has d bytes
+      → IsWatchedInPart limits echo wanted old new begun now d bytes

@@ -1,5 +1,5 @@
 -- The meaning of `play`'s status for a trace.
-use Rattle.std.specs.Prelude.{◌≡◌, ℕ, Bool, List, Option, Ok, IsUtf8}
+use Rattle.std.specs.Prelude.{◌≡◌, ℕ, Bool, List, Option, Some, Ok, IsUtf8}
 use Rattle.turn_code.specs.declared.draft.Draft.{Draft}
 use Rattle.resend_store.specs.declared.messages.RoundLimits.{RoundLimits}
 use Rattle.script_links.specs.TermScripts.{PlainAnyScript, book, terminal, asks_told}
@@ -11,6 +11,8 @@ use Rattle.script_seen.specs.GroupRuns.{IsOfNewSet}
 use Rattle.script_seen.specs.TracedGroups.{IsGroupTraced, IsGroupTracedInPart}
 use Rattle.script_seen.specs.TracedKinds.{IsBookTraced, IsBookTracedInPart, IsTermTraced}
 use Rattle.script_seen.specs.TracedKinds.{IsTermTracedInPart}
+use Rattle.mtp2_text.specs.declared.limits.TextLimits.{TextLimits}
+use Rattle.script_play.specs.Limits.{usual_over}
 use Rattle.script_play.specs.Played.{IsObeyed, IsMissedIn}
 
 -- all commands of a script are traced: on a book of the process set, or on a new terminal that runs
@@ -51,19 +53,23 @@ AreTracedInPart usual every lines d (group s) old new =
     IsOfNewSet d usual s.head (IsGroupTracedInPart every lines d s.commands old new)
 
 -- the bytes are a script, all of whose commands were obeyed and are traced
-pub record IsPlayTraced (usual : RoundLimits) (every : Bool) (old new begun now : Option (List ℕ))
+pub record IsPlayTraced (limits : TextLimits) (every : Bool) (old new begun now : Option (List ℕ))
     (d : Draft) (bytes : List ℕ) : Type 0 where
   pub utf8 : IsUtf8 bytes
   pub script : PlainPlayScript
   pub reads : play_script_of bytes ≡ Ok script
+  pub usual : RoundLimits
+  pub is_usual : usual_over limits script ≡ Some usual
   pub run : IsObeyed usual d script old new
   pub traced : AreTraced usual every (lines_of bytes) d script begun now
 
 -- the bytes are a script, and one of its expectations failed; the commands before it are traced
-pub record IsPlayTracedInPart (usual : RoundLimits) (every : Bool)
+pub record IsPlayTracedInPart (limits : TextLimits) (every : Bool)
     (old new begun now : Option (List ℕ)) (d : Draft) (bytes : List ℕ) : Type 0 where
   pub utf8 : IsUtf8 bytes
   pub script : PlainPlayScript
   pub reads : play_script_of bytes ≡ Ok script
+  pub usual : RoundLimits
+  pub is_usual : usual_over limits script ≡ Some usual
   pub missed : IsMissedIn usual d script old new
   pub traced : AreTracedInPart usual every (lines_of bytes) d script begun now

@@ -9,10 +9,12 @@ ghost use Rattle.script_play.specs.Seen.{IsOtherCaptured, AreCaptured, IsOtherCa
 
 use crate::captured_groups::capture_group;
 use crate::captured_terminals::capture_terminal;
+use crate::limits::usual_over;
 use crate::playing::{explain, explain_length, refuse_script};
+use mtp2_text::TextLimits;
 use plain_text::{FAILED, TextRead, line_at_limit, read_text, refuse, write_line};
 use resend_store::RoundLimits;
-use script_check::{SetWord, find_set, refuse_set};
+use script_check::{SetWord, find_set, refuse_limit, refuse_set};
 use script_lines::ScriptFault;
 use script_links::{AnyScript, PlayScript, play_script_in};
 use std::alloc::Global;
@@ -92,7 +94,7 @@ fn capture_script<T: Write, W: Write, E: Write>(
 fn capture_text<T: Write, W: Write, E: Write>(
     alloc: Global,
     set: &Verified,
-    usual: RoundLimits,
+    limits: TextLimits,
     read: &TextRead,
     every: bool,
     out: &mut T,
@@ -100,10 +102,10 @@ fn capture_text<T: Write, W: Write, E: Write>(
     errors: &mut E,
 ) -> u8
     ensures held { result ≡ 0 → (bytes : List ℕ) → Keeps bytes read.now
-        → IsPlayCaptured usual every (W.contents writer.old) (W.contents writer.new) (T.contents out.old) (T.contents out.new) set.now bytes }
+        → IsPlayCaptured limits every (W.contents writer.old) (W.contents writer.new) (T.contents out.old) (T.contents out.new) set.now bytes }
     ensures missed { result ≡ 1 → (bytes : List ℕ) → Keeps bytes read.now
-        → IsPlayCapturedInPart usual every (W.contents writer.old) (W.contents writer.new) (T.contents out.old) (T.contents out.new) set.now bytes }
-    ensures refused { result ≡ 2 → (bytes : List ℕ) → Keeps bytes read.now → IsNotRun (W.contents writer.old) (W.contents writer.new) set.now bytes }
+        → IsPlayCapturedInPart limits every (W.contents writer.old) (W.contents writer.new) (T.contents out.old) (T.contents out.new) set.now bytes }
+    ensures refused { result ≡ 2 → (bytes : List ℕ) → Keeps bytes read.now → IsNotRun limits (W.contents writer.old) (W.contents writer.new) set.now bytes }
     ensures status { (result ≡ 0) ⊎ (result ≡ 1) ⊎ (result ≡ 2) ⊎ (result ≡ 4) }
 {
     if !read.is_text {
@@ -116,7 +118,10 @@ fn capture_text<T: Write, W: Write, E: Write>(
     }
     match str::from_utf8(&read.kept) {
         Ok(text) => match play_script_in(alloc, text) {
-            Ok(script) => capture_script(alloc, set, usual, &script, every, out, writer, errors),
+            Ok(script) => match usual_over(limits, &script) {
+                Ok(usual) => capture_script(alloc, set, usual, &script, every, out, writer, errors),
+                Err(limit) => refuse_limit(alloc, writer, limit),
+            },
             Err(fault) => {
                 explain(alloc, text, fault, errors);
                 refuse_script(alloc, writer, fault)
@@ -134,7 +139,6 @@ fn capture_text<T: Write, W: Write, E: Write>(
 pub(crate) fn play_captured<S: Read + Drop, R: Read + Drop, W: Write, T: Write, E: Write>(
     alloc: Global,
     set: SetWord<S>,
-    usual: RoundLimits,
     name: &str,
     mut script: R,
     every: bool,
@@ -145,10 +149,10 @@ pub(crate) fn play_captured<S: Read + Drop, R: Read + Drop, W: Write, T: Write, 
     ensures accepted { (result ≡ 0) ⊎ (result ≡ 1) → IfSome (given S.remaining set) IsAccepted }
     ensures held { result ≡ 0
         → IsOnSet (given S.remaining set) (R.remaining script)
-        (IsPlayCaptured usual every (W.contents writer.old) (W.contents writer.new) (T.contents out.old) (T.contents out.new)) }
+        (λ limits. IsPlayCaptured limits every (W.contents writer.old) (W.contents writer.new) (T.contents out.old) (T.contents out.new)) }
     ensures missed { result ≡ 1
         → IsOnSet (given S.remaining set) (R.remaining script)
-        (IsPlayCapturedInPart usual every (W.contents writer.old) (W.contents writer.new) (T.contents out.old) (T.contents out.new)) }
+        (λ limits. IsPlayCapturedInPart limits every (W.contents writer.old) (W.contents writer.new) (T.contents out.old) (T.contents out.new)) }
     ensures refused { result ≡ 2
         → IsRefused (given S.remaining set) (R.remaining script) (W.contents writer.old) (W.contents writer.new) }
     ensures status { (result ≡ 0) ⊎ (result ≡ 1) ⊎ (result ≡ 2) ⊎ (result ≡ 4) }
@@ -156,8 +160,17 @@ pub(crate) fn play_captured<S: Read + Drop, R: Read + Drop, W: Write, T: Write, 
     let set = find_set(alloc, set);
     let read = read_text(alloc, &mut script);
     match set {
-        Ok(set) => match read {
-            Ok(read) => capture_text(alloc, &set, usual, &read, every, out, writer, errors),
+        Ok(found) => match read {
+            Ok(read) => capture_text(
+                alloc,
+                &found.set,
+                found.limits,
+                &read,
+                every,
+                out,
+                writer,
+                errors,
+            ),
             Err(_) => FAILED,
         },
         Err(refusal) => refuse_set(alloc, name, &refusal, writer, errors),

@@ -9,11 +9,12 @@ ghost use Rattle.script_play.specs.Seen.{IsPlayTold, IsPlayToldInPart, IsCovered
 
 use crate::watching::{tell, watch_text};
 use actor_machine::ActorName;
+use mtp2_text::TextLimits;
 use plain_text::{FAILED, TextRead, read_text, write_line};
-use resend_store::RoundLimits;
 use script_check::{SetWord, find_set, refuse_set};
-use script_covered::{BlockTable, TextCoverage, parse, tokens};
+use script_covered::{BlockTable, TextCoverage, expand, parse, tokens};
 use script_seen::{Ended, Item, Watcher};
+use sdl_ast::Block;
 use std::alloc::Global;
 use std::io::{self, Read, Write};
 use std::str;
@@ -55,7 +56,7 @@ fn cover_block<T: Write, W: Write, E: Write>(
     text: &str,
     name: &str,
     block: &BlockTable<'_>,
-    usual: RoundLimits,
+    limits: TextLimits,
     read: &TextRead,
     out: &mut T,
     writer: &mut W,
@@ -63,19 +64,48 @@ fn cover_block<T: Write, W: Write, E: Write>(
 ) -> u8
     requires { IsTextOf text.now (block_of block.now) }
     ensures held { result ≡ 0 → (bytes : List ℕ) → Keeps bytes read.now
-        → IsPlayTold usual (W.contents writer.old) (W.contents writer.new) (IsCoveredBy name.now text.now (T.contents out.old) (T.contents out.new)) set.now bytes }
+        → IsPlayTold limits (W.contents writer.old) (W.contents writer.new) (IsCoveredBy name.now text.now (T.contents out.old) (T.contents out.new)) set.now bytes }
     ensures missed { result ≡ 1 → (bytes : List ℕ) → Keeps bytes read.now
-        → IsPlayToldInPart usual (W.contents writer.old) (W.contents writer.new) (IsCoveredBy name.now text.now (T.contents out.old) (T.contents out.new)) set.now bytes }
-    ensures refused { result ≡ 2 → (bytes : List ℕ) → Keeps bytes read.now → IsNotRun (W.contents writer.old) (W.contents writer.new) set.now bytes }
+        → IsPlayToldInPart limits (W.contents writer.old) (W.contents writer.new) (IsCoveredBy name.now text.now (T.contents out.old) (T.contents out.new)) set.now bytes }
+    ensures refused { result ≡ 2 → (bytes : List ℕ) → Keeps bytes read.now → IsNotRun limits (W.contents writer.old) (W.contents writer.new) set.now bytes }
     ensures status { (result ≡ 0) ⊎ (result ≡ 1) ⊎ (result ≡ 2) ⊎ (result ≡ 4) }
 {
     match TextCoverage::new(alloc, text, block) {
         Ok(coverage) => {
             let mut covering = Covering { coverage };
-            let status = watch_text(alloc, set, usual, read, &mut covering, writer, errors);
+            let status = watch_text(alloc, set, limits, read, &mut covering, writer, errors);
             let told = covering.coverage.report(alloc, name, text);
             tell(status, told, out)
         }
+        Err(_) => FAILED,
+    }
+}
+
+/// Reports the coverage of the block that the text means.
+fn cover_tree<T: Write, W: Write, E: Write>(
+    alloc: Global,
+    set: &Verified,
+    text: &str,
+    name: &str,
+    block: &Block,
+    limits: TextLimits,
+    read: &TextRead,
+    out: &mut T,
+    writer: &mut W,
+    errors: &mut E,
+) -> u8
+    requires { IsTextOf text.now (block_of block.now) }
+    ensures held { result ≡ 0 → (bytes : List ℕ) → Keeps bytes read.now
+        → IsPlayTold limits (W.contents writer.old) (W.contents writer.new) (IsCoveredBy name.now text.now (T.contents out.old) (T.contents out.new)) set.now bytes }
+    ensures missed { result ≡ 1 → (bytes : List ℕ) → Keeps bytes read.now
+        → IsPlayToldInPart limits (W.contents writer.old) (W.contents writer.new) (IsCoveredBy name.now text.now (T.contents out.old) (T.contents out.new)) set.now bytes }
+    ensures refused { result ≡ 2 → (bytes : List ℕ) → Keeps bytes read.now → IsNotRun limits (W.contents writer.old) (W.contents writer.new) set.now bytes }
+    ensures status { (result ≡ 0) ⊎ (result ≡ 1) ⊎ (result ≡ 2) ⊎ (result ≡ 4) }
+{
+    match BlockTable::new(alloc, block) {
+        Ok(table) => cover_block(
+            alloc, set, text, name, &table, limits, read, out, writer, errors,
+        ),
         Err(_) => FAILED,
     }
 }
@@ -86,24 +116,33 @@ fn cover<T: Write, W: Write, E: Write>(
     set: &Verified,
     text: &str,
     name: &str,
-    usual: RoundLimits,
+    limits: TextLimits,
     read: &TextRead,
     out: &mut T,
     writer: &mut W,
     errors: &mut E,
 ) -> u8
     ensures held { result ≡ 0 → (bytes : List ℕ) → Keeps bytes read.now
-        → IsPlayTold usual (W.contents writer.old) (W.contents writer.new) (IsCoveredBy name.now text.now (T.contents out.old) (T.contents out.new)) set.now bytes }
+        → IsPlayTold limits (W.contents writer.old) (W.contents writer.new) (IsCoveredBy name.now text.now (T.contents out.old) (T.contents out.new)) set.now bytes }
     ensures missed { result ≡ 1 → (bytes : List ℕ) → Keeps bytes read.now
-        → IsPlayToldInPart usual (W.contents writer.old) (W.contents writer.new) (IsCoveredBy name.now text.now (T.contents out.old) (T.contents out.new)) set.now bytes }
-    ensures refused { result ≡ 2 → (bytes : List ℕ) → Keeps bytes read.now → IsNotRun (W.contents writer.old) (W.contents writer.new) set.now bytes }
+        → IsPlayToldInPart limits (W.contents writer.old) (W.contents writer.new) (IsCoveredBy name.now text.now (T.contents out.old) (T.contents out.new)) set.now bytes }
+    ensures refused { result ≡ 2 → (bytes : List ℕ) → Keeps bytes read.now → IsNotRun limits (W.contents writer.old) (W.contents writer.new) set.now bytes }
     ensures status { (result ≡ 0) ⊎ (result ≡ 1) ⊎ (result ≡ 2) ⊎ (result ≡ 4) }
 {
     match tokens(alloc, text) {
         Ok(tokens) => match parse(alloc, &tokens) {
-            Ok(tree) => match BlockTable::new(alloc, &tree) {
-                Ok(block) => cover_block(
-                    alloc, set, text, name, &block, usual, read, out, writer, errors,
+            Ok(tree) => match expand(alloc, &tree) {
+                Ok(expansion) => cover_tree(
+                    alloc,
+                    set,
+                    text,
+                    name,
+                    &expansion.block,
+                    limits,
+                    read,
+                    out,
+                    writer,
+                    errors,
                 ),
                 Err(_) => FAILED,
             },
@@ -119,21 +158,21 @@ fn cover_set<T: Write, W: Write, E: Write>(
     set: &Verified,
     bytes: &[u8],
     name: &str,
-    usual: RoundLimits,
+    limits: TextLimits,
     read: &TextRead,
     out: &mut T,
     writer: &mut W,
     errors: &mut E,
 ) -> u8
     ensures held { result ≡ 0 → (said : List ℕ) → Keeps said read.now
-        → IsPlayTold usual (W.contents writer.old) (W.contents writer.new) (IsCoveredBy name.now bytes.now (T.contents out.old) (T.contents out.new)) set.now said }
+        → IsPlayTold limits (W.contents writer.old) (W.contents writer.new) (IsCoveredBy name.now bytes.now (T.contents out.old) (T.contents out.new)) set.now said }
     ensures missed { result ≡ 1 → (said : List ℕ) → Keeps said read.now
-        → IsPlayToldInPart usual (W.contents writer.old) (W.contents writer.new) (IsCoveredBy name.now bytes.now (T.contents out.old) (T.contents out.new)) set.now said }
-    ensures refused { result ≡ 2 → (said : List ℕ) → Keeps said read.now → IsNotRun (W.contents writer.old) (W.contents writer.new) set.now said }
+        → IsPlayToldInPart limits (W.contents writer.old) (W.contents writer.new) (IsCoveredBy name.now bytes.now (T.contents out.old) (T.contents out.new)) set.now said }
+    ensures refused { result ≡ 2 → (said : List ℕ) → Keeps said read.now → IsNotRun limits (W.contents writer.old) (W.contents writer.new) set.now said }
     ensures status { (result ≡ 0) ⊎ (result ≡ 1) ⊎ (result ≡ 2) ⊎ (result ≡ 4) }
 {
     match str::from_utf8(bytes) {
-        Ok(text) => cover(alloc, set, text, name, usual, read, out, writer, errors),
+        Ok(text) => cover(alloc, set, text, name, limits, read, out, writer, errors),
         Err(_) => FAILED,
     }
 }
@@ -142,7 +181,6 @@ fn cover_set<T: Write, W: Write, E: Write>(
 fn cover_bytes<R: Read + Drop, T: Write, W: Write, E: Write>(
     alloc: Global,
     bytes: &[u8],
-    usual: RoundLimits,
     name: &str,
     mut script: R,
     out: &mut T,
@@ -151,17 +189,27 @@ fn cover_bytes<R: Read + Drop, T: Write, W: Write, E: Write>(
 ) -> u8
     ensures accepted { (result ≡ 0) ⊎ (result ≡ 1) → IsAccepted bytes.now }
     ensures held { result ≡ 0 → IsOnSet (Some bytes.now) (R.remaining script)
-        (IsTextCovered name.now (Some bytes.now) usual (W.contents writer.old) (W.contents writer.new) (T.contents out.old) (T.contents out.new)) }
+        (λ limits. IsTextCovered name.now (Some bytes.now) limits (W.contents writer.old) (W.contents writer.new) (T.contents out.old) (T.contents out.new)) }
     ensures missed { result ≡ 1 → IsOnSet (Some bytes.now) (R.remaining script)
-        (IsTextCoveredInPart name.now (Some bytes.now) usual (W.contents writer.old) (W.contents writer.new) (T.contents out.old) (T.contents out.new)) }
+        (λ limits. IsTextCoveredInPart name.now (Some bytes.now) limits (W.contents writer.old) (W.contents writer.new) (T.contents out.old) (T.contents out.new)) }
     ensures refused { result ≡ 2 → IsRefused (Some bytes.now) (R.remaining script) (W.contents writer.old) (W.contents writer.new) }
     ensures status { (result ≡ 0) ⊎ (result ≡ 1) ⊎ (result ≡ 2) ⊎ (result ≡ 4) }
 {
     let set = find_set(alloc, SetWord::Text(bytes));
     let read = read_text(alloc, &mut script);
     match set {
-        Ok(set) => match read {
-            Ok(read) => cover_set(alloc, &set, bytes, name, usual, &read, out, writer, errors),
+        Ok(found) => match read {
+            Ok(read) => cover_set(
+                alloc,
+                &found.set,
+                bytes,
+                name,
+                found.limits,
+                &read,
+                out,
+                writer,
+                errors,
+            ),
             Err(_) => FAILED,
         },
         Err(refusal) => refuse_set(alloc, name, &refusal, writer, errors),
@@ -172,7 +220,6 @@ fn cover_bytes<R: Read + Drop, T: Write, W: Write, E: Write>(
 fn cover_own<R: Read + Drop, T: Write, W: Write, E: Write>(
     alloc: Global,
     text: &str,
-    usual: RoundLimits,
     name: &str,
     script: R,
     out: &mut T,
@@ -181,14 +228,14 @@ fn cover_own<R: Read + Drop, T: Write, W: Write, E: Write>(
 ) -> u8
     ensures accepted { (result ≡ 0) ⊎ (result ≡ 1) → IsAccepted text.now }
     ensures held { result ≡ 0 → IsOnSet (Some text.now) (R.remaining script)
-        (IsTextCovered name.now (Some text.now) usual (W.contents writer.old) (W.contents writer.new) (T.contents out.old) (T.contents out.new)) }
+        (λ limits. IsTextCovered name.now (Some text.now) limits (W.contents writer.old) (W.contents writer.new) (T.contents out.old) (T.contents out.new)) }
     ensures missed { result ≡ 1 → IsOnSet (Some text.now) (R.remaining script)
-        (IsTextCoveredInPart name.now (Some text.now) usual (W.contents writer.old) (W.contents writer.new) (T.contents out.old) (T.contents out.new)) }
+        (λ limits. IsTextCoveredInPart name.now (Some text.now) limits (W.contents writer.old) (W.contents writer.new) (T.contents out.old) (T.contents out.new)) }
     ensures refused { result ≡ 2 → IsRefused (Some text.now) (R.remaining script) (W.contents writer.old) (W.contents writer.new) }
     ensures status { (result ≡ 0) ⊎ (result ≡ 1) ⊎ (result ≡ 2) ⊎ (result ≡ 4) }
 {
     let bytes = text.as_bytes();
-    cover_bytes(alloc, bytes, usual, name, script, out, writer, errors)
+    cover_bytes(alloc, bytes, name, script, out, writer, errors)
 }
 
 /// Writes that a text has more octets than allowed. Returns the exit status.
@@ -204,7 +251,6 @@ fn tell_too_long<E: Write>(alloc: Global, name: &str, errors: &mut E) -> u8
 fn cover_read<R: Read + Drop, T: Write, W: Write, E: Write>(
     alloc: Global,
     of_set: &TextRead,
-    usual: RoundLimits,
     name: &str,
     script: R,
     out: &mut T,
@@ -213,9 +259,9 @@ fn cover_read<R: Read + Drop, T: Write, W: Write, E: Write>(
 ) -> u8
     ensures accepted { (result ≡ 0) ⊎ (result ≡ 1) → (known : Maybe (List ℕ)) → IsReading known of_set.now → IfSome known IsAccepted }
     ensures held { result ≡ 0 → (known : Maybe (List ℕ)) → IsReading known of_set.now → IsOnSet known (R.remaining script)
-        (IsTextCovered name.now known usual (W.contents writer.old) (W.contents writer.new) (T.contents out.old) (T.contents out.new)) }
+        (λ limits. IsTextCovered name.now known limits (W.contents writer.old) (W.contents writer.new) (T.contents out.old) (T.contents out.new)) }
     ensures missed { result ≡ 1 → (known : Maybe (List ℕ)) → IsReading known of_set.now → IsOnSet known (R.remaining script)
-        (IsTextCoveredInPart name.now known usual (W.contents writer.old) (W.contents writer.new) (T.contents out.old) (T.contents out.new)) }
+        (λ limits. IsTextCoveredInPart name.now known limits (W.contents writer.old) (W.contents writer.new) (T.contents out.old) (T.contents out.new)) }
     ensures refused { result ≡ 2 → (known : Maybe (List ℕ)) → IsReading known of_set.now
         → IsRefused known (R.remaining script) (W.contents writer.old) (W.contents writer.new) }
     ensures status { (result ≡ 0) ⊎ (result ≡ 1) ⊎ (result ≡ 2) ⊎ (result ≡ 4) }
@@ -223,16 +269,7 @@ fn cover_read<R: Read + Drop, T: Write, W: Write, E: Write>(
     if of_set.is_too_long() {
         return tell_too_long(alloc, name, errors);
     }
-    cover_bytes(
-        alloc,
-        &of_set.kept,
-        usual,
-        name,
-        script,
-        out,
-        writer,
-        errors,
-    )
+    cover_bytes(alloc, &of_set.kept, name, script, out, writer, errors)
 }
 
 /// Runs a script of a book or of a terminal as `play` does without an echo. At its end, or at an expectation that
@@ -243,7 +280,6 @@ fn cover_read<R: Read + Drop, T: Write, W: Write, E: Write>(
 pub(crate) fn play_covered<S: Read + Drop, R: Read + Drop, T: Write, W: Write, E: Write>(
     alloc: Global,
     set: SetWord<S>,
-    usual: RoundLimits,
     name: &str,
     script: R,
     out: &mut T,
@@ -252,17 +288,17 @@ pub(crate) fn play_covered<S: Read + Drop, R: Read + Drop, T: Write, W: Write, E
 ) -> u8
     ensures accepted { (result ≡ 0) ⊎ (result ≡ 1) → IfSome (given S.remaining set) IsAccepted }
     ensures held { result ≡ 0 → IsOnSet (given S.remaining set) (R.remaining script)
-        (IsTextCovered name.now (given S.remaining set) usual (W.contents writer.old) (W.contents writer.new) (T.contents out.old) (T.contents out.new)) }
+        (λ limits. IsTextCovered name.now (given S.remaining set) limits (W.contents writer.old) (W.contents writer.new) (T.contents out.old) (T.contents out.new)) }
     ensures missed { result ≡ 1 → IsOnSet (given S.remaining set) (R.remaining script)
-        (IsTextCoveredInPart name.now (given S.remaining set) usual (W.contents writer.old) (W.contents writer.new) (T.contents out.old) (T.contents out.new)) }
+        (λ limits. IsTextCoveredInPart name.now (given S.remaining set) limits (W.contents writer.old) (W.contents writer.new) (T.contents out.old) (T.contents out.new)) }
     ensures refused { result ≡ 2
         → IsRefused (given S.remaining set) (R.remaining script) (W.contents writer.old) (W.contents writer.new) }
     ensures status { (result ≡ 0) ⊎ (result ≡ 1) ⊎ (result ≡ 2) ⊎ (result ≡ 4) }
 {
     match set.own() {
-        Ok(own) => cover_own(alloc, own.text(), usual, name, script, out, writer, errors),
+        Ok(own) => cover_own(alloc, own.text(), name, script, out, writer, errors),
         Err(mut reader) => match read_text(alloc, &mut reader) {
-            Ok(of_set) => cover_read(alloc, &of_set, usual, name, script, out, writer, errors),
+            Ok(of_set) => cover_read(alloc, &of_set, name, script, out, writer, errors),
             Err(_) => FAILED,
         },
     }

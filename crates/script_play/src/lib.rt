@@ -9,6 +9,7 @@ mod chart_rows;
 mod charts;
 mod columns;
 mod covering;
+mod limits;
 mod playing;
 mod seeing;
 mod thrown;

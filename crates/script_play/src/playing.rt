@@ -7,10 +7,12 @@ ghost use Rattle.script_links.specs.GroupScripts.{plain_play_script, IsFit};
 ghost use Rattle.script_lines.specs.Lines.{lines_of};
 ghost use Rattle.script_play.specs.Played.{IsOtherShown, IsOtherShownMissed, AreShown, AreShownMissed, IsObeyedAs, IsMissedAs, IsOtherObeyed, IsObeyed, IsPlayed, IsOtherMissed, IsMissedIn, IsPlayedInPart, HasNoOther, HasNoTerminal, IsNotRun, PrintsFault, IsOnSet, IsRefused};
 
+use crate::limits::usual_over;
+use mtp2_text::TextLimits;
 use plain_text::{FAILED, MOST_BYTES, TextRead, line_at_limit, read_text, refuse, write_line};
 use resend_store::RoundLimits;
 use script_book::play_book;
-use script_check::{SetWord, find_set, refuse_set};
+use script_check::{SetWord, find_set, refuse_limit, refuse_set};
 use script_lines::ScriptFault;
 use script_links::{AnyScript, PlayScript, play_fault, play_script_in};
 use script_seen::{play_group, play_terminal, show_book, show_group, show_terminal};
@@ -24,13 +26,15 @@ use turn_check::Verified;
 /// signalling link terminal that runs the set. If that is `group basic N` or `group cyclic N`, it runs on N links
 /// between two points with such terminals.
 ///
-/// The usual limits force a terminal's cyclic retransmission, unless the first line is `terminal cyclic N1 N2`.
+/// The limits of forced retransmission are those of a first line `terminal cyclic N1 N2`, else those of the set's text,
+/// else 127 messages and 8,192 octets.
 ///
 /// If `echo` is true, each command's line precedes its output: `> ` and its words, separated by one space.
 ///
 /// Both texts are read whole, the set and then the script, before anything is written. A refusal of the set comes
-/// before one of the script. A bad line of the script is refused before anything runs; then a set that lacks a name
-/// that a terminal needs, for a script of a terminal or of links. Each line is one write.
+/// before one of the script. A bad line of the script is refused before anything runs; then, for a script of a terminal
+/// or of links, a limit of the text that applies and is out of its range, then a set that lacks a name that a terminal
+/// needs. Each line is one write.
 ///
 /// Returns the exit status. 0: each command ran and its line was written. 1: an expectation failed (`failed line N`).
 /// 2: the set or the script was refused (only `refused CODE Name ..`). 4: out of memory, or a read or a write failed.
@@ -39,7 +43,6 @@ use turn_check::Verified;
 pub fn play<S: Read + Drop, R: Read + Drop, W: Write, E: Write>(
     alloc: Global,
     set: SetWord<S>,
-    usual: RoundLimits,
     name: &str,
     mut script: R,
     echo: bool,
@@ -48,9 +51,9 @@ pub fn play<S: Read + Drop, R: Read + Drop, W: Write, E: Write>(
 ) -> u8
     ensures accepted { (result ≡ 0) ⊎ (result ≡ 1) → IfSome (given S.remaining set) IsAccepted }
     ensures held { result ≡ 0
-        → IsOnSet (given S.remaining set) (R.remaining script) (IsPlayed usual echo (W.contents writer.old) (W.contents writer.new)) }
+        → IsOnSet (given S.remaining set) (R.remaining script) (λ limits. IsPlayed limits echo (W.contents writer.old) (W.contents writer.new)) }
     ensures missed { result ≡ 1
-        → IsOnSet (given S.remaining set) (R.remaining script) (IsPlayedInPart usual echo (W.contents writer.old) (W.contents writer.new)) }
+        → IsOnSet (given S.remaining set) (R.remaining script) (λ limits. IsPlayedInPart limits echo (W.contents writer.old) (W.contents writer.new)) }
     ensures refused { result ≡ 2
         → IsRefused (given S.remaining set) (R.remaining script) (W.contents writer.old) (W.contents writer.new) }
     ensures status { (result ≡ 0) ⊎ (result ≡ 1) ⊎ (result ≡ 2) ⊎ (result ≡ 4) }
@@ -58,8 +61,8 @@ pub fn play<S: Read + Drop, R: Read + Drop, W: Write, E: Write>(
     let set = find_set(alloc, set);
     let read = read_text(alloc, &mut script);
     match set {
-        Ok(set) => match read {
-            Ok(read) => play_text(alloc, &set, usual, &read, echo, writer, errors),
+        Ok(found) => match read {
+            Ok(read) => play_text(alloc, &found.set, found.limits, &read, echo, writer, errors),
             Err(_) => FAILED,
         },
         Err(refusal) => refuse_set(alloc, name, &refusal, writer, errors),
@@ -104,16 +107,16 @@ pub(crate) fn explain_length<E: Write>(alloc: Global, line: usize, errors: &mut 
 fn play_text<W: Write, E: Write>(
     alloc: Global,
     set: &Verified,
-    usual: RoundLimits,
+    limits: TextLimits,
     read: &TextRead,
     echo: bool,
     writer: &mut W,
     errors: &mut E,
 ) -> u8
-    ensures held { result ≡ 0 → (bytes : List ℕ) → Keeps bytes read.now → IsPlayed usual echo (W.contents writer.old) (W.contents writer.new) set.now bytes }
+    ensures held { result ≡ 0 → (bytes : List ℕ) → Keeps bytes read.now → IsPlayed limits echo (W.contents writer.old) (W.contents writer.new) set.now bytes }
     ensures missed { result ≡ 1 → (bytes : List ℕ) → Keeps bytes read.now
-        → IsPlayedInPart usual echo (W.contents writer.old) (W.contents writer.new) set.now bytes }
-    ensures refused { result ≡ 2 → (bytes : List ℕ) → Keeps bytes read.now → IsNotRun (W.contents writer.old) (W.contents writer.new) set.now bytes }
+        → IsPlayedInPart limits echo (W.contents writer.old) (W.contents writer.new) set.now bytes }
+    ensures refused { result ≡ 2 → (bytes : List ℕ) → Keeps bytes read.now → IsNotRun limits (W.contents writer.old) (W.contents writer.new) set.now bytes }
     ensures status { (result ≡ 0) ⊎ (result ≡ 1) ⊎ (result ≡ 2) ⊎ (result ≡ 4) }
 {
     if !read.is_text {
@@ -126,7 +129,10 @@ fn play_text<W: Write, E: Write>(
     }
     match str::from_utf8(&read.kept) {
         Ok(text) => match play_script_in(alloc, text) {
-            Ok(script) => run_script(alloc, set, usual, &script, text, echo, writer, errors),
+            Ok(script) => match usual_over(limits, &script) {
+                Ok(usual) => run_script(alloc, set, usual, &script, text, echo, writer, errors),
+                Err(limit) => refuse_limit(alloc, writer, limit),
+            },
             Err(fault) => {
                 explain(alloc, text, fault, errors);
                 refuse_script(alloc, writer, fault)

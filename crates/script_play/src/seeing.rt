@@ -9,7 +9,6 @@ use crate::captured_plays::play_captured;
 use crate::covering::play_covered;
 use crate::tracing::play_traced;
 use crate::watching::{RunSummary, play_told};
-use resend_store::RoundLimits;
 use script_check::SetWord;
 use std::alloc::Global;
 use std::io::{Read, Write};
@@ -37,7 +36,6 @@ pub enum Wanted {
 pub fn play_seen<S: Read + Drop, R: Read + Drop, T: Write, W: Write, E: Write>(
     alloc: Global,
     set: SetWord<S>,
-    usual: RoundLimits,
     name: &str,
     script: R,
     wanted: Wanted,
@@ -48,30 +46,28 @@ pub fn play_seen<S: Read + Drop, R: Read + Drop, T: Write, W: Write, E: Write>(
     ensures accepted { (result ≡ 0) ⊎ (result ≡ 1) → IfSome (given S.remaining set) IsAccepted }
     ensures held { result ≡ 0
         → IsOnSet (given S.remaining set) (R.remaining script)
-        (IsPlaySeen usual wanted (W.contents writer.old) (W.contents writer.new) (T.contents out.old) (T.contents out.new)) }
+        (λ limits. IsPlaySeen limits wanted (W.contents writer.old) (W.contents writer.new) (T.contents out.old) (T.contents out.new)) }
     ensures missed { result ≡ 1
         → IsOnSet (given S.remaining set) (R.remaining script)
-        (IsPlaySeenInPart usual wanted (W.contents writer.old) (W.contents writer.new) (T.contents out.old) (T.contents out.new)) }
+        (λ limits. IsPlaySeenInPart limits wanted (W.contents writer.old) (W.contents writer.new) (T.contents out.old) (T.contents out.new)) }
     ensures covered { result ≡ 0 → wanted ≡ Covers
         → IsOnSet (given S.remaining set) (R.remaining script)
-        (IsTextCovered name.now (given S.remaining set) usual (W.contents writer.old) (W.contents writer.new) (T.contents out.old) (T.contents out.new)) }
+        (λ limits. IsTextCovered name.now (given S.remaining set) limits (W.contents writer.old) (W.contents writer.new) (T.contents out.old) (T.contents out.new)) }
     ensures covered_in_part { result ≡ 1 → wanted ≡ Covers
         → IsOnSet (given S.remaining set) (R.remaining script)
-        (IsTextCoveredInPart name.now (given S.remaining set) usual (W.contents writer.old) (W.contents writer.new) (T.contents out.old) (T.contents out.new)) }
+        (λ limits. IsTextCoveredInPart name.now (given S.remaining set) limits (W.contents writer.old) (W.contents writer.new) (T.contents out.old) (T.contents out.new)) }
     ensures refused { result ≡ 2
         → IsRefused (given S.remaining set) (R.remaining script) (W.contents writer.old) (W.contents writer.new) }
     ensures status { (result ≡ 0) ⊎ (result ≡ 1) ⊎ (result ≡ 2) ⊎ (result ≡ 4) }
 {
     match wanted {
         Wanted::Trace(every) => {
-            play_traced(alloc, set, usual, name, script, every, out, writer, errors)
+            play_traced(alloc, set, name, script, every, out, writer, errors)
         }
         Wanted::Capture(every) => {
-            play_captured(alloc, set, usual, name, script, every, out, writer, errors)
+            play_captured(alloc, set, name, script, every, out, writer, errors)
         }
-        Wanted::Coverage => play_covered(alloc, set, usual, name, script, out, writer, errors),
-        Wanted::AtEnd(told) => {
-            play_told(alloc, set, usual, name, script, told, out, writer, errors)
-        }
+        Wanted::Coverage => play_covered(alloc, set, name, script, out, writer, errors),
+        Wanted::AtEnd(told) => { play_told(alloc, set, name, script, told, out, writer, errors) }
     }
 }

@@ -8,10 +8,12 @@ ghost use Rattle.script_lines.specs.Lines.{lines_of};
 ghost use Rattle.script_play.specs.Played.{IsOtherObeyed, IsObeyed, IsOtherMissed, IsMissedIn, HasNoOther, HasNoTerminal, IsNotRun, IsOnSet, IsRefused};
 ghost use Rattle.script_play.specs.Traced.{IsOtherTraced, AreTraced, IsPlayTraced, IsOtherTracedInPart, AreTracedInPart, IsPlayTracedInPart};
 
+use crate::limits::usual_over;
 use crate::playing::{explain, explain_length, refuse_script};
+use mtp2_text::TextLimits;
 use plain_text::{FAILED, TextRead, line_at_limit, read_text, refuse};
 use resend_store::RoundLimits;
-use script_check::{SetWord, find_set, refuse_set};
+use script_check::{SetWord, find_set, refuse_limit, refuse_set};
 use script_lines::ScriptFault;
 use script_links::{AnyScript, PlayScript, play_script_in};
 use script_seen::{trace_book, trace_group, trace_terminal};
@@ -90,7 +92,7 @@ fn trace_script<W: Write, T: Write, E: Write>(
 fn trace_text<W: Write, T: Write, E: Write>(
     alloc: Global,
     set: &Verified,
-    usual: RoundLimits,
+    limits: TextLimits,
     read: &TextRead,
     every: bool,
     trace: &mut T,
@@ -98,10 +100,10 @@ fn trace_text<W: Write, T: Write, E: Write>(
     errors: &mut E,
 ) -> u8
     ensures held { result ≡ 0 → (bytes : List ℕ) → Keeps bytes read.now
-        → IsPlayTraced usual every (W.contents writer.old) (W.contents writer.new) (T.contents trace.old) (T.contents trace.new) set.now bytes }
+        → IsPlayTraced limits every (W.contents writer.old) (W.contents writer.new) (T.contents trace.old) (T.contents trace.new) set.now bytes }
     ensures missed { result ≡ 1 → (bytes : List ℕ) → Keeps bytes read.now
-        → IsPlayTracedInPart usual every (W.contents writer.old) (W.contents writer.new) (T.contents trace.old) (T.contents trace.new) set.now bytes }
-    ensures refused { result ≡ 2 → (bytes : List ℕ) → Keeps bytes read.now → IsNotRun (W.contents writer.old) (W.contents writer.new) set.now bytes }
+        → IsPlayTracedInPart limits every (W.contents writer.old) (W.contents writer.new) (T.contents trace.old) (T.contents trace.new) set.now bytes }
+    ensures refused { result ≡ 2 → (bytes : List ℕ) → Keeps bytes read.now → IsNotRun limits (W.contents writer.old) (W.contents writer.new) set.now bytes }
     ensures status { (result ≡ 0) ⊎ (result ≡ 1) ⊎ (result ≡ 2) ⊎ (result ≡ 4) }
 {
     if !read.is_text {
@@ -114,9 +116,12 @@ fn trace_text<W: Write, T: Write, E: Write>(
     }
     match str::from_utf8(&read.kept) {
         Ok(text) => match play_script_in(alloc, text) {
-            Ok(script) => trace_script(
-                alloc, set, usual, &script, text, every, trace, writer, errors,
-            ),
+            Ok(script) => match usual_over(limits, &script) {
+                Ok(usual) => trace_script(
+                    alloc, set, usual, &script, text, every, trace, writer, errors,
+                ),
+                Err(limit) => refuse_limit(alloc, writer, limit),
+            },
             Err(fault) => {
                 explain(alloc, text, fault, errors);
                 refuse_script(alloc, writer, fault)
@@ -135,7 +140,6 @@ fn trace_text<W: Write, T: Write, E: Write>(
 pub(crate) fn play_traced<S: Read + Drop, R: Read + Drop, W: Write, T: Write, E: Write>(
     alloc: Global,
     set: SetWord<S>,
-    usual: RoundLimits,
     name: &str,
     mut script: R,
     every: bool,
@@ -146,10 +150,10 @@ pub(crate) fn play_traced<S: Read + Drop, R: Read + Drop, W: Write, T: Write, E:
     ensures accepted { (result ≡ 0) ⊎ (result ≡ 1) → IfSome (given S.remaining set) IsAccepted }
     ensures held { result ≡ 0
         → IsOnSet (given S.remaining set) (R.remaining script)
-        (IsPlayTraced usual every (W.contents writer.old) (W.contents writer.new) (T.contents trace.old) (T.contents trace.new)) }
+        (λ limits. IsPlayTraced limits every (W.contents writer.old) (W.contents writer.new) (T.contents trace.old) (T.contents trace.new)) }
     ensures missed { result ≡ 1
         → IsOnSet (given S.remaining set) (R.remaining script)
-        (IsPlayTracedInPart usual every (W.contents writer.old) (W.contents writer.new) (T.contents trace.old) (T.contents trace.new)) }
+        (λ limits. IsPlayTracedInPart limits every (W.contents writer.old) (W.contents writer.new) (T.contents trace.old) (T.contents trace.new)) }
     ensures refused { result ≡ 2
         → IsRefused (given S.remaining set) (R.remaining script) (W.contents writer.old) (W.contents writer.new) }
     ensures status { (result ≡ 0) ⊎ (result ≡ 1) ⊎ (result ≡ 2) ⊎ (result ≡ 4) }
@@ -157,8 +161,17 @@ pub(crate) fn play_traced<S: Read + Drop, R: Read + Drop, W: Write, T: Write, E:
     let set = find_set(alloc, set);
     let read = read_text(alloc, &mut script);
     match set {
-        Ok(set) => match read {
-            Ok(read) => trace_text(alloc, &set, usual, &read, every, trace, writer, errors),
+        Ok(found) => match read {
+            Ok(read) => trace_text(
+                alloc,
+                &found.set,
+                found.limits,
+                &read,
+                every,
+                trace,
+                writer,
+                errors,
+            ),
             Err(_) => FAILED,
         },
         Err(refusal) => refuse_set(alloc, name, &refusal, writer, errors),

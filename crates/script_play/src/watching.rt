@@ -10,12 +10,14 @@ ghost use Rattle.script_play.specs.Charted.{charted_of};
 ghost use Rattle.script_play.specs.Thrown.{thrown_of};
 
 use crate::charts::{Chart, Cut};
+use crate::limits::usual_over;
 use crate::playing::{explain, explain_length, refuse_script};
 use crate::thrown::Thrown;
+use mtp2_text::TextLimits;
 use plain_text::{DONE, FAILED, TextRead, line_at_limit, read_text, refuse, write_line};
 use resend_store::RoundLimits;
 use script_book::MISSED;
-use script_check::{SetWord, find_set, refuse_set};
+use script_check::{SetWord, find_set, refuse_limit, refuse_set};
 use script_lines::ScriptFault;
 use script_links::{AnyScript, PlayScript, play_script_in};
 use script_seen::{Watcher, watch_book, watch_terminal};
@@ -90,17 +92,17 @@ fn watch_script<N: Watcher, W: Write, E: Write>(
 pub(crate) fn watch_text<N: Watcher, W: Write, E: Write>(
     alloc: Global,
     set: &Verified,
-    usual: RoundLimits,
+    limits: TextLimits,
     read: &TextRead,
     watcher: &mut N,
     writer: &mut W,
     errors: &mut E,
 ) -> u8
     ensures held { result ≡ 0 → N.knows set.now [] watcher.old → (bytes : List ℕ) → Keeps bytes read.now
-        → IsPlayTold usual (W.contents writer.old) (W.contents writer.new) (λ ns. N.knows set.now ns watcher.new) set.now bytes }
+        → IsPlayTold limits (W.contents writer.old) (W.contents writer.new) (λ ns. N.knows set.now ns watcher.new) set.now bytes }
     ensures missed { result ≡ 1 → N.knows set.now [] watcher.old → (bytes : List ℕ) → Keeps bytes read.now
-        → IsPlayToldInPart usual (W.contents writer.old) (W.contents writer.new) (λ ns. N.knows set.now ns watcher.new) set.now bytes }
-    ensures refused { result ≡ 2 → (bytes : List ℕ) → Keeps bytes read.now → IsNotRun (W.contents writer.old) (W.contents writer.new) set.now bytes }
+        → IsPlayToldInPart limits (W.contents writer.old) (W.contents writer.new) (λ ns. N.knows set.now ns watcher.new) set.now bytes }
+    ensures refused { result ≡ 2 → (bytes : List ℕ) → Keeps bytes read.now → IsNotRun limits (W.contents writer.old) (W.contents writer.new) set.now bytes }
     ensures status { (result ≡ 0) ⊎ (result ≡ 1) ⊎ (result ≡ 2) ⊎ (result ≡ 4) }
 {
     if !read.is_text {
@@ -113,7 +115,10 @@ pub(crate) fn watch_text<N: Watcher, W: Write, E: Write>(
     }
     match str::from_utf8(&read.kept) {
         Ok(text) => match play_script_in(alloc, text) {
-            Ok(script) => watch_script(alloc, set, usual, &script, watcher, writer, errors),
+            Ok(script) => match usual_over(limits, &script) {
+                Ok(usual) => watch_script(alloc, set, usual, &script, watcher, writer, errors),
+                Err(limit) => refuse_limit(alloc, writer, limit),
+            },
             Err(fault) => {
                 explain(alloc, text, fault, errors);
                 refuse_script(alloc, writer, fault)
@@ -144,21 +149,21 @@ pub(crate) fn tell<T: Write>(status: u8, told: Result<Vec<u8>, AllocError>, out:
 fn tell_thrown<T: Write, W: Write, E: Write>(
     alloc: Global,
     set: &Verified,
-    usual: RoundLimits,
+    limits: TextLimits,
     read: &TextRead,
     out: &mut T,
     writer: &mut W,
     errors: &mut E,
 ) -> u8
     ensures held { result ≡ 0 → (bytes : List ℕ) → Keeps bytes read.now
-        → IsPlayTold usual (W.contents writer.old) (W.contents writer.new) (Grew thrown_of set.now (T.contents out.old) (T.contents out.new)) set.now bytes }
+        → IsPlayTold limits (W.contents writer.old) (W.contents writer.new) (Grew thrown_of set.now (T.contents out.old) (T.contents out.new)) set.now bytes }
     ensures missed { result ≡ 1 → (bytes : List ℕ) → Keeps bytes read.now
-        → IsPlayToldInPart usual (W.contents writer.old) (W.contents writer.new) (Grew thrown_of set.now (T.contents out.old) (T.contents out.new)) set.now bytes }
-    ensures refused { result ≡ 2 → (bytes : List ℕ) → Keeps bytes read.now → IsNotRun (W.contents writer.old) (W.contents writer.new) set.now bytes }
+        → IsPlayToldInPart limits (W.contents writer.old) (W.contents writer.new) (Grew thrown_of set.now (T.contents out.old) (T.contents out.new)) set.now bytes }
+    ensures refused { result ≡ 2 → (bytes : List ℕ) → Keeps bytes read.now → IsNotRun limits (W.contents writer.old) (W.contents writer.new) set.now bytes }
     ensures status { (result ≡ 0) ⊎ (result ≡ 1) ⊎ (result ≡ 2) ⊎ (result ≡ 4) }
 {
     let mut thrown = Thrown::new(alloc);
-    let status = watch_text(alloc, set, usual, read, &mut thrown, writer, errors);
+    let status = watch_text(alloc, set, limits, read, &mut thrown, writer, errors);
     tell(status, thrown.text(alloc, set), out)
 }
 
@@ -166,7 +171,7 @@ fn tell_thrown<T: Write, W: Write, E: Write>(
 fn tell_chart<T: Write, W: Write, E: Write>(
     alloc: Global,
     set: &Verified,
-    usual: RoundLimits,
+    limits: TextLimits,
     read: &TextRead,
     cut: Cut,
     out: &mut T,
@@ -174,14 +179,14 @@ fn tell_chart<T: Write, W: Write, E: Write>(
     errors: &mut E,
 ) -> u8
     ensures held { result ≡ 0 → (bytes : List ℕ) → Keeps bytes read.now
-        → IsPlayTold usual (W.contents writer.old) (W.contents writer.new) (Grew (charted_of cut) set.now (T.contents out.old) (T.contents out.new)) set.now bytes }
+        → IsPlayTold limits (W.contents writer.old) (W.contents writer.new) (Grew (charted_of cut) set.now (T.contents out.old) (T.contents out.new)) set.now bytes }
     ensures missed { result ≡ 1 → (bytes : List ℕ) → Keeps bytes read.now
-        → IsPlayToldInPart usual (W.contents writer.old) (W.contents writer.new) (Grew (charted_of cut) set.now (T.contents out.old) (T.contents out.new)) set.now bytes }
-    ensures refused { result ≡ 2 → (bytes : List ℕ) → Keeps bytes read.now → IsNotRun (W.contents writer.old) (W.contents writer.new) set.now bytes }
+        → IsPlayToldInPart limits (W.contents writer.old) (W.contents writer.new) (Grew (charted_of cut) set.now (T.contents out.old) (T.contents out.new)) set.now bytes }
+    ensures refused { result ≡ 2 → (bytes : List ℕ) → Keeps bytes read.now → IsNotRun limits (W.contents writer.old) (W.contents writer.new) set.now bytes }
     ensures status { (result ≡ 0) ⊎ (result ≡ 1) ⊎ (result ≡ 2) ⊎ (result ≡ 4) }
 {
     let mut chart = Chart::new(alloc, cut);
-    let status = watch_text(alloc, set, usual, read, &mut chart, writer, errors);
+    let status = watch_text(alloc, set, limits, read, &mut chart, writer, errors);
     tell(status, chart.text(alloc, set, cut), out)
 }
 
@@ -198,7 +203,7 @@ pub enum RunSummary {
 fn tell_run<T: Write, W: Write, E: Write>(
     alloc: Global,
     set: &Verified,
-    usual: RoundLimits,
+    limits: TextLimits,
     read: &TextRead,
     told: RunSummary,
     out: &mut T,
@@ -206,15 +211,15 @@ fn tell_run<T: Write, W: Write, E: Write>(
     errors: &mut E,
 ) -> u8
     ensures held { result ≡ 0 → (bytes : List ℕ) → Keeps bytes read.now
-        → IsPlayTold usual (W.contents writer.old) (W.contents writer.new) (Grew (told_of told) set.now (T.contents out.old) (T.contents out.new)) set.now bytes }
+        → IsPlayTold limits (W.contents writer.old) (W.contents writer.new) (Grew (told_of told) set.now (T.contents out.old) (T.contents out.new)) set.now bytes }
     ensures missed { result ≡ 1 → (bytes : List ℕ) → Keeps bytes read.now
-        → IsPlayToldInPart usual (W.contents writer.old) (W.contents writer.new) (Grew (told_of told) set.now (T.contents out.old) (T.contents out.new)) set.now bytes }
-    ensures refused { result ≡ 2 → (bytes : List ℕ) → Keeps bytes read.now → IsNotRun (W.contents writer.old) (W.contents writer.new) set.now bytes }
+        → IsPlayToldInPart limits (W.contents writer.old) (W.contents writer.new) (Grew (told_of told) set.now (T.contents out.old) (T.contents out.new)) set.now bytes }
+    ensures refused { result ≡ 2 → (bytes : List ℕ) → Keeps bytes read.now → IsNotRun limits (W.contents writer.old) (W.contents writer.new) set.now bytes }
     ensures status { (result ≡ 0) ⊎ (result ≡ 1) ⊎ (result ≡ 2) ⊎ (result ≡ 4) }
 {
     match told {
-        RunSummary::Chart(cut) => tell_chart(alloc, set, usual, read, cut, out, writer, errors),
-        RunSummary::Thrown => tell_thrown(alloc, set, usual, read, out, writer, errors),
+        RunSummary::Chart(cut) => tell_chart(alloc, set, limits, read, cut, out, writer, errors),
+        RunSummary::Thrown => tell_thrown(alloc, set, limits, read, out, writer, errors),
     }
 }
 
@@ -227,7 +232,6 @@ fn tell_run<T: Write, W: Write, E: Write>(
 pub(crate) fn play_told<S: Read + Drop, R: Read + Drop, T: Write, W: Write, E: Write>(
     alloc: Global,
     set: SetWord<S>,
-    usual: RoundLimits,
     name: &str,
     mut script: R,
     told: RunSummary,
@@ -237,9 +241,9 @@ pub(crate) fn play_told<S: Read + Drop, R: Read + Drop, T: Write, W: Write, E: W
 ) -> u8
     ensures accepted { (result ≡ 0) ⊎ (result ≡ 1) → IfSome (given S.remaining set) IsAccepted }
     ensures held { result ≡ 0 → IsOnSet (given S.remaining set) (R.remaining script)
-        (λ d. IsPlayTold usual (W.contents writer.old) (W.contents writer.new) (Grew (told_of told) d (T.contents out.old) (T.contents out.new)) d) }
+        (λ limits d. IsPlayTold limits (W.contents writer.old) (W.contents writer.new) (Grew (told_of told) d (T.contents out.old) (T.contents out.new)) d) }
     ensures missed { result ≡ 1 → IsOnSet (given S.remaining set) (R.remaining script)
-        (λ d. IsPlayToldInPart usual (W.contents writer.old) (W.contents writer.new) (Grew (told_of told) d (T.contents out.old) (T.contents out.new)) d) }
+        (λ limits d. IsPlayToldInPart limits (W.contents writer.old) (W.contents writer.new) (Grew (told_of told) d (T.contents out.old) (T.contents out.new)) d) }
     ensures refused { result ≡ 2
         → IsRefused (given S.remaining set) (R.remaining script) (W.contents writer.old) (W.contents writer.new) }
     ensures status { (result ≡ 0) ⊎ (result ≡ 1) ⊎ (result ≡ 2) ⊎ (result ≡ 4) }
@@ -247,8 +251,17 @@ pub(crate) fn play_told<S: Read + Drop, R: Read + Drop, T: Write, W: Write, E: W
     let set = find_set(alloc, set);
     let read = read_text(alloc, &mut script);
     match set {
-        Ok(set) => match read {
-            Ok(read) => tell_run(alloc, &set, usual, &read, told, out, writer, errors),
+        Ok(found) => match read {
+            Ok(read) => tell_run(
+                alloc,
+                &found.set,
+                found.limits,
+                &read,
+                told,
+                out,
+                writer,
+                errors,
+            ),
             Err(_) => FAILED,
         },
         Err(refusal) => refuse_set(alloc, name, &refusal, writer, errors),

@@ -51,9 +51,11 @@ fn of_tree(
 ) -> Result<(), AllocError> {
     match fault {
         ParseFault::Unexpected(index) => unexpected(alloc, notes, read, index),
-        ParseFault::TooDeep(_) => notes
-            .said
-            .push_str("this statement is more than 32 levels high"),
+        ParseFault::TooDeep(at) => notes.said.push_str(if read.is_name(read.index_at(at)) {
+            "the expression of this synonym is more than 32 levels high"
+        } else {
+            "this statement is more than 32 levels high"
+        }),
         ParseFault::NoMemory => Ok(()),
     }
 }
@@ -77,7 +79,11 @@ fn of_divisor(notes: &mut Notes, read: &Reading<'_>, index: usize) -> Result<(),
     let sign = read.spelled(index.saturating_sub(1));
     push_all(
         &mut notes.said,
-        &["a literal of 1 or more is expected right of `", sign, "`"],
+        &[
+            "a literal or synonym of 1 or more is expected right of `",
+            sign,
+            "`",
+        ],
     )
 }
 

@@ -10,6 +10,10 @@ pub enum Class {
     /// A signal, or a timer of the process.
     Stimulus,
     Variable,
+    /// A synonym of the block.
+    Synonym,
+    /// A synonym of the process.
+    OwnSynonym,
     Process,
     State,
     Connection,
@@ -24,6 +28,7 @@ impl Class {
             Class::Timer => "TIMER",
             Class::Stimulus => "SIGNAL or TIMER",
             Class::Variable => "variable",
+            Class::Synonym | Class::OwnSynonym => "SYNONYM",
             Class::Process => "PROCESS",
             Class::State => "STATE",
             Class::Connection => "CONNECTION",
@@ -33,12 +38,23 @@ impl Class {
 
     /// Whether each process has its own names of this kind.
     pub fn is_local(self) -> bool {
-        !matches!(self, Class::Signal | Class::Process | Class::Route)
+        !matches!(
+            self,
+            Class::Signal | Class::Process | Class::Route | Class::Synonym
+        )
     }
 
     /// Whether a name used as this kind may be declared as the other kind.
     pub fn takes(self, other: Class) -> bool {
-        self == other || (self == Class::Stimulus && other.is_stimulus())
+        self == other
+            || (self == Class::Stimulus && other.is_stimulus())
+            || (self == Class::Synonym && other == Class::OwnSynonym)
+            || (self == Class::Variable && other.is_synonym())
+    }
+
+    /// Whether it is a synonym.
+    fn is_synonym(self) -> bool {
+        matches!(self, Class::Synonym | Class::OwnSynonym)
     }
 
     /// Whether an INPUT takes this kind.
@@ -48,7 +64,10 @@ impl Class {
 
     /// Whether no two names of these kinds may be equal.
     pub fn clashes(self, other: Class) -> bool {
-        self == other || (self.is_stimulus() && other.is_stimulus())
+        self == other
+            || (self.is_stimulus() && other.is_stimulus())
+            || (self == Class::Variable && other == Class::OwnSynonym)
+            || (self == Class::OwnSynonym && other == Class::Variable)
     }
 }
 
@@ -74,6 +93,8 @@ fn governs(word: Word) -> bool {
             | Word::Task
             | Word::Decision
             | Word::NextState
+            | Word::Dcl
+            | Word::Synonym
     )
 }
 
@@ -103,11 +124,28 @@ fn is_last(read: &Reading<'_>, index: usize) -> bool {
         && read.symbol(index.saturating_sub(1)) == Some(Symbol::Comma)
 }
 
+/// Whether a token is in the parentheses of an answer, which a colon follows.
+fn is_in_answer(read: &Reading<'_>, index: usize) -> bool {
+    for at in index..read.tokens.len() {
+        match read.symbol(at) {
+            Some(Symbol::Close) => {
+                return read.symbol(at.saturating_add(1)) == Some(Symbol::Colon);
+            }
+            Some(Symbol::Open) | Some(Symbol::Semicolon) => return false,
+            _ => {}
+        }
+    }
+    false
+}
+
 /// The kind of thing that the name with this index denotes.
 pub fn class_of(read: &Reading<'_>, index: usize) -> Class {
     let Some(Governing { word, inside }) = governing_word(read, index) else {
         return Class::Variable;
     };
+    if matches!(word, Word::Dcl | Word::Synonym) || is_in_answer(read, index) {
+        return Class::Synonym;
+    }
     match word {
         Word::Join => Class::Connection,
         Word::NextState => Class::State,

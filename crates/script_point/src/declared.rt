@@ -21,6 +21,7 @@ fn declares(word: Word) -> Option<Class> {
         Word::Signal => Some(Class::Signal),
         Word::Timer => Some(Class::Timer),
         Word::Dcl => Some(Class::Variable),
+        Word::Synonym => Some(Class::Synonym),
         Word::Process => Some(Class::Process),
         Word::State => Some(Class::State),
         Word::Connection => Some(Class::Connection),
@@ -83,6 +84,33 @@ fn process_behind(read: &Reading<'_>, process: usize, index: usize) -> usize {
     }
 }
 
+/// Whether a process has begun before a token and hasn't ended.
+fn is_inside(read: &Reading<'_>, inside: bool, index: usize) -> bool {
+    match read.word(index) {
+        Some(Word::Process) => true,
+        Some(Word::EndProcess) => false,
+        _ => inside,
+    }
+}
+
+/// What a name is declared as. In a DCL and a SYNONYM a declared name follows that word or a comma; other names are part
+/// of a value. A synonym of a process has a class of its own.
+fn declared_as(read: &Reading<'_>, class: Class, inside: bool, index: usize) -> Option<Class> {
+    if class != Class::Synonym && class != Class::Variable {
+        return Some(class);
+    }
+    let before = index.saturating_sub(1);
+    let begins = matches!(read.word(before), Some(Word::Synonym) | Some(Word::Dcl));
+    if !begins && read.symbol(before) != Some(Symbol::Comma) {
+        return None;
+    }
+    Some(if inside && class == Class::Synonym {
+        Class::OwnSynonym
+    } else {
+        class
+    })
+}
+
 /// All declared names, in the order of the text.
 pub fn declarations(alloc: Global, read: &Reading<'_>) -> Result<Vec<Declared>, AllocError> {
     let mut all = Vec::new(alloc);
@@ -91,16 +119,20 @@ pub fn declarations(alloc: Global, read: &Reading<'_>) -> Result<Vec<Declared>, 
         depth: 0,
     };
     let mut process = 0;
+    let mut inside = false;
     for index in 0..read.tokens.len() {
         scan = scanned(scan, read.word(index), read.symbol(index));
         process = process_behind(read, process, index);
+        inside = is_inside(read, inside, index);
         if let Some(class) = scan.class {
             if scan.depth == 0 && read.is_name(index) {
-                all.push(Declared {
-                    class,
-                    index,
-                    process,
-                })?;
+                if let Some(class) = declared_as(read, class, inside, index) {
+                    all.push(Declared {
+                        class,
+                        index,
+                        process,
+                    })?;
+                }
             }
         }
     }

@@ -10,7 +10,7 @@ use std::alloc::{AllocError, Global};
 const CANDIDATES: &str =
     "NOT ( - TRUE FALSE NOW Some_other_name_0 2147483646 '' TASK OUTPUT SET RESET DECISION NEXTSTATE STOP JOIN
     = /= < <= > >= + * / MOD REM AND OR XOR ; , : := )
-    BLOCK ENDBLOCK SIGNAL SIGNALROUTE FROM TO WITH ENV CONNECT PROCESS ENDPROCESS DCL TIMER START STATE ENDSTATE INPUT SAVE
+    BLOCK ENDBLOCK SIGNAL SIGNALROUTE FROM TO WITH ENV CONNECT SYNONYM PROCESS ENDPROCESS DCL TIMER START STATE ENDSTATE INPUT SAVE
     CONNECTION ENDCONNECTION SENDER ELSE ENDDECISION INTEGER BOOLEAN";
 
 /// The candidate that represents any name.
@@ -137,12 +137,23 @@ fn block_head(read: &Reading<'_>, before: usize) -> usize {
     before
 }
 
+/// Whether the word SYNONYM is in the text of these tokens.
+fn with_synonyms(row: &[Token]) -> bool {
+    match row.first() {
+        Some(token) => token.with_synonyms,
+        None => false,
+    }
+}
+
 /// The candidates that may follow these tokens, as they are spelled.
 fn accepted(alloc: Global, row: &mut Vec<Token>) -> Result<Vec<&'static str>, AllocError> {
     let candidates = candidates(alloc)?;
+    let with_synonyms = with_synonyms(row.as_slice());
     let mut wanted = Vec::new(alloc);
     for candidate in &candidates {
-        row.push(*candidate)?;
+        let mut token = *candidate;
+        token.with_synonyms = with_synonyms;
+        row.push(token)?;
         if begins_text(alloc, row.as_slice())? {
             wanted.push(text_of(CANDIDATES, candidate))?;
         }

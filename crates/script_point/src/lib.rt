@@ -21,7 +21,7 @@ mod words;
 pub use causes::add_notes;
 pub use fronts::in_front;
 pub use lines::{line_begin, line_end};
-pub use mtp2_text::OwnSet;
+pub use mtp2_text::{LimitName, OwnSet, TextLimits, text_limits};
 pub use notes::{Explained, Notes};
 pub use pointing::{point_out, tokens_of};
 pub use reading::Reading;

@@ -3,8 +3,8 @@ use Rattle.std.proofs.Common.{◌≡◌, ℕ, ◌<◌, ◌≤◌, max, Bool, tru
 use Rattle.std.specs.Prelude.{nat_lt, if◌then◌else◌}
 use borrow.Author.Tests.{ltb-true, ltb-false}
 use Rattle.sdl_ast.specs.Limits.{GREATEST_HEIGHT}
-use Rattle.sdl_ast.specs.Plain.{Tree, number, truth, variable, unary, binary, PlainAction, Text, falls, ends, does, decides, Choice, nothing_else, otherwise, answer, PlainClause, input, save, PlainProcess, PlainEntity, signals, route, connect, process, PlainBlock}
-use Rattle.sdl_ast.specs.Heights.{tree_height, highest, action_height, text_height, choice_height, decision_height, high_in_decision, high_in_choice, clause_height, state_height, connection_height, process_height, entity_height, Height, or_first, first_of, lesser, place_of_action, high_in_action, high_in_text, high_in_clause, high_in_state, high_in_connection, high_in_process, high_in_entity, first_too_high}
+use Rattle.sdl_ast.specs.Plain.{Tree, number, truth, variable, unary, binary, PlainAction, Text, falls, ends, does, decides, Choice, nothing_else, otherwise, answer, PlainClause, input, save, PlainSynonym, PlainDeclaration, variables, timers, own_synonyms, PlainProcess, PlainEntity, signals, route, connect, synonyms, process, PlainBlock}
+use Rattle.sdl_ast.specs.Heights.{tree_height, highest, action_height, text_height, choice_height, decision_height, high_in_decision, high_in_choice, clause_height, state_height, connection_height, synonym_height, declaration_height, process_height, entity_height, Height, or_first, first_of, lesser, place_of_action, high_in_action, high_in_text, high_in_clause, high_in_state, high_in_connection, high_in_synonym, high_in_declaration, high_in_process, high_in_entity, first_too_high}
 
 -- A height and the first place that is too high agree: there is a place exactly if the height exceeds the limit.
 pub Judged : ℕ → Option ℕ → Type 0
@@ -87,8 +87,18 @@ judged_lesser h k (Some at) None a b = omega arith
 judged_lesser h k None (Some other) a b = omega arith
 judged_lesser h k None None a b = omega arith
 
-judged_process : (p : PlainProcess) → Judged (process_height p) (high_in_process p)
-judged_process p =
+judged_synonym : (s : PlainSynonym) → Judged (synonym_height s) (high_in_synonym s)
+judged_synonym s = judged_test (synonym_height s) s.name.at (nat_lt GREATEST_HEIGHT (synonym_height s)) refl
+
+judged_declaration : (d : PlainDeclaration) → Judged (declaration_height d) (high_in_declaration d)
+unfolding Judged
+judged_declaration (variables groups) = omega arith
+judged_declaration (timers names) = omega arith
+judged_declaration (own_synonyms list) = judged_list synonym_height high_in_synonym judged_synonym list
+
+judged_body : (p : PlainProcess) → Judged (max (text_height p.start.text) (max (highest state_height p.states) (highest connection_height p.connections)))
+    (or_first (high_in_text p.start.text) (lesser (first_of high_in_state p.states) (first_of high_in_connection p.connections)))
+judged_body p =
     judged-max (text_height p.start.text) (max (highest state_height p.states) (highest connection_height p.connections)) (high_in_text p.start.text)
     (lesser (first_of high_in_state p.states) (first_of high_in_connection p.connections))
     (judged_text p.start.text)
@@ -96,11 +106,17 @@ judged_process p =
     (judged_list state_height high_in_state (λ s. judged_list clause_height high_in_clause judged_clause s.clauses) p.states)
     (judged_list connection_height high_in_connection (λ c. judged_text c.text) p.connections))
 
+judged_process : (p : PlainProcess) → Judged (process_height p) (high_in_process p)
+judged_process p =
+    judged-max (highest declaration_height p.declarations) _ (first_of high_in_declaration p.declarations) _
+    (judged_list declaration_height high_in_declaration judged_declaration p.declarations) (judged_body p)
+
 judged_entity : (e : PlainEntity) → Judged (entity_height e) (high_in_entity e)
 unfolding Judged
 judged_entity (signals declared) = omega arith
 judged_entity (route r) = omega arith
 judged_entity (connect channels routes) = omega arith
+judged_entity (synonyms list) = judged_list synonym_height high_in_synonym judged_synonym list
 judged_entity (process p) = judged_process p
 
 judged_block : (b : PlainBlock) → Judged (Height b) (first_too_high b)

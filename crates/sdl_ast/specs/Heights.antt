@@ -6,8 +6,9 @@ use Rattle.sdl_ast.specs.Plain.{Tree, number, truth, variable, unary, binary, Pl
 use Rattle.sdl_ast.specs.Plain.{PlainSending, PlainAction, task, output, set_timer, reset_timer}
 use Rattle.sdl_ast.specs.Plain.{Text, falls, ends, does, decides, Choice, nothing_else, otherwise}
 use Rattle.sdl_ast.specs.Plain.{answer, PlainStatement, act, decide, PlainAnswer, PlainClause}
-use Rattle.sdl_ast.specs.Plain.{input, save, PlainState, PlainConnection, PlainProcess, PlainEntity}
-use Rattle.sdl_ast.specs.Plain.{signals, route, connect, process, PlainBlock}
+use Rattle.sdl_ast.specs.Plain.{input, save, PlainState, PlainConnection, PlainSynonym}
+use Rattle.sdl_ast.specs.Plain.{PlainDeclaration, variables, timers, own_synonyms, PlainProcess}
+use Rattle.sdl_ast.specs.Plain.{PlainEntity, signals, route, connect, synonyms, process, PlainBlock}
 
 -- 1 for an operand; for an operator, one more than its highest operand
 abbrev pub tree_height : Tree → ℕ
@@ -63,15 +64,26 @@ state_height s = highest clause_height s.clauses
 abbrev pub connection_height : PlainConnection → ℕ
 connection_height c = text_height c.text
 
+-- a synonym is as high as its expression
+abbrev pub synonym_height : PlainSynonym → ℕ
+synonym_height s = tree_height s.value
+
+abbrev pub declaration_height : PlainDeclaration → ℕ
+declaration_height (variables groups) = 0
+declaration_height (timers names) = 0
+declaration_height (own_synonyms list) = highest synonym_height list
+
 abbrev pub process_height : PlainProcess → ℕ
 process_height p =
-    max (text_height p.start.text)
-    (max (highest state_height p.states) (highest connection_height p.connections))
+    max (highest declaration_height p.declarations)
+    (max (text_height p.start.text)
+    (max (highest state_height p.states) (highest connection_height p.connections)))
 
 abbrev pub entity_height : PlainEntity → ℕ
 entity_height (signals declared) = 0
 entity_height (route r) = 0
 entity_height (connect channels routes) = 0
+entity_height (synonyms list) = highest synonym_height list
 entity_height (process p) = process_height p
 
 -- the height of the highest expression or DECISION of a text
@@ -144,16 +156,27 @@ lesser None q = q
 lesser (Some p) None = Some p
 lesser (Some p) (Some q) = Some (min p q)
 
+-- the place of a synonym with an expression that is too high
+abbrev pub high_in_synonym : PlainSynonym → Option ℕ
+high_in_synonym s = if nat_lt GREATEST_HEIGHT (synonym_height s) then Some s.name.at else None
+
+abbrev pub high_in_declaration : PlainDeclaration → Option ℕ
+high_in_declaration (variables groups) = None
+high_in_declaration (timers names) = None
+high_in_declaration (own_synonyms list) = first_of high_in_synonym list
+
 -- STATE parts and CONNECTIONs are mixed in the text, so the lesser place is the first
 abbrev pub high_in_process : PlainProcess → Option ℕ
 high_in_process p =
-    or_first (high_in_text p.start.text)
-    (lesser (first_of high_in_state p.states) (first_of high_in_connection p.connections))
+    or_first (first_of high_in_declaration p.declarations)
+    (or_first (high_in_text p.start.text)
+    (lesser (first_of high_in_state p.states) (first_of high_in_connection p.connections)))
 
 abbrev pub high_in_entity : PlainEntity → Option ℕ
 high_in_entity (signals declared) = None
 high_in_entity (route r) = None
 high_in_entity (connect channels routes) = None
+high_in_entity (synonyms list) = first_of high_in_synonym list
 high_in_entity (process p) = high_in_process p
 
 abbrev pub first_too_high : PlainBlock → Option ℕ

@@ -142,10 +142,18 @@ pub record PlainGroup : Type 0 where
   pub sort : Sort
   pub initial : Option Constant
 
--- A declaration of a process: the groups of a DCL, or the timers of a TIMER.
+-- A synonym: a name for the value of an expression, and the sort of that value if it is written.
+pub record PlainSynonym : Type 0 where
+  pub name : Identifier
+  pub sort : Option Sort
+  pub value : Tree
+
+-- A declaration of a process: the groups of a DCL, the timers of a TIMER, or the synonyms of a
+-- SYNONYM.
 pub data PlainDeclaration : Type 0 where
   variables : List PlainGroup → PlainDeclaration
   timers : List Identifier → PlainDeclaration
+  own_synonyms : List PlainSynonym → PlainDeclaration
 
 -- The heading of a process: its name, and the number of instances that run.
 pub record PlainProcessHead : Type 0 where
@@ -209,11 +217,12 @@ pub record PlainSignal : Type 0 where
   pub parameters : List Sort
 
 -- An entity of a block: the signals of a SIGNAL, a SIGNALROUTE, a CONNECT with its channels and
--- routes, or a PROCESS.
+-- routes, the synonyms of a SYNONYM, or a PROCESS.
 pub data PlainEntity : Type 0 where
   signals : List PlainSignal → PlainEntity
   route : PlainRoute → PlainEntity
   connect : List Identifier → List Identifier → PlainEntity
+  synonyms : List PlainSynonym → PlainEntity
   process : PlainProcess → PlainEntity
 
 -- A text: a block with its entities.

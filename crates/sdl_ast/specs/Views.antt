@@ -6,8 +6,9 @@ use Rattle.sdl_ast.specs.Plain.{Text, falls, ends, Choice, nothing_else, otherwi
 use Rattle.sdl_ast.specs.Plain.{act, decide, PlainAnswer, before, all_before, all_answers}
 use Rattle.sdl_ast.specs.Plain.{PlainConnection, PlainStimulus, PlainInput, PlainClause, input}
 use Rattle.sdl_ast.specs.Plain.{save, PlainState, PlainStart, PlainGroup, PlainDeclaration}
-use Rattle.sdl_ast.specs.Plain.{variables, timers, PlainProcess, PlainPath, PlainRoute, PlainSignal}
-use Rattle.sdl_ast.specs.Plain.{PlainEntity, signals, route, connect, process, PlainBlock}
+use Rattle.sdl_ast.specs.Plain.{PlainSynonym, variables, timers, own_synonyms, PlainProcess}
+use Rattle.sdl_ast.specs.Plain.{PlainPath, PlainRoute, PlainSignal, PlainEntity, signals, route}
+use Rattle.sdl_ast.specs.Plain.{connect, synonyms, process, PlainBlock}
 use Rattle.sdl_ast.specs.declared.expression.Expression.{Expression, Number, Truth, Variable}
 use Rattle.sdl_ast.specs.declared.expression.Expression.{Unary', Binary'}
 use Rattle.sdl_ast.specs.declared.tree.Assignment.{Assignment}
@@ -32,13 +33,14 @@ use Rattle.sdl_ast.specs.declared.tree.StatePart.{StatePart}
 use Rattle.sdl_ast.specs.declared.tree.Start.{Start}
 use Rattle.sdl_ast.specs.declared.tree.Group.{Group}
 use Rattle.sdl_ast.specs.declared.tree.Declaration.{Declaration}
-use Rattle.sdl_ast.specs.declared.tree.Declaration.TheVariants.{Variables, Timers}
+use Rattle.sdl_ast.specs.declared.tree.Declaration.TheVariants as declarations
+use Rattle.sdl_ast.specs.declared.tree.Synonym.{Synonym}
 use Rattle.sdl_ast.specs.declared.tree.Process as the_process
 use Rattle.sdl_ast.specs.declared.tree.Path as the_path
 use Rattle.sdl_ast.specs.declared.tree.Route as the_route
 use Rattle.sdl_ast.specs.declared.tree.SignalDeclaration.{SignalDeclaration}
 use Rattle.sdl_ast.specs.declared.tree.Entity.{Entity}
-use Rattle.sdl_ast.specs.declared.tree.Entity.TheVariants.{Signals, Route, Connect, Process}
+use Rattle.sdl_ast.specs.declared.tree.Entity.TheVariants as entities
 use Rattle.sdl_ast.specs.declared.tree.Block.{Block}
 
 abbrev pub tree_of : Expression → Tree
@@ -154,9 +156,13 @@ start_of s = record { at = s.at; text = text_of s.transition }
 abbrev pub group_of : Group → PlainGroup
 group_of g = record { names = g.names.items; sort = g.sort; initial = g.initial }
 
+abbrev pub synonym_of : Synonym → PlainSynonym
+synonym_of s = record { name = s.name; sort = s.sort; value = tree_of s.value }
+
 abbrev pub declaration_of : Declaration → PlainDeclaration
-declaration_of (Variables groups) = variables (map group_of groups.items)
-declaration_of (Timers names) = timers names.items
+declaration_of (declarations.Variables groups) = variables (map group_of groups.items)
+declaration_of (declarations.Timers names) = timers names.items
+declaration_of (declarations.Synonyms list) = own_synonyms (map synonym_of list.items)
 
 abbrev pub process_of : the_process.Process → PlainProcess
 process_of p = record {
@@ -178,10 +184,11 @@ abbrev pub signal_of : SignalDeclaration → PlainSignal
 signal_of s = record { name = s.name; parameters = s.parameters.items }
 
 abbrev pub entity_of : Entity → PlainEntity
-entity_of (Signals declared) = signals (map signal_of declared.items)
-entity_of (Route r) = route (route_of r)
-entity_of (Connect c) = connect c.channels.items c.routes.items
-entity_of (Process p) = process (process_of p)
+entity_of (entities.Signals declared) = signals (map signal_of declared.items)
+entity_of (entities.Route r) = route (route_of r)
+entity_of (entities.Connect c) = connect c.channels.items c.routes.items
+entity_of (entities.Synonyms list) = synonyms (map synonym_of list.items)
+entity_of (entities.Process p) = process (process_of p)
 
 abbrev pub block_of : Block → PlainBlock
 block_of b = record { name = b.name; entities = map entity_of b.entities.items }

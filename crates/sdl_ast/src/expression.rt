@@ -58,7 +58,7 @@ pub enum BinaryOperator {
 /// of the expression's first token, which may be an opening parenthesis.
 #[derive(Debug, Drop)]
 pub enum Expression {
-    /// A number.
+    /// A number. The value of a synonym that is below 0 is kept as the number that is 2^32 more.
     Number {
         at: u32,
         value: u32,
@@ -68,7 +68,7 @@ pub enum Expression {
         at: u32,
         value: bool,
     },
-    /// A variable.
+    /// A variable, or a synonym until its value replaces it.
     Variable {
         at: u32,
         name: Identifier,

@@ -1,13 +1,13 @@
 //! Computes whether expressions and DECISIONs of a tree exceed the height limit.
 ghost use Rattle.std.specs.Prelude.{◌≡◌, nat_lt, ◌||◌, map};
-ghost use Rattle.sdl_ast.specs.Heights.{tree_height, highest, action_height, text_height, choice_height, decision_height, assignments_height, sending_height, high_in_action, high_in_decision};
+ghost use Rattle.sdl_ast.specs.Heights.{tree_height, highest, action_height, text_height, choice_height, decision_height, assignments_height, sending_height, high_in_action, high_in_decision, high_in_synonym, first_of};
 ghost use Rattle.sdl_ast.specs.Plain.{Text};
 ghost use Rattle.sdl_ast.specs.declared.tree.Decision.{out-Decision};
-ghost use Rattle.sdl_ast.specs.Views.{tree_of, assignment_of, sending_of, action_of, statement_of, choice_of, text_of};
+ghost use Rattle.sdl_ast.specs.Views.{tree_of, assignment_of, sending_of, action_of, statement_of, choice_of, text_of, synonym_of};
 
 use crate::MAX_HEIGHT;
 use crate::expression::Expression;
-use crate::tree::{Action, Assignment, Decision, Sending, Statement, Transition};
+use crate::tree::{Action, Assignment, Decision, Sending, Statement, Synonym, Transition};
 
 /// Whether an expression is higher than a limit.
 fn exceeds(tree: &Expression, limit: u32) -> bool
@@ -151,4 +151,16 @@ pub fn high_in_decision(decision: &Decision) -> Option<u32>
     ensures { result ≡ high_in_decision (out-Decision decision.now).at (tree_of (out-Decision decision.now).question) (choice_of decision.now) }
 {
     exceeds_in_decision(decision, MAX_HEIGHT).then_some(decision.at)
+}
+
+/// The place of the first of these synonyms with an expression that is too high.
+pub fn high_in_synonyms(synonyms: &[Synonym]) -> Option<u32>
+    ensures { result ≡ first_of high_in_synonym (map synonym_of synonyms.now) }
+{
+    for synonym in synonyms {
+        if exceeds(&synonym.value, MAX_HEIGHT) {
+            return Some(synonym.name.at);
+        }
+    }
+    None
 }

@@ -18,6 +18,8 @@ pub enum Entity {
     Route(Route),
     /// A CONNECT, which has no effect.
     Connect(Connect),
+    /// The synonyms of one SYNONYM.
+    Synonyms(Vec<Synonym>),
     /// A PROCESS.
     Process(Process),
 }
@@ -36,6 +38,14 @@ pub enum Sort {
     Integer,
     /// TRUE and FALSE.
     Boolean,
+}
+
+/// A synonym: a name for the value of an expression, and the sort of that value if it is written.
+#[derive(Debug, Drop)]
+pub struct Synonym {
+    pub name: Identifier,
+    pub sort: Option<Sort>,
+    pub value: Expression,
 }
 
 /// A SIGNALROUTE with its paths.
@@ -88,6 +98,8 @@ pub enum Declaration {
     Variables(Vec<Group>),
     /// The timers of one TIMER.
     Timers(Vec<Identifier>),
+    /// The synonyms of one SYNONYM.
+    Synonyms(Vec<Synonym>),
 }
 
 /// Variables of one sort. Each of them has the initial value, if there is one.
@@ -102,7 +114,12 @@ pub struct Group {
 #[derive(Clone, Copy, Debug, PartialEq, Eq)]
 pub struct Constant {
     pub at: u32,
+    /// Its value. For a synonym it is the number 0 until the synonym's value replaces it.
     pub value: Literal,
+    /// Whether it is a synonym after a minus.
+    pub is_negated: bool,
+    /// The synonym that it is, if it is one.
+    pub synonym: Option<Identifier>,
 }
 
 /// The value of a constant.

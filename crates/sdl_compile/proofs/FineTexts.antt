@@ -21,7 +21,7 @@ use Rattle.sdl_sound.specs.Receivers.{answers_origin, answers_all, arrives, lost
 use Rattle.sdl_meaning.specs.Outcomes.{Scope}
 use Rattle.sdl_compile.specs.Made.{IsSmall}
 use Rattle.sdl_compile.specs.Drafts.{IsTrigger}
-use Rattle.sdl_compile.proofs.Known.{FineStatement}
+use Rattle.sdl_compile.proofs.Knowing.{FineStatement}
 use Rattle.sdl_meaning.proofs.Sorting.{passed}
 use Rattle.sdl_sound.proofs.Items.{Each, each_with, each_false, each_nil}
 use Rattle.std.proofs.lemmas.Bool.{ltb-false as at_most}

@@ -28,7 +28,7 @@ use Rattle.sdl_meaning.specs.Named.{NamedWhole, NamedConnections, IsSentTo, Answ
 use Rattle.sdl_meaning.specs.Declarations.{sort_of_tree}
 use Rattle.sdl_compile.specs.Drafts.{IsTrigger, IsReadyInput, AreReady, AllReady, AreTriggers, AllTriggers, IsReadyProcess}
 use Rattle.sdl_compile.specs.Routes.{IsKnownPath}
-use Rattle.sdl_compile.proofs.Known.{FineStatement, text_ends, known, known_in, trigger_known, named_text, named_places, answers_text}
+use Rattle.sdl_compile.proofs.Knowing.{FineStatement, text_ends, known, known_in, trigger_known, named_text, named_places, answers_text}
 use Rattle.sdl_meaning.proofs.Numbers.{AreNumbered, are_numbered, not_marked as not_flagged}
 use Rattle.sdl_compile.proofs.Receiving.{has_receiver, answers_sender, all_front, all_back}
 use Rattle.std.proofs.lemmas.Option.{slice_get-map as slice_map}

@@ -5,7 +5,7 @@ use Rattle.sdl_sound.specs.Statements.{statements_of, choice_statements}
 use Rattle.sdl_sound.specs.Actions.{Origin}
 use Rattle.sdl_meaning.specs.Outcomes.{Scope}
 use Rattle.sdl_sound.proofs.Items.{Each, each_front, each_back}
-use Rattle.sdl_compile.proofs.Known.{FineStatement}
+use Rattle.sdl_compile.proofs.Knowing.{FineStatement}
 use Rattle.sdl_compile.proofs.RightTexts.{RightText, RightChoice}
 
 module _ (c : Scope) (is : List Origin) where

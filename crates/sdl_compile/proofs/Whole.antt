@@ -53,7 +53,7 @@ use Rattle.sdl_compile.specs.Drafts.{IsReadyProcess, IsInputOf, AreInputsOf, IsP
 use Rattle.sdl_compile.specs.Blocks.{drafted_routes, Declares}
 use Rattle.sdl_compile.specs.Routes.{KnownParty, IsKnown, IsKnownPath, HasFewNames}
 use Rattle.sdl_sound.proofs.Items.{Each, each_front, each_back, each_with, each_unmap, each_flat, each_unflat, all_items, each_nil, each_false, each_unfound, each_both, each_at_place as each_at}
-use Rattle.sdl_compile.proofs.Known.{known}
+use Rattle.sdl_compile.proofs.Knowing.{known}
 use Rattle.sdl_meaning.proofs.Numbers.{AreNumbered, are_numbered}
 use Rattle.sdl_compile.proofs.Placed.{valid_process, IsCounted, IsKnownTransition}
 use Rattle.sdl_compile.proofs.InitialSets.{beside}

@@ -11,3 +11,8 @@ pub mod PlaceCounts
 pub mod Reads
 pub mod Routes
 pub mod Settings
+pub use Rattle.sdl_rules.specs.Expansion
+pub use Rattle.sdl_rules.specs.Laws as SynonymLaws
+pub use Rattle.sdl_rules.specs.Synonyms
+pub use Rattle.sdl_rules.specs.Texts
+pub use Rattle.sdl_rules.specs.Views as SynonymViews

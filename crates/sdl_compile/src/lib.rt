@@ -19,5 +19,5 @@ mod variables;
 
 pub use compiling::compile;
 pub use laws::set_law;
-pub use sdl_rules::{Resolved, resolve};
+pub use sdl_rules::{Expansion, Known, Resolved, expand, plain_law};
 pub use totals::Counts;

@@ -1,5 +1,6 @@
 pub mod ChainLemmas
 pub mod KindLemmas
+pub mod MarkLemmas
 pub mod NameLemmas
 pub mod OneLemmas
 pub mod QuoteLemmas

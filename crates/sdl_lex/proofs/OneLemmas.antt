@@ -8,10 +8,10 @@ use Rattle.sdl_lex.specs.declared.lexemes.Lexeme.TheVariants.{Name as a_name, Nu
 use Rattle.sdl_lex.specs.declared.lexemes.Token.{Token}
 use Rattle.sdl_lex.specs.declared.lexemes.LexFault.{LexFault}
 use Rattle.sdl_lex.specs.declared.lexemes.LexFault.TheVariants.{BadCharacter, OpenComment, TooLong, NoMemory}
-use Rattle.sdl_lex.specs.Lexed.{IsComment, IsOpenComment, IsOpenQuoted, IsToken, IsBlank, white, comment, Lexes, ended, skipped, taken, Lexed, IsBad, IsLongName, IsLargeNumber, IsFaultAt, place_of, Gives, Answers, over_long, in_room, IsFirstFault, IsAnswer, Agrees}
+use Rattle.sdl_lex.specs.Lexed.{IsComment, IsOpenComment, IsOpenQuoted, IsToken, IsBlank, white, comment, Lexes, ended, skipped, taken, Lexed, IsBad, IsLongName, IsLargeNumber, IsFaultAt, place_of, all_marked, Gives, Answers, over_long, in_room, IsFirstFault, IsAnswer, Agrees}
 use Rattle.sdl_lex.proofs.KindLemmas.{Kind, a_letter, a_digit, a_space, a_quote, a_comment, a_mark, kind_at, kind-letter, kind-digit, kind-white, kind-quote, kind-comment, kind-bad, kind-end, kind-symbol, get_or-past, SymbolHere, symbol_begins, symbol_nonzero}
 use Rattle.sdl_lex.proofs.UniqueLemmas.{Wordlike, Numberlike, slice_letter, slice_digit, long_no_word, large_no_number}
-use Rattle.sdl_lex.proofs.TokenLemmas.{TokenOf, name_like, word_like, number_like, symbol_here, lexeme_kind, token_kind, one_token}
+use Rattle.sdl_lex.proofs.TokenLemmas.{TokenOf, name_like, word_like, number_like, symbol_here, lexeme_kind, token_of, token_kind, one_token}
 
 -- White space and comments.
 
@@ -49,7 +49,7 @@ blank_no_lexeme k a_quoted blank e = elim blank [ inl f ↦ absurd (cc) | inr f 
 
 blank_no_token : (text : List ℕ) (at next : ℕ) (t : Token) → IsBlank text at next → t.start ≡ at → IsToken text t → ⊥
 blank_no_token text at next t blank here token =
-    let a : kind_at text at ≡ lexeme_kind t.lexeme = rw (← here) (token_kind text t.start t.end t.lexeme token) in
+    let a : kind_at text at ≡ lexeme_kind t.lexeme = rw (← here) (token_kind text t.start t.end t.lexeme (token_of text t token)) in
     blank_no_lexeme (kind_at text at) t.lexeme (blank_kind text at next blank) a
 
 -- Places at which no further item can be read.
@@ -165,24 +165,24 @@ stuck_lexeme text at end (a_symbol s) stuck token = stuck_symbol text at s stuck
 stuck_token : (text : List ℕ) (at : ℕ) (t : Token) → Stuck text at → t.start ≡ at → IsToken text t → ⊥
 stuck_token text at t stuck here token =
     let there : Stuck text t.start = let P : ℕ → Type 0 = λ n. Stuck text n in subst P (sym here) stuck in
-    stuck_lexeme text t.start t.end t.lexeme there token
+    stuck_lexeme text t.start t.end t.lexeme there (token_of text t token)
 
 -- Two chains of items that both end where no further item can be read are equal.
 pub one_chain : (text : List ℕ) (p q at : ℕ) (ts us : List Token) → Lexes text p at ts → Lexes text q at us
     → Stuck text p → Stuck text q → (p ≡ q) × (ts ≡ us)
 one_chain text p q _ _ _ ended ended sp sq = (refl, refl)
 one_chain text p q _ _ us ended (skipped n b rest) sp sq = absurd (stuck_blank text p n sp b)
-one_chain text p q _ _ _ ended (taken t s i rest) sp sq = absurd (stuck_token text p t sp s i)
+one_chain text p q _ _ _ ended (taken t s w i rest) sp sq = absurd (stuck_token text p t sp s i)
 one_chain text p q _ ts _ (skipped n b rest) ended sp sq = absurd (stuck_blank text q n sq b)
-one_chain text p q _ _ _ (taken t s i rest) ended sp sq = absurd (stuck_token text q t sq s i)
+one_chain text p q _ _ _ (taken t s w i rest) ended sp sq = absurd (stuck_token text q t sq s i)
 one_chain text p q at ts us (skipped n b rest) (skipped m d more) sp sq =
     let same : m ≡ n = one_blank text at m n d b in
     let moved : Lexes text q n us = let P : ℕ → Type 0 = λ k. Lexes text q k us in subst P same more in
     one_chain text p q n ts us rest moved sp sq
-one_chain text p q at ts _ (skipped n b rest) (taken t s i more) sp sq = absurd (blank_no_token text at n t b s i)
-one_chain text p q at _ us (taken t s i rest) (skipped m d more) sp sq = absurd (blank_no_token text at m t d s i)
-one_chain text p q at _ _ (taken {tokens = ts} t s i rest) (taken {tokens = us} u r j more) sp sq =
-    let same : u ≡ t = one_token text at u t r s j i in
+one_chain text p q at ts _ (skipped n b rest) (taken t s w i more) sp sq = absurd (blank_no_token text at n t b s i)
+one_chain text p q at _ us (taken t s w i rest) (skipped m d more) sp sq = absurd (blank_no_token text at m t d s i)
+one_chain text p q at _ _ (taken {tokens = ts} t s w i rest) (taken {tokens = us} u r x j more) sp sq =
+    let same : u ≡ t = one_token text at u t r s x w j i in
     let moved : Lexes text q t.end us = let P : Token → Type 0 = λ v. Lexes text q v.end us in subst P same more in
     let next = one_chain text p q t.end ts us rest moved sp sq in
     let joined : (t ∷ ts) ≡ (u ∷ us) = let e = next.1 in cc in
@@ -248,17 +248,18 @@ one_fault text f g here there e =
 pub one_reading_lem : (text : List ℕ) (ts us : List Token) → Lexed text ts → Lexed text us → ts ≡ us
 one_reading_lem text ts us one other =
     let end : Stuck text (length text) = at_end (omega arith) in
-    (one_chain text (length text) (length text) 0 ts us one other end end).1
+    let bare : one.0 ≡ other.0 = (one_chain text (length text) (length text) 0 one.0 other.0 one.1 other.1 end end).1 in
+    one.2 ∙ (ap all_marked bare ∙ sym other.2)
 
 one_given : (text : List ℕ) (a b : Result (List Token) LexFault) → Gives text a → Gives text b → a ≡ b
 one_given text (Ok ts) (Ok us) one other = ap (λ (vs : List Token). Ok vs) (one_reading_lem text ts us one other)
 one_given text (Ok ts) (Err g) one other =
     let end : Stuck text (length text) = at_end (omega arith) in
-    let same = one_chain text (length text) (place_of g) 0 ts other.1 one other.2 end (fault_stuck text g other.0) in
+    let same = one_chain text (length text) (place_of g) 0 one.0 other.1 one.1 other.2 end (fault_stuck text g other.0) in
     absurd (fault_inside text g other.0 (omega (arith, same.0)))
 one_given text (Err f) (Ok us) one other =
     let end : Stuck text (length text) = at_end (omega arith) in
-    let same = one_chain text (place_of f) (length text) 0 one.1 us one.2 other (fault_stuck text f one.0) end in
+    let same = one_chain text (place_of f) (length text) 0 one.1 other.0 one.2 other.1 (fault_stuck text f one.0) end in
     absurd (fault_inside text f one.0 (omega (arith, same.0)))
 one_given text (Err f) (Err g) one other =
     let same = one_chain text (place_of f) (place_of g) 0 one.1 other.1 one.2 other.2 (fault_stuck text f one.0) (fault_stuck text g other.0) in

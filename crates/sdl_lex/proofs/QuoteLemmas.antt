@@ -4,7 +4,7 @@ use Rattle.std.specs.Prelude.{◌==◌, slice_range}
 use Rattle.std.proofs.lemmas.Bool.{both_ways, cases_Bool, cases_lt}
 use Rattle.std.proofs.lemmas.List.{drop_more}
 use Rattle.sdl_lex.specs.declared.lexemes.Lexeme.TheVariants.{Quoted as a_quoted}
-use Rattle.sdl_lex.specs.Lexed.{doubled, IsToken, IsOpenQuoted}
+use Rattle.sdl_lex.specs.Lexed.{doubled, bare, IsToken, IsOpenQuoted}
 use Rattle.sdl_lex.proofs.KindLemmas.{get_or-past}
 use Rattle.sdl_lex.proofs.SliceLemmas.{slice_length}
 
@@ -127,7 +127,7 @@ pub record QuotedHere (text : List ℕ) (start end : ℕ) : Type 0 where
   pub inside : quote < length text
 
 abbrev QuotedToken : List ℕ → ℕ → ℕ → Type 0
-QuotedToken text start end = IsToken text (record { lexeme = a_quoted; start = start; end = end })
+QuotedToken text start end = IsToken text (bare a_quoted start end)
 
 pub quoted_here : (text : List ℕ) (start end : ℕ) → QuotedToken text start end → QuotedHere text start end
 quoted_here text start end token =

@@ -1,5 +1,5 @@
 -- A token at a place of a text has one reading.
-use Rattle.std.proofs.Common.{◌≡◌, ℕ, ◌+◌, ◌≤◌, List, length, refl, ap, sym, subst, ◌∙◌, get_or, arith}
+use Rattle.std.proofs.Common.{◌≡◌, ℕ, ◌+◌, ◌≤◌, false, List, length, refl, ap, sym, subst, ◌∙◌, get_or, arith}
 use Rattle.std.specs.Prelude.{slice_range, nat_le}
 use Rattle.std.proofs.lemmas.Bool.{and_parts, leb-true}
 use Rattle.sdl_lex.specs.Limits.{GREATEST_NUMBER}
@@ -10,7 +10,7 @@ use Rattle.sdl_lex.specs.declared.lexemes.Lexeme.TheVariants.{Name as a_name, Nu
 use Rattle.sdl_lex.specs.declared.lexemes.Token.{Token}
 use Rattle.sdl_lex.specs.Spelling.{SameName, is_spelled_as_name}
 use Rattle.sdl_lex.specs.Texts.{word_text, symbol_text}
-use Rattle.sdl_lex.specs.Lexed.{decimal, IsToken}
+use Rattle.sdl_lex.specs.Lexed.{decimal, bare, IsToken}
 use Rattle.sdl_lex.proofs.WordLemmas.{one_word}
 use Rattle.sdl_lex.proofs.KindLemmas.{Kind, a_letter, a_digit, a_quote, a_mark, kind_at, kind-letter, kind-digit, kind-quote, kind-symbol, SymbolHere, one_symbol, here_from}
 use Rattle.sdl_lex.proofs.QuoteLemmas.{quoted_here, quoted_end}
@@ -20,7 +20,10 @@ use Rattle.sdl_lex.proofs.UniqueLemmas.{Wordlike, Numberlike, word_name, wordlik
 
 -- A text has a token of this lexeme from the start to the end.
 abbrev pub TokenOf : List ℕ → ℕ → Lexeme → ℕ → Type 0
-TokenOf text start lexeme end = IsToken text (record { lexeme = lexeme; start = start; end = end })
+TokenOf text start lexeme end = IsToken text (bare lexeme start end)
+
+pub token_of : (text : List ℕ) (t : Token) → IsToken text t → TokenOf text t.start t.lexeme t.end
+token_of text t token = record { ordered = token.ordered; inside = token.inside; spelled = token.spelled; longest = token.longest }
 
 pub name_like : (text : List ℕ) (start end : ℕ) (n : List ℕ) → TokenOf text start (a_name n) end → Wordlike text start end
 name_like text start end n token =
@@ -125,13 +128,14 @@ one_lexeme text start e f a_quoted (a_word m) one other =
 one_lexeme text start e f a_quoted (a_symbol m) one other =
     let a = token_kind text start e a_quoted one in let b = token_kind text start f (a_symbol m) other in absurd (cc)
 
-same_token : (t u : Token) → t.lexeme ≡ u.lexeme → t.start ≡ u.start → t.end ≡ u.end → t ≡ u
-same_token t u l s e i = record { lexeme = l i; start = s i; end = e i }
+same_token : (t u : Token) → t.lexeme ≡ u.lexeme → t.start ≡ u.start → t.end ≡ u.end → t.with_synonyms ≡ u.with_synonyms → t ≡ u
+same_token t u l s e w i = record { lexeme = l i; start = s i; end = e i; with_synonyms = w i }
 
-pub one_token : (text : List ℕ) (at : ℕ) (t u : Token) → t.start ≡ at → u.start ≡ at → IsToken text t → IsToken text u → t ≡ u
-one_token text at t u here there one other =
+pub one_token : (text : List ℕ) (at : ℕ) (t u : Token) → t.start ≡ at → u.start ≡ at → t.with_synonyms ≡ false → u.with_synonyms ≡ false
+    → IsToken text t → IsToken text u → t ≡ u
+one_token text at t u here there plain too one other =
     let starts : t.start ≡ u.start = here ∙ sym there in
     let moved : TokenOf text t.start u.lexeme u.end =
-    let P : ℕ → Type 0 = λ n. TokenOf text n u.lexeme u.end in subst P (sym starts) other in
-    let same = one_lexeme text t.start t.end u.end t.lexeme u.lexeme one moved in
-    same_token t u same.0 starts same.1
+    let P : ℕ → Type 0 = λ n. TokenOf text n u.lexeme u.end in subst P (sym starts) (token_of text u other) in
+    let same = one_lexeme text t.start t.end u.end t.lexeme u.lexeme (token_of text t one) moved in
+    same_token t u same.0 starts same.1 (plain ∙ sym too)

@@ -2,12 +2,12 @@
 use Rattle.std.proofs.Common.{◌≡◌, ℕ, ◌<◌, true, ◌&&◌, List, [], ◌∷◌, length, refl, ap, sym, ◌∙◌, get_or, arith, Option, Some, None}
 use Rattle.std.specs.Prelude.{IfNone, find, bytes_eq, nat_le}
 use Rattle.sdl_lex.specs.declared.lexemes.Word.{Word}
-use Rattle.sdl_lex.specs.declared.lexemes.Word.TheVariants.{Block, EndBlock, Signal, SignalRoute, From, To, With, Env, Connect, Process, EndProcess, Dcl, Timer, Start, State, EndState, Input, Save, Connection, EndConnection, Task, Output, Sender, Set, Reset, Now, Decision, Else, EndDecision, NextState, Stop, Join, Comment, Not, And, Or, Xor, Mod, Rem, Integer, Boolean, True, False, Procedure, EndProcedure, Call, Fpar, In, Return}
+use Rattle.sdl_lex.specs.declared.lexemes.Word.TheVariants.{Block, EndBlock, Signal, SignalRoute, From, To, With, Env, Connect, Process, EndProcess, Dcl, Timer, Start, State, EndState, Input, Save, Connection, EndConnection, Task, Output, Sender, Set, Reset, Now, Decision, Else, EndDecision, NextState, Stop, Join, Comment, Not, And, Or, Xor, Mod, Rem, Integer, Boolean, True, False, Procedure, EndProcedure, Call, Fpar, In, Return, Synonym}
 use Rattle.sdl_lex.specs.Spelling.{SameName, folded, is_spelled_as_name}
 use Rattle.sdl_lex.specs.Texts.{word_text}
 
 abbrev pub all_words : List Word
-all_words = Block ∷ EndBlock ∷ Signal ∷ SignalRoute ∷ From ∷ To ∷ With ∷ Env ∷ Connect ∷ Process ∷ EndProcess ∷ Dcl ∷ Timer ∷ Start ∷ State ∷ EndState ∷ Input ∷ Save ∷ Connection ∷ EndConnection ∷ Task ∷ Output ∷ Sender ∷ Set ∷ Reset ∷ Now ∷ Decision ∷ Else ∷ EndDecision ∷ NextState ∷ Stop ∷ Join ∷ Comment ∷ Not ∷ And ∷ Or ∷ Xor ∷ Mod ∷ Rem ∷ Integer ∷ Boolean ∷ True ∷ False ∷ Procedure ∷ EndProcedure ∷ Call ∷ Fpar ∷ In ∷ Return ∷ []
+all_words = Block ∷ EndBlock ∷ Signal ∷ SignalRoute ∷ From ∷ To ∷ With ∷ Env ∷ Connect ∷ Process ∷ EndProcess ∷ Dcl ∷ Timer ∷ Start ∷ State ∷ EndState ∷ Input ∷ Save ∷ Connection ∷ EndConnection ∷ Task ∷ Output ∷ Sender ∷ Set ∷ Reset ∷ Now ∷ Decision ∷ Else ∷ EndDecision ∷ NextState ∷ Stop ∷ Join ∷ Comment ∷ Not ∷ And ∷ Or ∷ Xor ∷ Mod ∷ Rem ∷ Integer ∷ Boolean ∷ True ∷ False ∷ Procedure ∷ EndProcedure ∷ Call ∷ Fpar ∷ In ∷ Return ∷ Synonym ∷ []
 
 -- The index of a word in the table of reserved words.
 abbrev pub place : Word → ℕ
@@ -60,6 +60,7 @@ place Call = 45
 place Fpar = 46
 place In = 47
 place Return = 48
+place Synonym = 49
 
 pub word_there : (w : Word) → get_or all_words (place w) Block ≡ w
 word_there Block = refl
@@ -111,8 +112,9 @@ word_there Call = refl
 word_there Fpar = refl
 word_there In = refl
 word_there Return = refl
+word_there Synonym = refl
 
-pub place_below : (w : Word) → place w < 49
+pub place_below : (w : Word) → place w < 50
 place_below Block = omega arith
 place_below EndBlock = omega arith
 place_below Signal = omega arith
@@ -162,6 +164,7 @@ place_below Call = omega arith
 place_below Fpar = omega arith
 place_below In = omega arith
 place_below Return = omega arith
+place_below Synonym = omega arith
 
 -- the word that a text in lower case spells
 abbrev pub word_read : List ℕ → Option Word
@@ -217,6 +220,7 @@ word_read_again Call = refl
 word_read_again Fpar = refl
 word_read_again In = refl
 word_read_again Return = refl
+word_read_again Synonym = refl
 
 -- a reserved word is spelled as a name, and isn't too long for one
 pub word_is_name : (w : Word) → (is_spelled_as_name (folded (word_text w)) && nat_le (length (word_text w)) 32) ≡ true
@@ -269,6 +273,7 @@ word_is_name Call = refl
 word_is_name Fpar = refl
 word_is_name In = refl
 word_is_name Return = refl
+word_is_name Synonym = refl
 
 -- No two reserved words have the same spelling.
 pub one_word : (bytes : List ℕ) (v w : Word) → SameName bytes (word_text v) → SameName bytes (word_text w) → v ≡ w

@@ -1,10 +1,12 @@
 -- What the tokens of a text are, and which faults a text can have.
 use Rattle.std.specs.Prelude.{Vec, ◌≡◌, ℕ, ◌+◌, ◌-◌, ◌*◌, ◌<◌, ◌≤◌, ◌==◌, ◌⊎◌, Bool, true, false}
-use Rattle.std.specs.Prelude.{IsTrue, ◌||◌, if◌then◌else◌, List, [], ◌∷◌, ◌++◌, length, fold}
+use Rattle.std.specs.Prelude.{IsTrue, ◌||◌, if◌then◌else◌, List, [], ◌∷◌, ◌++◌, length, fold, map}
 use Rattle.std.specs.Prelude.{slice_index, slice_range, EachIndex, Result, Ok, Err}
 use Rattle.std.specs.Char.{is_ascii_alphabetic, is_ascii_digit}
+use Rattle.std.specs.List.{list_any}
 use Rattle.sdl_lex.specs.Limits.{LONGEST_NAME, GREATEST_NUMBER, LONGEST_TEXT}
 use Rattle.sdl_lex.specs.declared.lexemes.Word.{Word}
+use Rattle.sdl_lex.specs.declared.lexemes.Word.TheVariants.{Synonym}
 use Rattle.sdl_lex.specs.declared.lexemes.Symbol.{Symbol}
 use Rattle.sdl_lex.specs.declared.lexemes.Symbol.TheVariants.{Colon, Slash, Less, Greater}
 use Rattle.sdl_lex.specs.declared.lexemes.Lexeme.{Lexeme}
@@ -82,6 +84,11 @@ continues_symbol Less b = b == 61
 continues_symbol Greater b = b == 61
 continues_symbol _ b = false
 
+-- the lexeme is the word SYNONYM
+abbrev pub is_synonym_lexeme : Lexeme → Bool
+is_synonym_lexeme (a_word Synonym) = true
+is_synonym_lexeme _ = false
+
 -- the byte would make the token before it longer
 abbrev pub continues : Lexeme → ℕ → Bool
 continues (a_name _) b = is_name_byte b
@@ -89,6 +96,11 @@ continues (a_number _) b = is_ascii_digit b
 continues (a_word _) b = is_name_byte b
 continues (a_symbol s) b = continues_symbol s b
 continues a_quoted b = b == 39
+
+-- a token that isn't marked
+abbrev pub bare : Lexeme → ℕ → ℕ → Token
+bare lexeme start end =
+    record { lexeme = lexeme; start = start; end = end; with_synonyms = false }
 
 -- A token is in a text: its slice spells it, and it can't be longer.
 pub record IsToken (text : List ℕ) (token : Token) : Type 0 where
@@ -100,7 +112,7 @@ pub record IsToken (text : List ℕ) (token : Token) : Type 0 where
 -- A quoted text without end begins at a place: there is a quote, but no quoted text begins there.
 pub record IsOpenQuoted (text : List ℕ) (at : ℕ) : Type 0 where
   pub opens : slice_index text at ≡ 39
-  pub endless : (end : ℕ) → IsToken text (record { lexeme = a_quoted; start = at; end = end }) → ⊥
+  pub endless : (end : ℕ) → IsToken text (bare a_quoted at end) → ⊥
 
 -- one white-space byte or one comment is between two places
 pub data IsBlank (text : List ℕ) (at : ℕ) : ℕ → Type 0 where
@@ -113,12 +125,27 @@ pub data Lexes (text : List ℕ) (to : ℕ) : ℕ → List Token → Type 0 wher
   ended : Lexes text to to []
   skipped : {at : ℕ} {tokens : List Token} (next : ℕ) → IsBlank text at next
       → Lexes text to next tokens → Lexes text to at tokens
-  taken : {at : ℕ} {tokens : List Token} (token : Token) → token.start ≡ at → IsToken text token
-      → Lexes text to token.end tokens → Lexes text to at (token ∷ tokens)
+  taken : {at : ℕ} {tokens : List Token} (token : Token) → token.start ≡ at
+      → token.with_synonyms ≡ false → IsToken text token → Lexes text to token.end tokens
+      → Lexes text to at (token ∷ tokens)
 
--- the whole text has these tokens
+-- the token is the word SYNONYM
+abbrev pub is_synonym : Token → Bool
+is_synonym t = is_synonym_lexeme t.lexeme
+
+-- the token, marked with whether the word SYNONYM is in its text
+abbrev pub marked : Bool → Token → Token
+marked with_synonyms t =
+    record { lexeme = t.lexeme; start = t.start; end = t.end; with_synonyms = with_synonyms }
+
+-- all tokens of a text, marked
+abbrev pub all_marked : List Token → List Token
+all_marked tokens = map (marked (list_any is_synonym tokens)) tokens
+
+-- the whole text has these tokens, which are marked
 abbrev pub Lexed : List ℕ → List Token → Type 0
-Lexed text tokens = Lexes text (length text) 0 tokens
+Lexed text tokens =
+    (unmarked : List Token) × Lexes text (length text) 0 unmarked × (tokens ≡ all_marked unmarked)
 
 -- a byte that begins no token, white space or comment
 pub record IsBad (b : ℕ) : Type 0 where

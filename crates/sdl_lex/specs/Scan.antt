@@ -2,12 +2,12 @@
 use Rattle.std.specs.Prelude.{◌≡◌, ℕ, List, Option, Some, None}
 use Rattle.sdl_lex.specs.declared.lexemes.Lexeme.{Lexeme}
 use Rattle.sdl_lex.specs.declared.lexemes.LexFault.{LexFault}
-use Rattle.sdl_lex.specs.Lexed.{IsBlank, IsToken, IsFaultAt, place_of}
+use Rattle.sdl_lex.specs.Lexed.{IsBlank, IsToken, bare, IsFaultAt, place_of}
 pub use Rattle.sdl_lex.specs.Runs.{IsRun}
 
 -- the item between two places: a token, or if there is no lexeme, white space or a comment
 abbrev pub Stands : List ℕ → ℕ → Option Lexeme → ℕ → Type 0
-Stands text at (Some lexeme) end = IsToken text (record { lexeme = lexeme; start = at; end = end })
+Stands text at (Some lexeme) end = IsToken text (bare lexeme at end)
 Stands text at None end = IsBlank text at end
 
 -- the text has a fault that begins at the place

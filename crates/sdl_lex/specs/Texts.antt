@@ -11,7 +11,7 @@ use Rattle.sdl_lex.specs.declared.lexemes.Word.TheVariants.{EndDecision, NextSta
 use Rattle.sdl_lex.specs.declared.lexemes.Word.TheVariants.{Comment, Not, And, Or, Xor, Mod, Rem}
 use Rattle.sdl_lex.specs.declared.lexemes.Word.TheVariants.{Integer, Boolean, True, False}
 use Rattle.sdl_lex.specs.declared.lexemes.Word.TheVariants.{Procedure, EndProcedure, Call, Fpar, In}
-use Rattle.sdl_lex.specs.declared.lexemes.Word.TheVariants.{Return}
+use Rattle.sdl_lex.specs.declared.lexemes.Word.TheVariants.{Return, Synonym}
 use Rattle.sdl_lex.specs.declared.lexemes.Symbol.{Symbol}
 use Rattle.sdl_lex.specs.declared.lexemes.Symbol.TheVariants.{Semicolon, Comma, Colon, Assign, Open}
 use Rattle.sdl_lex.specs.declared.lexemes.Symbol.TheVariants.{Close, Plus, Minus, Star, Slash}
@@ -69,6 +69,7 @@ word_text Call = codes "CALL"
 word_text Fpar = codes "FPAR"
 word_text In = codes "IN"
 word_text Return = codes "RETURN"
+word_text Synonym = codes "SYNONYM"
 
 abbrev pub symbol_text : Symbol → List ℕ
 symbol_text Semicolon = codes ";"

@@ -1,6 +1,8 @@
 //! Tokens, and the faults for which a text has none.
 ghost use Rattle.std.specs.Prelude.{◌≡◌};
+ghost use Rattle.std.specs.List.{list_any};
 ghost use Rattle.sdl_lex.specs.declared.lexemes.LexFault.TheVariants.{NoMemory};
+ghost use Rattle.sdl_lex.specs.Lexed.{is_synonym, marked, all_marked};
 
 use crate::Name;
 use std::alloc::AllocFailed;
@@ -59,6 +61,7 @@ pub enum Word {
     Fpar,
     In,
     Return,
+    Synonym,
 }
 
 /// A symbol of one or two characters.
@@ -119,6 +122,49 @@ pub struct Token {
     pub lexeme: Lexeme,
     pub start: u32,
     pub end: u32,
+    /// Whether the word SYNONYM is in the token's text. Only then may a name stand for a constant.
+    pub with_synonyms: bool,
+}
+
+impl Token {
+    /// Whether this is the word SYNONYM.
+    fn is_synonym(&self) -> bool
+        ensures { result ≡ is_synonym self.now }
+    {
+        match self.lexeme {
+            Lexeme::Word(Word::Synonym) => true,
+            _ => false,
+        }
+    }
+
+    /// Returns this token, marked with whether the word SYNONYM is in its text.
+    fn marked(&self, with_synonyms: bool) -> Token
+        ensures { result ≡ marked with_synonyms self.now }
+    {
+        Token {
+            lexeme: self.lexeme,
+            start: self.start,
+            end: self.end,
+            with_synonyms,
+        }
+    }
+}
+
+/// Whether the word SYNONYM is among the tokens.
+fn has_synonym(tokens: &[Token]) -> bool
+    ensures { result ≡ list_any is_synonym tokens.now }
+{
+    tokens.iter().any(|token| token.is_synonym())
+}
+
+/// Marks each token with whether the word SYNONYM is among them.
+pub(crate) fn mark(tokens: &mut [Token])
+    ensures { tokens.new ≡ all_marked tokens.old }
+{
+    let with_synonyms = has_synonym(tokens);
+    for token in tokens.iter_mut() {
+        *token = token.marked(with_synonyms);
+    }
 }
 
 /// Why a text has no tokens, with the byte offset, from 0, at which the fault begins.

@@ -2,7 +2,7 @@
 #![tactic(auto)]
 
 ghost use Rattle.std.specs.Prelude.{◌≡◌, ◌+◌, ◌==◌, ◌≤◌, length, take, count_by, Ok, IfOk, IfErr};
-ghost use Rattle.sdl_lex.specs.Lexed.{Lexed, Answers, IsFirstFault, IsAnswer, IsOnlyAnswer, OneReading, OneAnswer};
+ghost use Rattle.sdl_lex.specs.Lexed.{Lexes, Lexed, Answers, IsFirstFault, IsAnswer, IsOnlyAnswer, OneReading, OneAnswer};
 ghost use Rattle.sdl_lex.specs.Limits.{LONGEST_TEXT};
 
 mod items;
@@ -13,6 +13,7 @@ mod spelling;
 mod words;
 
 use items::{Item, item_at};
+use lexemes::mark;
 pub use lexemes::{LexFault, Lexeme, Symbol, Token, Word};
 pub use spelling::Name;
 use std::alloc::Global;
@@ -43,10 +44,21 @@ pub fn tokens(alloc: Global, text: &str) -> Result<Vec<Token>, LexFault>
     all_tokens(alloc, bytes)
 }
 
-/// Splits a text within the length limit into tokens.
+/// Splits a text within the length limit into tokens, which are marked.
 fn all_tokens(alloc: Global, bytes: &[u8]) -> Result<Vec<Token>, LexFault>
     requires { length bytes.now ≤ LONGEST_TEXT }
     ensures lexed { IfOk result (λ v. Lexed bytes.now v.items) }
+    ensures fault { IfErr result (λ e. IsFirstFault bytes.now e) }
+{
+    let mut tokens = bare_tokens(alloc, bytes)?;
+    mark(&mut tokens);
+    Ok(tokens)
+}
+
+/// Splits a text within the length limit into tokens, which aren't marked.
+fn bare_tokens(alloc: Global, bytes: &[u8]) -> Result<Vec<Token>, LexFault>
+    requires { length bytes.now ≤ LONGEST_TEXT }
+    ensures lexed { IfOk result (λ v. Lexes bytes.now (length bytes.now) 0 v.items) }
     ensures fault { IfErr result (λ e. IsFirstFault bytes.now e) }
 {
     let mut tokens = Vec::new(alloc);
@@ -58,6 +70,7 @@ fn all_tokens(alloc: Global, bytes: &[u8]) -> Result<Vec<Token>, LexFault>
                 lexeme,
                 start: at as u32,
                 end: end as u32,
+                with_synonyms: false,
             })?;
         }
         at = end;

@@ -6,7 +6,7 @@ ghost use Rattle.sdl_lex.specs.Texts.{word_text};
 
 use crate::Word;
 
-const WORDS: [Word; 49] = [
+const WORDS: [Word; 50] = [
     Word::Block,
     Word::EndBlock,
     Word::Signal,
@@ -56,6 +56,7 @@ const WORDS: [Word; 49] = [
     Word::Fpar,
     Word::In,
     Word::Return,
+    Word::Synonym,
 ];
 
 impl Word {
@@ -113,6 +114,7 @@ impl Word {
             Word::Fpar => "FPAR",
             Word::In => "IN",
             Word::Return => "RETURN",
+            Word::Synonym => "SYNONYM",
         }
     }
 

@@ -21,7 +21,7 @@ use Rattle.turn_code.specs.declared.input.Address.{Address}
 use Rattle.turn_code.specs.declared.instruction.Instruction.{Instruction}
 use Rattle.turn_code.specs.declared.instruction.Instruction.TheVariants as i
 use Rattle.turn_code.specs.Run.{Progress, tick, goes}
-use Rattle.sdl_sound.specs.TableNames.{variables_of}
+use Rattle.sdl_tables.specs.Names.{variables_of}
 use Rattle.sdl_sound.specs.Going.{goes_on as may_go_on, choice_goes_on}
 use Rattle.sdl_sound.specs.Decisions.{has_values, has_else, is_value, names_value, times_named, answers_both, is_answered}
 use Rattle.sdl_sound.specs.Longest.{cost_of, action_cost, tests_size, size, bodies_size}

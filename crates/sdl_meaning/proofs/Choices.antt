@@ -1,5 +1,5 @@
 -- The tests of a DECISION, and the jumps of its bodies.
-use Rattle.std.proofs.Common.{◌≡◌, ℕ, suc, ◌+◌, Bool, true, false, cond, ◌||◌, List, [], ◌∷◌, ◌++◌, length, Some, refl, sym, ap, ◌∙◌, subst, arith}
+use Rattle.std.proofs.Common.{◌≡◌, ℕ, suc, ◌+◌, Bool, true, false, cond, ◌||◌, List, [], ◌∷◌, ◌++◌, length, None, Some, refl, sym, ap, ◌∙◌, subst, arith}
 use Rattle.std.specs.Prelude.{slice_get, ℤ}
 use Rattle.std.specs.List.{list_any}
 use Rattle.sdl_ast.specs.declared.tree.Literal.{Literal}
@@ -61,7 +61,7 @@ are_truths c q [] e h = tt
 are_truths c q (r ∷ rs) e h = (sym (ap (λ b. cond b (answers_truth r) (answers_number r)) e) ∙ h.0, are_truths c q rs e h.1)
 
 -- The constant of an Integer.
-number_in : (l : Literal) (at : ℕ) → is_constant Integer (record { at = at; value = l }) ≡ true → Some (constant_or_zero (integer_in l)) ≡ integer_in l
+number_in : (l : Literal) (at : ℕ) → is_constant Integer (record { at = at; value = l; is_negated = false; synonym = None }) ≡ true → Some (constant_or_zero (integer_in l)) ≡ integer_in l
 number_in (literals.Integer k) at h = refl
 number_in (literals.Boolean b) at h = absurd (let k : ⊥ = cc in k)
 
@@ -165,7 +165,7 @@ module _ (inp : Input) (code : List Instruction) where
 told_truth : (r : Range) (b : Bool) → answers_truth r ≡ true → covers_truth r b ≡ Some (names_truth b r)
 told_truth (IsValue k) b h = by_literal k.value k.at b h
   where
-    by_literal : (l : Literal) (at : ℕ) (b : Bool) → is_constant Boolean (record { at = at; value = l }) ≡ true → same_literal l b ≡ Some (is_literal b l)
+    by_literal : (l : Literal) (at : ℕ) (b : Bool) → is_constant Boolean (record { at = at; value = l; is_negated = false; synonym = None }) ≡ true → same_literal l b ≡ Some (is_literal b l)
     by_literal (literals.Integer k) at b h = absurd (let k : ⊥ = cc in k)
     by_literal (literals.Boolean true) at true h = refl
     by_literal (literals.Boolean false) at true h = refl

@@ -7,7 +7,7 @@ use Rattle.std.proofs.lemmas.Bool.Decides.{nat_tests}
 use Rattle.std.proofs.lemmas.List.Sums.{sum_by-cons}
 use Rattle.sdl_ast.specs.Plain.{falls, PlainConnection}
 use Rattle.turn_code.specs.declared.instruction.Instruction.{Instruction}
-use Rattle.sdl_sound.specs.TableNames.{variables_of}
+use Rattle.sdl_tables.specs.Names.{variables_of}
 use Rattle.sdl_sound.specs.Joins.{reaches, reached}
 use Rattle.sdl_sound.specs.Longest.{Piece, size, piece_size}
 use Rattle.sdl_meaning.specs.Outcomes.{Scope}

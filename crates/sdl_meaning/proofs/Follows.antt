@@ -10,7 +10,7 @@ use Rattle.turn_code.specs.declared.input.Input.{Input}
 use Rattle.turn_code.specs.declared.input.Address.{Address}
 use Rattle.turn_code.specs.declared.instruction.Instruction.{Instruction}
 use Rattle.turn_code.specs.Run.{Progress}
-use Rattle.sdl_sound.specs.TableNames.{variables_of, connection_named}
+use Rattle.sdl_tables.specs.Names.{variables_of, connection_named}
 use Rattle.sdl_sound.specs.Longest.{size}
 use Rattle.sdl_meaning.specs.Act.{act, closed, entered, follow}
 use Rattle.sdl_meaning.specs.Outcomes.{Scope, connector_at, Outcome, goes_on, over}

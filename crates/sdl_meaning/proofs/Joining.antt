@@ -10,7 +10,7 @@ use Rattle.sdl_ast.specs.declared.tree.Join as tree_join
 use Rattle.sdl_ast.specs.declared.tree.End.{End}
 use Rattle.sdl_ast.specs.declared.tree.End.TheVariants.{NextState, Stop, Join}
 use Rattle.sdl_ast.specs.Plain.{Tree, Text, falls, ends, does, decides, Choice, nothing_else, otherwise, answer, PlainConnection}
-use Rattle.sdl_sound.specs.TableNames.{same_name, connection_named}
+use Rattle.sdl_tables.specs.Names.{same_name, connection_named}
 use Rattle.sdl_sound.specs.Statements.{Statement, statements_of, choice_statements, statement_joins, joins_of}
 use Rattle.sdl_meaning.specs.Act.{is_truth}
 use Rattle.sdl_meaning.specs.Outcomes.{Scope, connector_at}

@@ -8,6 +8,7 @@ pub mod Joining
 pub mod Measured
 pub mod Numbers
 pub mod Reached
+pub mod Readings
 pub mod RunParts
 pub mod Runs
 pub mod SameMeasures

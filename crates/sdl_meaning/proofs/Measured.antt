@@ -11,7 +11,7 @@ use Rattle.sdl_ast.specs.declared.tree.Range.{Range}
 use Rattle.sdl_ast.specs.declared.tree.End.{End}
 use Rattle.sdl_ast.specs.declared.tree.End.TheVariants.{NextState, Stop, Join}
 use Rattle.sdl_ast.specs.Plain.{Tree, Text, falls, ends, does, decides, Choice, nothing_else, otherwise, answer, PlainConnection}
-use Rattle.sdl_sound.specs.TableNames.{Variable, variables_of, connection_named}
+use Rattle.sdl_tables.specs.Names.{Variable, variables_of, connection_named}
 use Rattle.sdl_sound.specs.Sorts.{is_truth as in_truth}
 use Rattle.sdl_sound.specs.Statements.{end_joins}
 use Rattle.sdl_sound.specs.Going.{goes_on as may_go_on, choice_goes_on}

@@ -7,10 +7,10 @@ use Rattle.std.proofs.lemmas.List.{append-nil}
 use Rattle.std.proofs.lemmas.List.Quantifiers.{position-Some}
 use Rattle.std.proofs.lemmas.Option.{slice_get-get_or}
 use Rattle.sdl_ast.specs.declared.expression.Identifier.{Identifier}
-use Rattle.sdl_sound.specs.TableNames.{same_name, is_in, number_of}
-use Rattle.sdl_sound.specs.Scopes.{repeats}
+use Rattle.sdl_tables.specs.Names.{same_name, is_in, number_of}
+use Rattle.sdl_tables.specs.Scopes.{repeats}
 use Rattle.plain_laws.proofs.Lists.{append-nil_left as nil_front, append-nil_right as nil_back}
-pub use Rattle.sdl_sound.proofs.Numbers.{same_self}
+pub use Rattle.sdl_tables.proofs.Numbers.{same_self}
 pub use Rattle.sdl_sound.proofs.Numbered.{number_alike, same_back as same_other_way}
 
 -- The number of a name is the place of an identifier with that name.

@@ -8,7 +8,7 @@ use Rattle.sdl_ast.specs.declared.expression.Identifier.{Identifier}
 use Rattle.sdl_ast.specs.declared.tree.Join as tree_join
 use Rattle.sdl_ast.specs.declared.tree.End.TheVariants.{NextState, Stop, Join}
 use Rattle.sdl_ast.specs.Plain.{Tree, Text, falls, ends, does, decides, Choice, nothing_else, otherwise, answer, PlainConnection, PlainProcess}
-use Rattle.sdl_sound.specs.TableNames.{same_name, number_of, connector_names, connection_named}
+use Rattle.sdl_tables.specs.Names.{same_name, number_of, connector_names, connection_named}
 use Rattle.sdl_sound.specs.Statements.{statements_of, choice_statements, statement_joins, joins_of}
 use Rattle.sdl_sound.specs.Joins.{joins_at, comes_by, comes, reaches}
 use Rattle.sdl_meaning.specs.Act.{is_truth}

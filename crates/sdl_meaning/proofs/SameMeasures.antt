@@ -5,7 +5,7 @@ use Rattle.sdl_ast.specs.declared.tree.Range.{Range}
 use Rattle.sdl_ast.specs.declared.tree.End.{End}
 use Rattle.sdl_ast.specs.declared.tree.End.TheVariants.{NextState, Stop, Join}
 use Rattle.sdl_ast.specs.Plain.{Text, falls, ends, does, decides, Choice, nothing_else, otherwise, answer}
-use Rattle.sdl_sound.specs.TableNames.{Variable}
+use Rattle.sdl_tables.specs.Names.{Variable}
 use Rattle.sdl_sound.specs.Sorts.{is_truth as in_truth}
 use Rattle.sdl_sound.specs.Longest.{action_cost, action_depth, action_effects, cost_of, end_cost, end_count, tests_budget, budget, case_budget, pick_budget, depth, choice_depth, effects, choice_effects}
 use Rattle.sdl_meaning.proofs.Branches.{EachEnd, EachJoin, ChoiceJoin}

@@ -14,7 +14,7 @@ use Rattle.turn_code.specs.declared.draft.DraftSignal.{DraftSignal}
 use Rattle.turn_code.specs.declared.draft.DraftVariable.{DraftVariable}
 use Rattle.turn_code.specs.Code.{sort_at}
 use Rattle.turn_code.specs.Transitions.{parameters_of}
-use Rattle.sdl_sound.specs.TableNames.{Variable, same_name, number_of, variables_of, signals_of, signal_names}
+use Rattle.sdl_tables.specs.Names.{Variable, same_name, number_of, variables_of, signals_of, signal_names}
 use Rattle.sdl_sound.specs.Sorts.{same_sort, has_sort, have_one_sort, variable_sort, unary_sort, binary_sort, sort_in, misfit, parameter_sorts}
 use Rattle.sdl_meaning.specs.Outcomes.{Scope}
 use Rattle.sdl_meaning.specs.Code.{number_or_zero}

@@ -12,7 +12,7 @@ use Rattle.turn_code.specs.declared.value.Value.{Value}
 use Rattle.turn_code.specs.declared.value.Value.TheVariants.{Int, Bool as Truth}
 use Rattle.turn_code.specs.declared.input.Address.{Address}
 use Rattle.turn_code.specs.Run.{Progress, tick}
-use Rattle.sdl_sound.specs.TableNames.{same_name, variables_of, connection_named}
+use Rattle.sdl_tables.specs.Names.{same_name, variables_of, connection_named}
 use Rattle.sdl_sound.specs.Decisions.{has_else}
 use Rattle.sdl_sound.specs.Longest.{Piece, cost_of, action_cost, end_cost, end_count, tests_budget, budget, case_budget, pick_budget, joined_by, places_cost, piece_budget}
 use Rattle.sdl_meaning.specs.Act.{is_truth, value_of, perform, end_in, end_with, covers_integer, covers_truth, told, try_ranges, find_truth, leave, decide, act, choose, pick, closed, entered, follow, join_in, take_places}

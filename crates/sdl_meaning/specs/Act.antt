@@ -47,7 +47,7 @@ use Rattle.turn_code.specs.declared.trouble.Trouble.TheVariants.{Outside}
 use Rattle.turn_code.specs.Values.{wrap, holds, is_between, differ}
 use Rattle.turn_code.specs.Run.{Progress, tick, with_variables, with_effect, of_party, sending}
 use Rattle.turn_code.specs.Run.{begun, Ran, ended, got_stuck}
-use Rattle.sdl_sound.specs.TableNames.{number_of, variables_of, connection_named, process_names}
+use Rattle.sdl_tables.specs.Names.{number_of, variables_of, connection_named, process_names}
 use Rattle.sdl_sound.specs.Longest.{Piece, is_division}
 use Rattle.sdl_sound.specs.Sorts.{has_sort, sort_in}
 use Rattle.sdl_sound.specs.Receivers.{party_of, receivers, carries}

@@ -16,8 +16,8 @@ use Rattle.turn_code.specs.declared.draft.DraftVariable.{DraftVariable}
 use Rattle.turn_code.specs.declared.draft.Trigger.{Trigger}
 use Rattle.turn_code.specs.declared.draft.Trigger.TheVariants.{Signal, Timer}
 use Rattle.turn_code.specs.Transitions.{parameters_of}
-use Rattle.sdl_sound.specs.TableNames.{Variable, number_of, variables_of, timers_of, signals_of}
-use Rattle.sdl_sound.specs.TableNames.{signal_names}
+use Rattle.sdl_tables.specs.Names.{Variable, number_of, variables_of, timers_of, signals_of}
+use Rattle.sdl_tables.specs.Names.{signal_names}
 use Rattle.sdl_sound.specs.Sorts.{parameter_sorts}
 use Rattle.sdl_meaning.specs.Outcomes.{Scope}
 use Rattle.sdl_meaning.specs.Code.{number_or_zero}

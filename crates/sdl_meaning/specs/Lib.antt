@@ -3,3 +3,4 @@ pub mod Code
 pub mod Declarations
 pub mod Named
 pub mod Outcomes
+pub mod Valued

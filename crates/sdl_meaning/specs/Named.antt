@@ -17,7 +17,7 @@ use Rattle.sdl_ast.specs.Plain.{answer, PlainConnection}
 use Rattle.turn_code.specs.declared.input.Address.{Address}
 use Rattle.std.specs.List.{flat_map}
 use Rattle.plain_laws.specs.Limits.{MOST_PARAMETERS}
-use Rattle.sdl_sound.specs.TableNames.{variables_of}
+use Rattle.sdl_tables.specs.Names.{variables_of}
 use Rattle.sdl_sound.specs.Statements.{statements_of, joins_of}
 use Rattle.sdl_sound.specs.Going.{goes_on, choice_goes_on}
 use Rattle.sdl_sound.specs.Sorts.{answers_question, wrong_statement}

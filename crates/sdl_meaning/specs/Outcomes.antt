@@ -6,8 +6,8 @@ use Rattle.sdl_ast.specs.Plain.{PlainProcess, PlainBlock}
 use Rattle.turn_code.specs.declared.machine.End as code_end
 use Rattle.turn_code.specs.declared.trouble.Trouble.{Trouble}
 use Rattle.turn_code.specs.Run.{Progress}
-use Rattle.sdl_sound.specs.TableNames.{number_of, variable_names, states_of, timers_of}
-use Rattle.sdl_sound.specs.TableNames.{connector_names, signal_names}
+use Rattle.sdl_tables.specs.Names.{number_of, variable_names, states_of, timers_of, connector_names}
+use Rattle.sdl_tables.specs.Names.{signal_names}
 
 -- The scope of a transition: its names are those of its process and of its block, and their numbers
 -- are the places there.

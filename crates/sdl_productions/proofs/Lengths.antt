@@ -1,14 +1,14 @@
 -- No reading leaves more tokens than it was given. tools/productions writes the lemmas for productions of Syntax.
 use Rattle.std.specs.Prelude.{ℕ, suc, zero, ◌≤◌, List, [], ◌∷◌, Option, Some, None, length}
 use Rattle.sdl_lex.specs.declared.lexemes.Word.TheVariants as words
-use Rattle.sdl_lex.specs.declared.lexemes.Symbol.TheVariants.{Semicolon, Comma, Assign, Open, Close, Plus, Minus, Colon}
+use Rattle.sdl_lex.specs.declared.lexemes.Symbol.TheVariants.{Semicolon, Comma, Assign, Open, Close, Plus, Minus, Colon, Equal}
 use Rattle.sdl_ast.specs.Plain.{Tree, PlainHead}
 use Rattle.sdl_productions.specs.Bodies.{Keeping, whole_texts, Branching, Body, Reached, Move, reaches, closes, with_answer}
-use Rattle.sdl_productions.specs.Tokens.{a_word, a_symbol, a_number, a_name, a_sort, a_party, a_constant, a_count, the_number, a_closing, a_quoted, a_destination, a_declaration, a_clause, an_action, an_end, a_choice, a_relation, a_section}
-use Rattle.sdl_productions.specs.Machine.{low_trees, expression_at}
+use Rattle.sdl_productions.specs.Tokens.{a_word, a_symbol, a_number, a_name, a_sort, a_party, a_constant, a_negated, a_count, the_number, a_closing, a_quoted, a_destination, a_declaration, a_clause, an_action, an_end, a_choice, a_relation, a_section}
+use Rattle.sdl_productions.specs.Machine.{whole_trees, low_trees, expression_at}
 use Rattle.sdl_productions.specs.Readings.{At, optional, token, Shortens, NeverLonger}
 use Rattle.sdl_productions.specs.Productions.{place_at, stimulus_at, assignment_at, assigned_at, quoted_at, item_at, task_at, sending_at, destination_at, output_at, delay_at, set_at, reset_at, action_at, next_state_at, stop_at, end_at, head_step, closing_step, answer_step, body_step, behind_step, end_step, decision_step, action_step, step_at, after_move, steps_for, steps_from, at_first, text_at, input_at, save_at, clause_at, closing_at, end_state_at, state_at, start_at, second_number_at, instances_at, process_head_at, process_at, entity_at, compared_at, upper_at, value_at, range_at, answer_head_at, else_head_at, some_head_at, no_head_at, head_at, question_at, end_decision_at, join_at, end_connection_at, connection_at, state_section_at, connection_section_at, section_at}
-use Rattle.sdl_productions.specs.DeclarationProductions.{comment_at, signal_at, signals_at, path_at, route_at, connect_at, negative_at, constant_at, initial_at, group_at, variables_at, timers_at, declaration_at, terminator_at}
+use Rattle.sdl_productions.specs.DeclarationProductions.{comment_at, signal_at, signals_at, path_at, route_at, connect_at, negative_at, constant_at, initial_at, group_at, variables_at, timers_at, synonym_at, synonyms_at, block_synonyms_at, own_synonyms_at, declaration_at, terminator_at}
 use Rattle.sdl_productions.proofs.TokenRests.{not_read, less_never_longer, shortens_token, keeps_give, keeps_token, ◌>>=◌, first_takes, keeps_choice, takes_choice, keeps_optional, keeps_many, keeps_separated_from, keeps_separated, keeps_list}
 use Rattle.sdl_productions.proofs.Rests.{expression_keeps, low_keeps}
 
@@ -58,7 +58,7 @@ connect_takes =
 
 pub negative_keeps : NeverLonger negative_at
 unfolding negative_at
-negative_keeps = keeps_token (a_symbol Minus) >>= λ at. keeps_token a_number >>= λ value. keeps_give _
+negative_keeps = keeps_token (a_symbol Minus) >>= λ at. keeps_token (a_negated at)
 
 pub constant_keeps : NeverLonger constant_at
 unfolding constant_at
@@ -86,9 +86,28 @@ timers_takes =
     first_takes (shortens_token (a_word words.Timer)) λ _.
     keeps_separated name_keeps >>= λ names. terminator_keeps >>= λ _. keeps_give _
 
+pub synonym_keeps : (e : At Tree) → NeverLonger e → NeverLonger (synonym_at e)
+unfolding synonym_at
+synonym_keeps e k = name_keeps >>= λ name. keeps_optional a_sort sort_keeps >>= λ sort. keeps_token (a_symbol Equal) >>= λ _. k >>= λ value. keeps_give _
+
+pub synonyms_takes : (e : At Tree) → NeverLonger e → Shortens (synonyms_at e)
+unfolding synonyms_at
+synonyms_takes e k = first_takes (shortens_token (a_word words.Synonym)) λ _. keeps_separated (synonym_keeps e k) >>= λ list. terminator_keeps >>= λ _. keeps_give _
+
+pub synonyms_keeps : (e : At Tree) → NeverLonger e → NeverLonger (synonyms_at e)
+synonyms_keeps e k = less_never_longer _ (synonyms_takes e k)
+
+pub block_synonyms_takes : Shortens block_synonyms_at
+unfolding block_synonyms_at
+block_synonyms_takes = first_takes (synonyms_takes (expression_at whole_trees) (expression_keeps whole_trees)) λ list. keeps_give _
+
+pub own_synonyms_takes : Shortens own_synonyms_at
+unfolding own_synonyms_at
+own_synonyms_takes = first_takes (synonyms_takes (expression_at whole_trees) (expression_keeps whole_trees)) λ list. keeps_give _
+
 pub declaration_takes : Shortens declaration_at
 unfolding declaration_at
-declaration_takes = takes_choice (a_word words.Dcl) variables_takes timers_takes
+declaration_takes = takes_choice (a_word words.Dcl) variables_takes (takes_choice (a_word words.Synonym) own_synonyms_takes timers_takes)
 
 pub declaration_keeps : NeverLonger declaration_at
 declaration_keeps = less_never_longer _ declaration_takes
@@ -367,7 +386,7 @@ process_takes = first_takes process_head_takes λ head. keeps_many a_declaration
 
 pub entity_takes : Shortens entity_at
 unfolding entity_at
-entity_takes = takes_choice (a_word words.Signal) signals_takes (takes_choice (a_word words.SignalRoute) route_takes (takes_choice (a_word words.Connect) connect_takes process_takes))
+entity_takes = takes_choice (a_word words.Signal) signals_takes (takes_choice (a_word words.SignalRoute) route_takes (takes_choice (a_word words.Connect) connect_takes (takes_choice (a_word words.Synonym) block_synonyms_takes process_takes)))
 
 -- Readings that build no tree above one that is too high.
 
@@ -382,3 +401,9 @@ low_action_takes = action_takes (expression_at low_trees) low_keeps
 
 pub low_action_keeps : NeverLonger (action_at (expression_at low_trees))
 low_action_keeps = action_keeps (expression_at low_trees) low_keeps
+
+pub low_synonyms_takes : Shortens (synonyms_at (expression_at low_trees))
+low_synonyms_takes = synonyms_takes (expression_at low_trees) low_keeps
+
+pub low_synonym_keeps : NeverLonger (synonym_at (expression_at low_trees))
+low_synonym_keeps = synonym_keeps (expression_at low_trees) low_keeps

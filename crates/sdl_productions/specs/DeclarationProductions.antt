@@ -1,16 +1,17 @@
 -- The readings of declarations, signals and routes, token by token. tools/productions writes them
 -- from DeclarationSyntax.
-use Rattle.std.specs.Prelude.{ℕ, List, ◌∷◌, pos, ◌-ℤ◌}
+use Rattle.std.specs.Prelude.{ℕ, List, ◌∷◌}
 use Rattle.std.specs.Option.{option_to_list}
 use Rattle.sdl_lex.specs.declared.lexemes.Word.TheVariants as words
-use Rattle.sdl_lex.specs.declared.lexemes.Symbol.TheVariants.{Semicolon, Assign, Minus}
+use Rattle.sdl_lex.specs.declared.lexemes.Symbol.TheVariants.{Semicolon, Assign, Minus, Equal}
 use Rattle.sdl_ast.specs.declared.expression.Identifier.{Identifier}
 use Rattle.sdl_ast.specs.declared.tree.Constant.{Constant}
-use Rattle.sdl_ast.specs.declared.tree.Literal.TheVariants as literals
-use Rattle.sdl_ast.specs.Plain.{PlainGroup, PlainDeclaration, variables, timers, PlainPath}
-use Rattle.sdl_ast.specs.Plain.{PlainSignal, PlainEntity, signals, route, connect}
-use Rattle.sdl_productions.specs.Tokens.{a_word, a_symbol, a_number, a_name, a_sort, a_party}
-use Rattle.sdl_productions.specs.Tokens.{a_constant, a_quoted}
+use Rattle.sdl_ast.specs.Plain.{Tree, PlainGroup, PlainSynonym, PlainDeclaration, variables}
+use Rattle.sdl_ast.specs.Plain.{timers, own_synonyms, PlainPath, PlainSignal, PlainEntity}
+use Rattle.sdl_ast.specs.Plain.{signals, route, connect, synonyms}
+use Rattle.sdl_productions.specs.Machine.{whole_trees, expression_at}
+use Rattle.sdl_productions.specs.Tokens.{a_word, a_symbol, a_name, a_sort, a_party, a_constant}
+use Rattle.sdl_productions.specs.Tokens.{a_negated, a_quoted}
 use Rattle.sdl_productions.specs.Readings.{At, give, token, ◌>>=◌, choice, optional, separated}
 use Rattle.sdl_productions.specs.Readings.{list_in_parentheses}
 
@@ -71,8 +72,7 @@ connect_at = do
 unfoldable pub negative_at : At Constant
 negative_at = do
   at ← token (a_symbol Minus)
-  value ← token a_number
-  give (record { at = at; value = literals.Integer (pos 0 -ℤ pos value) })
+  token (a_negated at)
 
 unfoldable pub constant_at : At Constant
 constant_at = choice (a_symbol Minus) negative_at (token a_constant)
@@ -103,5 +103,32 @@ timers_at = do
   _ ← terminator_at
   give (timers names)
 
+unfoldable pub synonym_at : At Tree → At PlainSynonym
+synonym_at e = do
+  name ← token a_name
+  sort ← optional a_sort (token a_sort)
+  _ ← token (a_symbol Equal)
+  value ← e
+  give (record { name = name; sort = sort; value = value })
+
+unfoldable pub synonyms_at : At Tree → At (List PlainSynonym)
+synonyms_at e = do
+  _ ← token (a_word words.Synonym)
+  list ← separated (synonym_at e)
+  _ ← terminator_at
+  give list
+
+unfoldable pub block_synonyms_at : At PlainEntity
+block_synonyms_at = do
+  list ← synonyms_at (expression_at whole_trees)
+  give (synonyms list)
+
+unfoldable pub own_synonyms_at : At PlainDeclaration
+own_synonyms_at = do
+  list ← synonyms_at (expression_at whole_trees)
+  give (own_synonyms list)
+
 unfoldable pub declaration_at : At PlainDeclaration
-declaration_at = choice (a_word words.Dcl) variables_at timers_at
+declaration_at =
+    choice (a_word words.Dcl) variables_at
+    (choice (a_word words.Synonym) own_synonyms_at timers_at)

@@ -5,17 +5,21 @@ use Rattle.std.specs.List.{filter_map}
 use Rattle.sdl_lex.specs.declared.lexemes.Word.TheVariants as words
 use Rattle.sdl_lex.specs.declared.lexemes.Symbol.TheVariants.{Colon}
 use Rattle.sdl_ast.specs.Plain.{PlainClause, input, PlainState, PlainConnection, PlainStart}
-use Rattle.sdl_ast.specs.Plain.{PlainEntity, process, PlainBlock}
+use Rattle.sdl_ast.specs.Plain.{PlainDeclaration, own_synonyms, PlainEntity, synonyms, process}
+use Rattle.sdl_ast.specs.Plain.{PlainBlock}
+use Rattle.sdl_ast.specs.Heights.{high_in_declaration, high_in_entity}
 use Rattle.sdl_productions.specs.Tokens.{a_word, a_symbol, a_name, an_entity, a_declaration}
 use Rattle.sdl_productions.specs.Tokens.{a_clause, a_section}
 use Rattle.sdl_productions.specs.Readings.{At, give, token, ◌>>=◌, many, choice, optional}
 use Rattle.sdl_productions.specs.Readings.{separated_from, separated}
 use Rattle.sdl_productions.specs.Bodies.{marked_texts}
-use Rattle.sdl_productions.specs.Marks.{Marked, kept, map_marked, gathered, process_marked}
+use Rattle.sdl_productions.specs.Marks.{Marked, kept, marked, map_marked, gathered, process_marked}
+use Rattle.sdl_productions.specs.Machine.{low_trees, expression_at}
 use Rattle.sdl_productions.specs.Productions.{stimulus_at, text_at, save_at, closing_at}
 use Rattle.sdl_productions.specs.Productions.{end_state_at, end_connection_at, process_head_at}
 use Rattle.sdl_productions.specs.DeclarationProductions.{terminator_at, signals_at, route_at}
-use Rattle.sdl_productions.specs.DeclarationProductions.{connect_at, declaration_at}
+use Rattle.sdl_productions.specs.DeclarationProductions.{connect_at, variables_at, timers_at}
+use Rattle.sdl_productions.specs.DeclarationProductions.{synonyms_at}
 
 -- a part without transitions is never marked
 abbrev pub kept_at : {A : Type 0} → At A → At (Marked A)
@@ -76,23 +80,40 @@ marked_start = do
   text ← text_at marked_texts
   give (map_marked (λ t. record { at = at; text = t }) text)
 
+unfoldable pub marked_own_synonyms : At (Marked PlainDeclaration)
+marked_own_synonyms = do
+  list ← synonyms_at (expression_at low_trees)
+  give (marked high_in_declaration (own_synonyms list))
+
+unfoldable pub marked_declaration : At (Marked PlainDeclaration)
+marked_declaration =
+    choice (a_word words.Dcl) (kept_at variables_at)
+    (choice (a_word words.Synonym) marked_own_synonyms (kept_at timers_at))
+
 unfoldable pub marked_process : At (Marked PlainEntity)
 marked_process = do
   head ← process_head_at
-  declarations ← many a_declaration declaration_at
+  declarations ← many a_declaration marked_declaration
   start ← marked_start
   sections ← many a_section marked_section
   _ ← token (a_word words.EndProcess)
   _ ← closing_at head.name.name
   give (map_marked (λ p. process p)
-      (process_marked head declarations start (gathered (filter_map marked_state_in sections))
+      (process_marked head (gathered declarations) start
+      (gathered (filter_map marked_state_in sections))
       (gathered (filter_map marked_connection_in sections))))
+
+unfoldable pub marked_synonyms : At (Marked PlainEntity)
+marked_synonyms = do
+  list ← synonyms_at (expression_at low_trees)
+  give (marked high_in_entity (synonyms list))
 
 unfoldable pub marked_entity : At (Marked PlainEntity)
 marked_entity =
     choice (a_word words.Signal) (kept_at signals_at)
     (choice (a_word words.SignalRoute) (kept_at route_at)
-    (choice (a_word words.Connect) (kept_at connect_at) marked_process))
+    (choice (a_word words.Connect) (kept_at connect_at)
+    (choice (a_word words.Synonym) marked_synonyms marked_process)))
 
 unfoldable pub marked_block : At (Marked PlainBlock)
 marked_block = do

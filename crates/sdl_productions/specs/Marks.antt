@@ -1,4 +1,5 @@
--- A part that was read, or the place of the first action or DECISION in it that is too high.
+-- A part that was read, or the place of the first action, DECISION or synonym in it that is too
+-- high.
 use Rattle.std.specs.Prelude.{ℕ, min, List, [], ◌∷◌, ◌++◌, Option, Some, None}
 use Rattle.sdl_ast.specs.Plain.{PlainAnswer, Choice, PlainStatement, decide, all_answers}
 use Rattle.sdl_ast.specs.Plain.{PlainQuestion, PlainStart, PlainDeclaration, PlainState}
@@ -66,9 +67,16 @@ body_marked head declarations start (kept states) (too_high at) = too_high at
 body_marked head declarations start (too_high at) (kept connections) = too_high at
 body_marked head declarations start (too_high at) (too_high other) = too_high (min at other)
 
-abbrev pub process_marked :
+abbrev pub start_marked :
     PlainProcessHead → List PlainDeclaration → Marked PlainStart → Marked (List PlainState)
     → Marked (List PlainConnection) → Marked PlainProcess
-process_marked head declarations (kept start) states connections =
+start_marked head declarations (kept start) states connections =
     body_marked head declarations start states connections
-process_marked head declarations (too_high at) states connections = too_high at
+start_marked head declarations (too_high at) states connections = too_high at
+
+abbrev pub process_marked :
+    PlainProcessHead → Marked (List PlainDeclaration) → Marked PlainStart
+    → Marked (List PlainState) → Marked (List PlainConnection) → Marked PlainProcess
+process_marked head (kept declarations) start states connections =
+    start_marked head declarations start states connections
+process_marked head (too_high at) start states connections = too_high at

@@ -29,7 +29,7 @@ use Rattle.sdl_productions.specs.Readings.{At, fails, give, token, ◌>>=◌, ma
 use Rattle.sdl_productions.specs.Readings.{separated_from, separated, list_in_parentheses}
 use Rattle.sdl_productions.specs.DeclarationProductions.{names_at, terminator_at, signals_at}
 use Rattle.sdl_productions.specs.DeclarationProductions.{route_at, connect_at, constant_at}
-use Rattle.sdl_productions.specs.DeclarationProductions.{declaration_at}
+use Rattle.sdl_productions.specs.DeclarationProductions.{declaration_at, block_synonyms_at}
 
 unfoldable pub place_at : At (Option Identifier)
 place_at = optional a_name (token a_name)
@@ -384,7 +384,8 @@ unfoldable pub entity_at : At PlainEntity
 entity_at =
     choice (a_word words.Signal) signals_at
     (choice (a_word words.SignalRoute) route_at
-    (choice (a_word words.Connect) connect_at process_at))
+    (choice (a_word words.Connect) connect_at
+    (choice (a_word words.Synonym) block_synonyms_at process_at)))
 
 unfoldable pub block_at : At PlainBlock
 block_at = do

@@ -1,6 +1,6 @@
 -- What a single token can stand for in a text.
 use Rattle.std.specs.Prelude.{ℕ, Bool, true, false, ◌==◌, nat_le, List, [], ◌∷◌, Option, Some, None}
-use Rattle.std.specs.Prelude.{is_some, if◌then◌else◌, bytes_eq, pos}
+use Rattle.std.specs.Prelude.{is_some, if◌then◌else◌, bytes_eq, pos, ◌-ℤ◌}
 use Rattle.sdl_lex.specs.Spelling.{folded}
 use Rattle.sdl_lex.specs.Limits.{GREATEST_NUMBER}
 use Rattle.sdl_lex.specs.declared.lexemes.Word.{Word}
@@ -75,6 +75,7 @@ word_number words.Call = 45
 word_number words.Fpar = 46
 word_number words.In = 47
 word_number words.Return = 48
+word_number words.Synonym = 49
 
 abbrev pub symbol_number : Symbol → ℕ
 symbol_number symbols.Semicolon = 0
@@ -167,12 +168,14 @@ abbrev pub entity_place : ℕ → Lexeme → Option ℕ
 entity_place at (lexemes.Word words.Signal) = Some at
 entity_place at (lexemes.Word words.SignalRoute) = Some at
 entity_place at (lexemes.Word words.Connect) = Some at
+entity_place at (lexemes.Word words.Synonym) = Some at
 entity_place at (lexemes.Word words.Process) = Some at
 entity_place at _ = None
 
 abbrev pub declaration_place : ℕ → Lexeme → Option ℕ
 declaration_place at (lexemes.Word words.Dcl) = Some at
 declaration_place at (lexemes.Word words.Timer) = Some at
+declaration_place at (lexemes.Word words.Synonym) = Some at
 declaration_place at _ = None
 
 abbrev pub section_place : ℕ → Lexeme → Option ℕ
@@ -292,13 +295,39 @@ literal_value (Some k) b = Some (literals.Integer (pos k))
 literal_value None (Some b) = Some (literals.Boolean b)
 literal_value None None = None
 
-abbrev pub constant_value : ℕ → Option Literal → Option Constant
-constant_value at (Some v) = Some (record { at = at; value = v })
-constant_value at None = None
+-- A literal as a constant, and a synonym, which is the number 0 until its value replaces it.
+abbrev pub literal_constant : ℕ → Literal → Constant
+literal_constant at v = record { at = at; value = v; is_negated = false; synonym = None }
 
--- a number, TRUE or FALSE, as a constant
+abbrev pub synonym_constant : ℕ → Bool → Identifier → Constant
+synonym_constant at negated id = record {
+  at = at;
+  value = literals.Integer (pos 0);
+  is_negated = negated;
+  synonym = Some id;
+}
+
+abbrev pub constant_value : ℕ → Option Literal → Option Identifier → Option Constant
+constant_value at (Some v) n = Some (literal_constant at v)
+constant_value at None (Some id) = Some (synonym_constant at false id)
+constant_value at None None = None
+
+-- a name that may stand for a constant: only in a text with the word SYNONYM
+abbrev pub a_synonym : Token → Option Identifier
+a_synonym t = if t.with_synonyms then a_name t else None
+
+-- a number, TRUE, FALSE or the name of a synonym, as a constant
 abbrev pub a_constant : Token → Option Constant
-a_constant t = constant_value t.start (literal_value (a_number t) (a_truth t))
+a_constant t = constant_value t.start (literal_value (a_number t) (a_truth t)) (a_synonym t)
+
+abbrev pub negated_value : ℕ → Option ℕ → Option Identifier → Option Constant
+negated_value at (Some k) n = Some (literal_constant at (literals.Integer (pos 0 -ℤ pos k)))
+negated_value at None (Some id) = Some (synonym_constant at true id)
+negated_value at None None = None
+
+-- a number or the name of a synonym, after a minus at a place
+abbrev pub a_negated : ℕ → Token → Option Constant
+a_negated at t = negated_value at (a_number t) (a_synonym t)
 
 abbrev pub not_zero : Option ℕ → Option ℕ
 not_zero (Some k) = if nat_le 1 k then Some k else None

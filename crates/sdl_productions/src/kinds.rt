@@ -1,6 +1,6 @@
 //! The kinds of tokens: words, symbols, names, numbers, and the alternatives that one token may have in a production.
 ghost use Rattle.std.specs.Prelude.{◌≡◌};
-ghost use Rattle.sdl_productions.specs.Tokens.{same_word, same_symbol, a_word, a_symbol, a_number, a_name, a_sort, a_truth, environment, a_party, a_destination, a_constant, a_count, the_number, a_closing, a_quoted, a_relation, relation_value, sender_value, literal_value};
+ghost use Rattle.sdl_productions.specs.Tokens.{same_word, same_symbol, a_word, a_symbol, a_number, a_name, a_sort, a_truth, environment, a_party, a_destination, a_synonym, a_constant, a_negated, synonym_constant, a_count, the_number, a_closing, a_quoted, a_relation, relation_value, sender_value, literal_value};
 
 use crate::comparison::Comparison;
 use crate::tokens::Kind;
@@ -253,7 +253,30 @@ fn literal_of(token: &Token) -> Option<Literal>
     }
 }
 
-/// A number, TRUE or FALSE, as a constant.
+/// The name that a token is, if it may stand for a constant.
+fn synonym_of(token: &Token) -> Option<Identifier>
+    ensures { result ≡ a_synonym token.now }
+{
+    if token.with_synonyms {
+        name_of(token)
+    } else {
+        None
+    }
+}
+
+/// A synonym as a constant: the number 0 until the synonym's value replaces it.
+fn synonym_at(at: u32, is_negated: bool, name: Identifier) -> Constant
+    ensures { result ≡ synonym_constant at is_negated name }
+{
+    Constant {
+        at,
+        value: Literal::Integer(0),
+        is_negated,
+        synonym: Some(name),
+    }
+}
+
+/// A number, TRUE, FALSE or the name of a synonym, as a constant.
 #[derive(Clone, Copy)]
 pub struct AnyConstant;
 
@@ -267,8 +290,38 @@ impl Kind for AnyConstant {
             Some(value) => Some(Constant {
                 at: token.start,
                 value,
+                is_negated: false,
+                synonym: None,
             }),
-            None => None,
+            None => match synonym_of(token) {
+                Some(name) => Some(synonym_at(token.start, false, name)),
+                None => None,
+            },
+        }
+    }
+}
+
+/// A number or the name of a synonym, after a minus at this place.
+#[derive(Clone, Copy)]
+pub struct Negated(pub u32);
+
+impl Kind for Negated {
+    type Value = Constant;
+
+    ghost stands = { λ k. a_negated k.0 };
+
+    fn value(self, token: &Token) -> Option<Constant> {
+        match number_of(token) {
+            Some(value) => Some(Constant {
+                at: self.0,
+                value: Literal::Integer(-(value as i32)),
+                is_negated: false,
+                synonym: None,
+            }),
+            None => match synonym_of(token) {
+                Some(name) => Some(synonym_at(self.0, true, name)),
+                None => None,
+            },
         }
     }
 }

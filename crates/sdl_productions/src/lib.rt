@@ -22,9 +22,9 @@ pub use bodies::{
 };
 pub use kinds::{
     AnyConstant, AnyCount, AnyDestination, AnyName, AnyNumber, AnyParty, AnyQuoted, AnyRelation,
-    AnySort, Closing, ThatNumber,
+    AnySort, Closing, Negated, ThatNumber,
 };
-pub use marked::{Marked, gathered, more};
+pub use marked::{Marked, gathered, limited_own_synonyms, limited_synonyms, more};
 pub use operands::expression;
 pub use starts::{AnyAction, AnyChoice, AnyClause, AnyDeclaration, AnyEnd, AnyEntity, AnySection};
 pub use stop::{Stop, push};

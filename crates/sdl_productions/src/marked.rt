@@ -1,15 +1,19 @@
 //! A part that was read, or the place of the first part of it that is too high.
 ghost use Rattle.std.specs.Prelude.{◌≡◌, map, List, IfOk, IfErr};
-ghost use Rattle.sdl_ast.specs.Plain.{PlainStatement, PlainAnswer, PlainClause, PlainState, PlainConnection, PlainEntity};
-ghost use Rattle.sdl_ast.specs.Views.{plain_statement, plain_answer, clause_of, state_of, connection_of, entity_of};
+ghost use Rattle.sdl_ast.specs.Plain.{PlainStatement, PlainAnswer, PlainClause, PlainState, PlainConnection, PlainDeclaration, PlainEntity, own_synonyms, synonyms};
+ghost use Rattle.sdl_ast.specs.Heights.{high_in_declaration, high_in_entity};
+ghost use Rattle.sdl_ast.specs.Views.{plain_statement, plain_answer, clause_of, state_of, connection_of, declaration_of, entity_of, synonym_of};
 ghost use Rattle.sdl_productions.specs.BodyViews.{marked_view};
-ghost use Rattle.sdl_productions.specs.Marks.{more, gathered};
+ghost use Rattle.sdl_productions.specs.Marks.{marked, more, gathered};
 
 use crate::stop::{Stop, push};
-use sdl_ast::{Answer, Connection, Entity, StateClause, StatePart, Statement};
+use sdl_ast::{
+    Answer, Connection, Declaration, Entity, StateClause, StatePart, Statement, Synonym,
+    high_in_synonyms,
+};
 use std::alloc::Global;
 
-/// A part that was read, or the place of the first TASK, OUTPUT, SET or DECISION in it that is too high.
+/// A part that was read, or the place of the first TASK, OUTPUT, SET, DECISION or synonym in it that is too high.
 #[derive(Drop)]
 pub enum Marked<T> {
     /// Nothing in it is too high.
@@ -55,6 +59,12 @@ impl Part for Connection {
     ghost view = { connection_of };
 }
 
+impl Part for Declaration {
+    ghost Plain = { PlainDeclaration };
+
+    ghost view = { declaration_of };
+}
+
 impl Part for Entity {
     ghost Plain = { PlainEntity };
 
@@ -90,4 +100,24 @@ pub fn gathered<'a, T: Part>(
         found = more(found, part)?;
     }
     Ok(found)
+}
+
+/// The synonyms of a block, or the place of the first one that is too high.
+pub fn limited_synonyms(list: Vec<Synonym>) -> Marked<Entity>
+    ensures { marked_view entity_of result ≡ marked high_in_entity (synonyms (map synonym_of list.items)) }
+{
+    match high_in_synonyms(&list) {
+        Some(at) => Marked::TooHigh(at),
+        None => Marked::Kept(Entity::Synonyms(list)),
+    }
+}
+
+/// The synonyms of a process, or the place of the first one that is too high.
+pub fn limited_own_synonyms(list: Vec<Synonym>) -> Marked<Declaration>
+    ensures { marked_view declaration_of result ≡ marked high_in_declaration (own_synonyms (map synonym_of list.items)) }
+{
+    match high_in_synonyms(&list) {
+        Some(at) => Marked::TooHigh(at),
+        None => Marked::Kept(Declaration::Synonyms(list)),
+    }
 }

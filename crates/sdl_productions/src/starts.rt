@@ -18,13 +18,14 @@ impl Kind for AnyEntity {
             Lexeme::Word(Word::Signal) => Some(token.start),
             Lexeme::Word(Word::SignalRoute) => Some(token.start),
             Lexeme::Word(Word::Connect) => Some(token.start),
+            Lexeme::Word(Word::Synonym) => Some(token.start),
             Lexeme::Word(Word::Process) => Some(token.start),
             _ => None,
         }
     }
 }
 
-/// The word DCL or TIMER.
+/// The word DCL, TIMER or SYNONYM.
 #[derive(Clone, Copy)]
 pub struct AnyDeclaration;
 
@@ -37,6 +38,7 @@ impl Kind for AnyDeclaration {
         match token.lexeme {
             Lexeme::Word(Word::Dcl) => Some(token.start),
             Lexeme::Word(Word::Timer) => Some(token.start),
+            Lexeme::Word(Word::Synonym) => Some(token.start),
             _ => None,
         }
     }

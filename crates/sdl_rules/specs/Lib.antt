@@ -1,7 +1,13 @@
 pub mod Asked
 pub mod Backs
+pub mod Faults
 pub mod Distinct
+pub mod Expansion
+pub mod Laws
 pub mod Reached
 pub mod Resolving
 pub mod SenderTables
 pub mod Sources
+pub mod Synonyms
+pub mod Texts
+pub mod Views

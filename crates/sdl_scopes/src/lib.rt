@@ -2,6 +2,7 @@
 //! (S3), ends of transitions (S4), answers (S8), divisors (S9); and who sends and gets a signal by the routes.
 #![tactic(auto)]
 
+mod constants;
 mod decisions;
 mod divisors;
 mod ends;
@@ -15,6 +16,7 @@ mod sent;
 mod sorts;
 mod values;
 
+pub use constants::{constant_misfit, constant_sort, wrong_in_constant};
 pub use decisions::unanswered_decision;
 pub use divisors::{bad_in, bad_in_action};
 pub use ends::stray_end;

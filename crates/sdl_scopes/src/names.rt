@@ -77,6 +77,7 @@ fn unknown_in_routes(block: &BlockTable, entities: &[Entity]) -> Option<u32>
             Entity::Signals(_) => {}
             Entity::Route(route) => place = earlier(place, unknown_in_paths(block, &route.paths)),
             Entity::Connect(_) => {}
+            Entity::Synonyms(_) => {}
             Entity::Process(_) => {}
         }
     }

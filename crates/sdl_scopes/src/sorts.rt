@@ -67,7 +67,7 @@ pub(crate) fn unary_sort(operator: UnaryOperator) -> Sort
 }
 
 /// The sort of the result of a binary operator.
-fn binary_sort(operator: BinaryOperator) -> Sort
+pub(crate) fn binary_sort(operator: BinaryOperator) -> Sort
     ensures { result ≡ binary_sort operator }
 {
     match operator {

@@ -6,4 +6,3 @@ pub mod Repeats
 pub mod Spread
 pub mod Views
 pub mod Walks
-pub use Rattle.sdl_tables.proofs.Numbers

@@ -22,5 +22,3 @@ pub mod Sound
 pub mod Spellings
 pub mod Standing
 pub mod Statements
-pub use Rattle.sdl_tables.specs.Names as TableNames
-pub use Rattle.sdl_tables.specs.Scopes

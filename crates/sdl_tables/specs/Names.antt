@@ -11,8 +11,8 @@ use Rattle.sdl_ast.specs.declared.tree.Sort.{Sort}
 use Rattle.sdl_ast.specs.declared.tree.Constant.{Constant}
 use Rattle.sdl_ast.specs.Plain.{Text, PlainConnection, PlainStimulus, PlainInput, PlainClause}
 use Rattle.sdl_ast.specs.Plain.{input, save, PlainState, PlainGroup, PlainDeclaration, variables}
-use Rattle.sdl_ast.specs.Plain.{timers, PlainProcess, PlainRoute, PlainSignal, PlainEntity, signals}
-use Rattle.sdl_ast.specs.Plain.{route, connect, process, PlainBlock}
+use Rattle.sdl_ast.specs.Plain.{timers, own_synonyms, PlainProcess, PlainRoute, PlainSignal}
+use Rattle.sdl_ast.specs.Plain.{PlainEntity, signals, route, connect, synonyms, process, PlainBlock}
 
 -- two spellings of one name
 abbrev pub same_name : List ℕ → List ℕ → Bool
@@ -32,18 +32,21 @@ abbrev pub signals_in : PlainEntity → List PlainSignal
 signals_in (signals declared) = declared
 signals_in (route r) = []
 signals_in (connect channels routes) = []
+signals_in (synonyms list) = []
 signals_in (process p) = []
 
 abbrev pub routes_in : PlainEntity → List PlainRoute
 routes_in (signals declared) = []
 routes_in (route r) = r ∷ []
 routes_in (connect channels routes) = []
+routes_in (synonyms list) = []
 routes_in (process p) = []
 
 abbrev pub processes_in : PlainEntity → List PlainProcess
 processes_in (signals declared) = []
 processes_in (route r) = []
 processes_in (connect channels routes) = []
+processes_in (synonyms list) = []
 processes_in (process p) = p ∷ []
 
 -- the signals of all SIGNALs
@@ -84,6 +87,7 @@ group_variables g = map (λ id. record { name = id; sort = g.sort; initial = g.i
 abbrev pub declared_variables : PlainDeclaration → List Variable
 declared_variables (variables groups) = flat_map group_variables groups
 declared_variables (timers names) = []
+declared_variables (own_synonyms list) = []
 
 abbrev pub variables_of : PlainProcess → List Variable
 variables_of p = flat_map declared_variables p.declarations
@@ -96,6 +100,7 @@ variable_names p = map (λ v. v.name) (variables_of p)
 abbrev pub timers_in : PlainDeclaration → List Identifier
 timers_in (variables groups) = []
 timers_in (timers names) = names
+timers_in (own_synonyms list) = []
 
 -- the timers of all TIMERs of a process
 abbrev pub timers_of : PlainProcess → List Identifier

@@ -43,6 +43,7 @@ fn collect_signals<'a>(
             Entity::Signals(declared) => push_signals(&mut rows, declared)?,
             Entity::Route(_) => {}
             Entity::Connect(_) => {}
+            Entity::Synonyms(_) => {}
             Entity::Process(_) => {}
         }
     }
@@ -59,6 +60,7 @@ fn collect_routes<'a>(alloc: Global, entities: &'a [Entity]) -> Result<Vec<&'a R
             Entity::Signals(_) => {}
             Entity::Route(route) => rows.push(route)?,
             Entity::Connect(_) => {}
+            Entity::Synonyms(_) => {}
             Entity::Process(_) => {}
         }
     }
@@ -78,6 +80,7 @@ fn collect_processes<'a>(
             Entity::Signals(_) => {}
             Entity::Route(_) => {}
             Entity::Connect(_) => {}
+            Entity::Synonyms(_) => {}
             Entity::Process(process) => rows.push(process)?,
         }
     }

@@ -20,5 +20,5 @@ pub use name_key::NameKey;
 pub use name_table::NameTable;
 pub use party_table::PartyTable;
 pub use process_table::{InputRow, ProcessTable, Variable};
-pub use scope::earlier;
+pub use scope::{Scope, earlier, index_names};
 pub use sdl_ast::{BinaryOperator, InputPart, StateClause, StatePart};

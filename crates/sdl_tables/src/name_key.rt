@@ -4,7 +4,7 @@ ghost use Rattle.core.specs.Hash.DefaultHasher.{with_keys};
 use core::hash::keyed_hasher;
 use sdl_ast::{
     Block, Connection, Declaration, Entity, Group, Identifier, Name, Party, Path, Process, Route,
-    SignalDeclaration, StateClause, StatePart, Stimulus,
+    SignalDeclaration, StateClause, StatePart, Stimulus, Synonym,
 };
 use sha2::{Digest, Sha256};
 use std::hash::{BuildHasher, DefaultHasher};
@@ -32,7 +32,7 @@ impl BuildHasher for NameKey {
 
 impl NameKey {
     /// The key of a block.
-    pub(crate) fn of(block: &Block) -> NameKey {
+    pub fn of(block: &Block) -> NameKey {
         let mut digest = Sha256::new();
         feed_entities(&mut digest, &block.entities);
         let octets: [u8; 32] = digest.finalize();
@@ -67,8 +67,16 @@ fn feed_entities(digest: &mut Sha256, entities: &[Entity]) {
             Entity::Signals(declared) => feed_signals(digest, declared),
             Entity::Route(route) => feed_route(digest, route),
             Entity::Connect(_) => {}
+            Entity::Synonyms(list) => feed_synonyms(digest, list),
             Entity::Process(process) => feed_process(digest, process),
         }
+    }
+}
+
+/// Feeds the names of synonyms.
+fn feed_synonyms(digest: &mut Sha256, synonyms: &[Synonym]) {
+    for synonym in synonyms {
+        feed(digest, synonym.name.name);
     }
 }
 
@@ -111,12 +119,13 @@ fn feed_process(digest: &mut Sha256, process: &Process) {
     feed_connections(digest, &process.connections);
 }
 
-/// Feeds the names of variables and timers.
+/// Feeds the names of variables, timers and synonyms.
 fn feed_declarations(digest: &mut Sha256, declarations: &[Declaration]) {
     for declaration in declarations {
         match declaration {
             Declaration::Variables(groups) => feed_groups(digest, groups),
             Declaration::Timers(ids) => feed_ids(digest, ids),
+            Declaration::Synonyms(list) => feed_synonyms(digest, list),
         }
     }
 }

@@ -72,6 +72,7 @@ fn collect_variables(
         match declaration {
             Declaration::Variables(groups) => push_groups(&mut rows, groups)?,
             Declaration::Timers(_) => {}
+            Declaration::Synonyms(_) => {}
         }
     }
     Ok(rows)
@@ -89,6 +90,7 @@ fn collect_timers(
         match declaration {
             Declaration::Variables(_) => {}
             Declaration::Timers(names) => push_ids(&mut rows, names)?,
+            Declaration::Synonyms(_) => {}
         }
     }
     Ok(rows)
@@ -103,6 +105,7 @@ pub(crate) fn shared_declared(among: &NameTable, declarations: &[Declaration]) -
         match declaration {
             Declaration::Variables(_) => {}
             Declaration::Timers(names) => place = earlier(place, first_shared(among, names)),
+            Declaration::Synonyms(_) => {}
         }
     }
     place

@@ -10,7 +10,7 @@ use std::alloc::{AllocError, Global};
 
 /// The names of a scope, and the place of the first identifier whose name occurs before it.
 #[derive(Drop)]
-pub(crate) struct Scope {
+pub struct Scope {
     pub names: NameTable,
     pub double: Option<u32>,
 }

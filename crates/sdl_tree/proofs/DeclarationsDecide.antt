@@ -1,17 +1,17 @@
 -- The reading of each declaration, signal and route decides its production. tools/productions writes the proofs.
-use Rattle.std.specs.Prelude.{◌∷◌, pos, ◌-ℤ◌}
+use Rattle.std.specs.Prelude.{◌∷◌}
 use Rattle.std.specs.Option.{option_to_list}
 use Rattle.sdl_lex.specs.declared.lexemes.Word.TheVariants as words
-use Rattle.sdl_lex.specs.declared.lexemes.Symbol.TheVariants.{Semicolon, Assign, Minus}
-use Rattle.sdl_ast.specs.declared.tree.Literal.TheVariants as literals
-use Rattle.sdl_ast.specs.Plain.{Tree, signals, route, connect, variables, timers}
-use Rattle.sdl_productions.specs.Tokens.{a_word, a_symbol, a_number, a_name, a_sort, a_party, a_constant, a_quoted}
+use Rattle.sdl_lex.specs.declared.lexemes.Symbol.TheVariants.{Semicolon, Assign, Minus, Equal}
+use Rattle.sdl_ast.specs.Plain.{Tree, signals, route, connect, synonyms, variables, timers, own_synonyms}
+use Rattle.sdl_productions.specs.Tokens.{a_word, a_symbol, a_name, a_sort, a_party, a_constant, a_negated, a_quoted}
 use Rattle.sdl_productions.specs.Readings.{At}
 use Rattle.sdl_productions.specs.Machine.{whole_trees, expression_at}
-use Rattle.sdl_tree.specs.DeclarationSyntax.{names_syntax, comment_syntax, terminator_syntax, signal_syntax, signals_syntax, path_syntax, route_syntax, connect_syntax, negative_syntax, constant_syntax, initial_syntax, group_syntax, variables_syntax, timers_syntax, declaration_syntax}
-use Rattle.sdl_productions.specs.DeclarationProductions.{names_at, comment_at, terminator_at, signal_at, signals_at, path_at, route_at, connect_at, negative_at, constant_at, initial_at, group_at, variables_at, timers_at, declaration_at}
+use Rattle.sdl_tree.specs.DeclarationSyntax.{names_syntax, comment_syntax, terminator_syntax, signal_syntax, signals_syntax, path_syntax, route_syntax, connect_syntax, negative_syntax, constant_syntax, initial_syntax, group_syntax, variables_syntax, timers_syntax, synonym_syntax, synonyms_syntax, block_synonyms_syntax, own_synonyms_syntax, declaration_syntax}
+use Rattle.sdl_productions.specs.DeclarationProductions.{names_at, comment_at, terminator_at, signal_at, signals_at, path_at, route_at, connect_at, negative_at, constant_at, initial_at, group_at, variables_at, timers_at, synonym_at, synonyms_at, block_synonyms_at, own_synonyms_at, declaration_at}
 use Rattle.sdl_productions.proofs.Decides.{Decides, give_decides, token_decides, choice_decides, optional_decides, ◌>>=◌}
 use Rattle.sdl_productions.proofs.Rows.{separated_decides, list_decides}
+use Rattle.sdl_productions.proofs.SoundLemmas.{expression_decides}
 
 -- Expressions, with no tree left out.
 abbrev pub whole : At Tree
@@ -82,8 +82,7 @@ negative_decides : Decides negative_syntax negative_at
 unfolding negative_syntax negative_at
 negative_decides = do
   at ← token_decides (a_symbol Minus)
-  value ← token_decides a_number
-  give_decides (record { at = at; value = literals.Integer (pos 0 -ℤ pos value) })
+  token_decides (a_negated at)
 
 pub constant_decides : Decides constant_syntax constant_at
 unfolding constant_syntax constant_at
@@ -111,7 +110,7 @@ variables_decides = do
   _ ← terminator_decides
   give_decides (variables groups)
 
-timers_decides : Decides timers_syntax timers_at
+pub timers_decides : Decides timers_syntax timers_at
 unfolding timers_syntax timers_at
 timers_decides = do
   _ ← token_decides (a_word words.Timer)
@@ -119,6 +118,35 @@ timers_decides = do
   _ ← terminator_decides
   give_decides (timers names)
 
+pub synonym_decides : Decides synonym_syntax (synonym_at whole)
+unfolding synonym_syntax synonym_at
+synonym_decides = do
+  name ← token_decides a_name
+  sort ← optional_decides a_sort (token_decides a_sort)
+  _ ← token_decides (a_symbol Equal)
+  value ← expression_decides
+  give_decides (record { name = name; sort = sort; value = value })
+
+synonyms_decides : Decides synonyms_syntax (synonyms_at whole)
+unfolding synonyms_syntax synonyms_at
+synonyms_decides = do
+  _ ← token_decides (a_word words.Synonym)
+  list ← separated_decides synonym_decides
+  _ ← terminator_decides
+  give_decides list
+
+pub block_synonyms_decides : Decides block_synonyms_syntax block_synonyms_at
+unfolding block_synonyms_syntax block_synonyms_at
+block_synonyms_decides = do
+  list ← synonyms_decides
+  give_decides (synonyms list)
+
+pub own_synonyms_decides : Decides own_synonyms_syntax own_synonyms_at
+unfolding own_synonyms_syntax own_synonyms_at
+own_synonyms_decides = do
+  list ← synonyms_decides
+  give_decides (own_synonyms list)
+
 pub declaration_decides : Decides declaration_syntax declaration_at
 unfolding declaration_syntax declaration_at
-declaration_decides = choice_decides (a_word words.Dcl) variables_decides timers_decides
+declaration_decides = choice_decides (a_word words.Dcl) variables_decides (choice_decides (a_word words.Synonym) own_synonyms_decides timers_decides)

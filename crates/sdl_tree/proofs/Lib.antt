@@ -3,6 +3,7 @@ pub mod LowHeights
 pub mod LoweredActions
 pub mod ParseLemmas
 pub mod PartMarks
+pub mod PlainReadings
 pub mod StepLemmas
 pub mod StepTurns
 pub mod SyntaxDecides

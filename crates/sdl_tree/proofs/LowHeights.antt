@@ -4,13 +4,14 @@ use Rattle.std.specs.Prelude.{nat_lt, if◌then◌else◌}
 use borrow.Author.Tests.{ltb-true, ltb-false}
 use Rattle.sdl_ast.specs.Limits.{GREATEST_HEIGHT}
 use Rattle.sdl_ast.specs.declared.expression.Identifier.{Identifier}
+use Rattle.sdl_ast.specs.declared.tree.Sort.{Sort}
 use Rattle.sdl_ast.specs.declared.expression.UnaryOperator.{UnaryOperator}
 use Rattle.sdl_ast.specs.declared.expression.BinaryOperator.{BinaryOperator}
-use Rattle.sdl_ast.specs.Plain.{Tree, number, truth, variable, unary, binary, PlainAssignment, PlainSending, PlainAction, task, output, set_timer, reset_timer}
+use Rattle.sdl_ast.specs.Plain.{Tree, number, truth, variable, unary, binary, PlainAssignment, PlainSending, PlainAction, task, output, set_timer, reset_timer, PlainSynonym}
 use Rattle.sdl_ast.specs.Places.{placed}
 use Rattle.sdl_productions.specs.Machine.{lowered}
-use Rattle.sdl_ast.specs.Heights.{tree_height, highest, sending_height, action_height, place_of_action, high_in_action}
-use Rattle.sdl_tree.proofs.LoweredActions.{lowered_assignment, lowered_sending, lowered_action}
+use Rattle.sdl_ast.specs.Heights.{tree_height, highest, sending_height, action_height, place_of_action, high_in_action, synonym_height, high_in_synonym, or_first, first_of}
+use Rattle.sdl_tree.proofs.LoweredActions.{lowered_assignment, lowered_sending, lowered_action, lowered_synonym}
 
 height-placed : (p : ℕ) (x : Tree) → tree_height (placed p x) ≡ tree_height x
 height-placed p (number at k) = refl
@@ -192,3 +193,44 @@ action_stays a = record {
       ∙ ap (λ b. if b then Some (place_of_action a) else None) (action_test a);
   same = λ e. (action_keeps a).low (ltb-false GREATEST_HEIGHT (action_height a) (test_none (nat_lt GREATEST_HEIGHT (action_height a)) (place_of_action a) e));
 }
+
+-- synonyms
+
+synonym_with : Identifier → Option Sort → Tree → PlainSynonym
+synonym_with n s z = record { name = n; sort = s; value = z }
+
+synonym_keeps : (s : PlainSynonym) → KeepsHeight synonym_height s (lowered_synonym s)
+unfolding lowered_synonym synonym_with
+synonym_keeps s = let k = keeps s.value in record { low = λ e. ap (synonym_with s.name s.sort) (k.low e); high = k.high }
+
+synonym_stays : (s : PlainSynonym) → Stays high_in_synonym s (lowered_synonym s)
+unfolding lowered_synonym
+synonym_stays s =
+    let k = synonym_keeps s in
+    record {
+      place =
+          ap (λ b. if b then Some s.name.at else None)
+          (same_test (synonym_height s) (synonym_height (lowered_synonym s)) (λ h. ap synonym_height (k.low h)) k.high _ _ refl refl);
+      same = λ e. k.low (ltb-false GREATEST_HEIGHT (synonym_height s) (test_none (nat_lt GREATEST_HEIGHT (synonym_height s)) s.name.at e));
+    }
+
+none_first : (p q : Option ℕ) → or_first p q ≡ None → p ≡ None
+none_first (Some at) q e = cc
+none_first None q e = refl
+
+none_behind : (p q : Option ℕ) → or_first p q ≡ None → q ≡ None
+none_behind (Some at) q e = cc
+none_behind None q e = e
+
+list_stays : {A : Type 0} (f : A → Option ℕ) (g : A → A) → ((x : A) → Stays f x (g x)) → (xs : List A) → Stays (first_of f) xs (map g xs)
+list_stays f g each [] = record { place = refl; same = λ e. refl }
+list_stays f g each (x ∷ xs) =
+    let s = each x in
+    let r = list_stays f g each xs in
+    record {
+      place = ap (λ p. or_first p (first_of f (map g xs))) s.place ∙ ap (or_first (f x)) r.place;
+      same = λ e. ap (λ y. y ∷ map g xs) (s.same (none_first (f x) (first_of f xs) e)) ∙ ap (λ ys. x ∷ ys) (r.same (none_behind (f x) (first_of f xs) e));
+    }
+
+pub synonyms_stay : (list : List PlainSynonym) → Stays (first_of high_in_synonym) list (map lowered_synonym list)
+synonyms_stay list = list_stays high_in_synonym lowered_synonym synonym_stays list

@@ -1,12 +1,12 @@
--- Actions and questions, read such that no expression above one that is too high is built.
+-- Actions, questions and synonyms read such that no expression above one that is too high is built.
 use Rattle.std.proofs.Common.{◌≡◌, ℕ, List, [], ◌∷◌, Option, Some, None, map, refl, ap}
 use Rattle.std.specs.List.{filter_map}
 use Rattle.sdl_lex.specs.declared.lexemes.Word.TheVariants as words
-use Rattle.sdl_lex.specs.declared.lexemes.Symbol.TheVariants.{Assign, Open, Close, Plus, Comma}
-use Rattle.sdl_productions.specs.Tokens.{a_symbol, a_word, a_name, a_quoted}
-use Rattle.sdl_ast.specs.Plain.{Tree, PlainAssignment, PlainSending, PlainAction, task, output, set_timer, reset_timer, PlainQuestion}
+use Rattle.sdl_lex.specs.declared.lexemes.Symbol.TheVariants.{Assign, Open, Close, Plus, Comma, Equal}
+use Rattle.sdl_productions.specs.Tokens.{a_symbol, a_word, a_name, a_sort, a_quoted}
+use Rattle.sdl_ast.specs.Plain.{Tree, PlainAssignment, PlainSending, PlainAction, task, output, set_timer, reset_timer, PlainQuestion, PlainSynonym}
 use Rattle.sdl_productions.specs.Productions.{assignment_at, assigned_at, quoted_at, item_at, task_at, sending_at, destination_at, output_at, delay_at, set_at, reset_at, action_at, question_at}
-use Rattle.sdl_productions.specs.DeclarationProductions.{terminator_at}
+use Rattle.sdl_productions.specs.DeclarationProductions.{terminator_at, synonym_at, synonyms_at}
 use Rattle.sdl_productions.specs.Readings.{read, At, choice, optional, give, token, separated, list_in_parentheses}
 use Rattle.sdl_productions.specs.Machine.{whole_trees, low_trees, lowered, expression_at}
 use Rattle.sdl_productions.proofs.Lowering.{mapped, Lowers, expression_lowers, give_lowers, then_lowers, next_lowers, choice_lowers, separated_lowers, list_lowers}
@@ -125,3 +125,20 @@ unfolding question_at lowered_question
 question_lowers =
     next_lowers lowered_question (token (a_word words.Decision)) _ _ λ at. then_lowers lowered lowered_question whole _ low _ expression_lowers λ question.
     next_lowers lowered_question terminator_at _ _ λ _. give_lowers lowered_question (record { at = at; question = question })
+
+unfoldable pub lowered_synonym : PlainSynonym → PlainSynonym
+lowered_synonym s = record { name = s.name; sort = s.sort; value = lowered s.value }
+
+synonym_lowers : Lowers lowered_synonym (synonym_at whole) (synonym_at low)
+unfolding synonym_at lowered_synonym
+synonym_lowers =
+    next_lowers lowered_synonym (token a_name) _ _ λ name. next_lowers lowered_synonym (optional a_sort (token a_sort)) _ _ λ sort.
+    next_lowers lowered_synonym (token (a_symbol Equal)) _ _ λ _. then_lowers lowered lowered_synonym whole _ low _ expression_lowers λ value.
+    give_lowers lowered_synonym (record { name = name; sort = sort; value = value })
+
+pub synonyms_lowers : Lowers (map lowered_synonym) (synonyms_at whole) (synonyms_at low)
+unfolding synonyms_at
+synonyms_lowers =
+    next_lowers (map lowered_synonym) (token (a_word words.Synonym)) _ _ λ _.
+    then_lowers (map lowered_synonym) (map lowered_synonym) (separated (synonym_at whole)) _ (separated (synonym_at low)) _ (separated_lowers lowered_synonym (synonym_at whole) (synonym_at low) synonym_lowers) λ list.
+    next_lowers (map lowered_synonym) terminator_at _ _ λ _. give_lowers (map lowered_synonym) list

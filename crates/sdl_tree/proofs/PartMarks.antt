@@ -7,16 +7,19 @@ use Rattle.sdl_lex.specs.declared.lexemes.Word.TheVariants as words
 use Rattle.sdl_lex.specs.declared.lexemes.Symbol.TheVariants.{Colon}
 use Rattle.sdl_ast.specs.declared.expression.Identifier.{Identifier}
 use Rattle.sdl_productions.specs.Tokens.{a_symbol, a_word, a_name, an_entity, a_declaration, a_clause, a_section}
-use Rattle.sdl_ast.specs.Plain.{Text, PlainStimulus, PlainClause, input, save, PlainState, PlainConnection, PlainSection, in_state, in_connection, state_in, connection_in, PlainProcessHead, process_from, PlainStart, PlainDeclaration, PlainEntity, signals, route, connect, process, PlainBlock}
-use Rattle.sdl_ast.specs.Heights.{or_first, first_of, lesser, high_in_text, high_in_clause, high_in_state, high_in_connection, high_in_entity, first_too_high}
+use Rattle.sdl_ast.specs.Plain.{Text, PlainStimulus, PlainClause, input, save, PlainState, PlainConnection, PlainSection, in_state, in_connection, state_in, connection_in, PlainProcessHead, process_from, PlainStart, PlainSynonym, PlainDeclaration, variables, timers, own_synonyms, PlainEntity, signals, route, connect, synonyms, process, PlainBlock}
+use Rattle.sdl_ast.specs.Heights.{or_first, first_of, lesser, high_in_text, high_in_clause, high_in_state, high_in_connection, high_in_synonym, high_in_declaration, high_in_entity, first_too_high}
 use Rattle.sdl_productions.specs.Productions.{stimulus_at, text_at, input_at, save_at, clause_at, closing_at, end_state_at, state_at, end_connection_at, connection_at, state_section_at, connection_section_at, section_at, start_at, process_head_at, process_at, entity_at, block_at}
-use Rattle.sdl_productions.specs.DeclarationProductions.{names_at, terminator_at, signal_at, signals_at, path_at, route_at, connect_at, declaration_at}
+use Rattle.sdl_productions.specs.DeclarationProductions.{names_at, terminator_at, signal_at, signals_at, path_at, route_at, connect_at, group_at, variables_at, timers_at, synonyms_at, block_synonyms_at, own_synonyms_at, declaration_at}
+use Rattle.sdl_productions.specs.Machine.{whole_trees, low_trees, expression_at}
 use Rattle.sdl_productions.specs.Readings.{read, fails, Reading, then_read, At, ◌>>=◌, optional, many, give, token, separated_from, separated}
 use Rattle.sdl_productions.specs.Bodies.{whole_texts, marked_texts}
 use Rattle.sdl_productions.specs.Marks.{kept, by_place, marked, map_marked, gathered, process_with, process_marked}
-use Rattle.sdl_productions.specs.MarkedParts.{kept_at, marked_input, marked_clause, marked_state, marked_connection, MarkedSection, a_state, a_connection, marked_state_in, marked_connection_in, marked_section, marked_start, marked_process, marked_entity, marked_block}
+use Rattle.sdl_productions.specs.MarkedParts.{kept_at, marked_input, marked_clause, marked_state, marked_connection, MarkedSection, a_state, a_connection, marked_state_in, marked_connection_in, marked_section, marked_start, marked_own_synonyms, marked_declaration, marked_process, marked_synonyms, marked_entity, marked_block}
 use Rattle.sdl_productions.proofs.Lowering.{mapped, Lowers, give_lowers, then_lowers, next_lowers, choice_lowers, many_lowers}
 use Rattle.sdl_productions.proofs.MarkLemmas.{one_marked, list_gathered}
+use Rattle.sdl_tree.proofs.LoweredActions.{lowered_synonym, synonyms_lowers}
+use Rattle.sdl_tree.proofs.LowHeights.{synonyms_stay}
 use Rattle.sdl_tree.proofs.TextMarks.{marked_text, text_lowers}
 
 -- A part built from one part has the mark of that part.
@@ -86,6 +89,58 @@ connect_none =
     then_none high_in_entity (token (a_word words.Connect)) _ λ _. then_none high_in_entity names_at _ λ channels.
     then_none high_in_entity (token (a_word words.And)) _ λ _. then_none high_in_entity names_at _ λ routes.
     then_none high_in_entity terminator_at _ λ _. give_none high_in_entity (connect channels routes) refl
+
+variables_none : NoneRead high_in_declaration variables_at
+unfolding variables_at
+variables_none =
+    then_none high_in_declaration (token (a_word words.Dcl)) _ λ _. then_none high_in_declaration (separated group_at) _ λ groups.
+    then_none high_in_declaration terminator_at _ λ _. give_none high_in_declaration (variables groups) refl
+
+timers_none : NoneRead high_in_declaration timers_at
+unfolding timers_at
+timers_none =
+    then_none high_in_declaration (token (a_word words.Timer)) _ λ _. then_none high_in_declaration names_at _ λ names.
+    then_none high_in_declaration terminator_at _ λ _. give_none high_in_declaration (timers names) refl
+
+-- synonyms
+
+stays_marked : {A : Type 0} (p q : Option ℕ) (x y : A) → q ≡ p → (p ≡ None → y ≡ x) → by_place q y ≡ by_place p x
+stays_marked None q x y e h = ap (λ r. by_place r y) e ∙ ap (λ z. kept z) (h refl)
+stays_marked (Some at) q x y e h = ap (λ r. by_place r y) e
+
+give_synonyms : (list : List PlainSynonym) → Lowers (marked high_in_entity) (give (synonyms list)) (give (marked high_in_entity (synonyms (map lowered_synonym list))))
+unfolding Lowers mapped
+give_synonyms list ts =
+    let s = synonyms_stay list in
+    ap (λ m. read m ts)
+    (stays_marked (first_of high_in_synonym list) (first_of high_in_synonym (map lowered_synonym list)) (synonyms list) (synonyms (map lowered_synonym list)) s.place
+    (λ e. ap (λ l. synonyms l) (s.same e)))
+
+block_synonyms_lowers : Lowers (marked high_in_entity) block_synonyms_at marked_synonyms
+unfolding block_synonyms_at marked_synonyms
+block_synonyms_lowers =
+    then_lowers (map lowered_synonym) (marked high_in_entity) (synonyms_at (expression_at whole_trees)) _ (synonyms_at (expression_at low_trees)) _ synonyms_lowers λ list.
+    give_synonyms list
+
+give_own_synonyms : (list : List PlainSynonym) → Lowers (marked high_in_declaration) (give (own_synonyms list)) (give (marked high_in_declaration (own_synonyms (map lowered_synonym list))))
+unfolding Lowers mapped
+give_own_synonyms list ts =
+    let s = synonyms_stay list in
+    ap (λ m. read m ts)
+    (stays_marked (first_of high_in_synonym list) (first_of high_in_synonym (map lowered_synonym list)) (own_synonyms list) (own_synonyms (map lowered_synonym list)) s.place
+    (λ e. ap (λ l. own_synonyms l) (s.same e)))
+
+own_synonyms_lowers : Lowers (marked high_in_declaration) own_synonyms_at marked_own_synonyms
+unfolding own_synonyms_at marked_own_synonyms
+own_synonyms_lowers =
+    then_lowers (map lowered_synonym) (marked high_in_declaration) (synonyms_at (expression_at whole_trees)) _ (synonyms_at (expression_at low_trees)) _ synonyms_lowers λ list.
+    give_own_synonyms list
+
+declaration_lowers : Lowers (marked high_in_declaration) declaration_at marked_declaration
+unfolding declaration_at marked_declaration
+declaration_lowers =
+    choice_lowers (marked high_in_declaration) (a_word words.Dcl) variables_at _ (kept_at variables_at) _ (never_lowers high_in_declaration variables_at variables_none)
+    (choice_lowers (marked high_in_declaration) (a_word words.Synonym) own_synonyms_at timers_at marked_own_synonyms (kept_at timers_at) own_synonyms_lowers (never_lowers high_in_declaration timers_at timers_none))
 
 -- STATE parts.
 
@@ -176,38 +231,45 @@ start_lowers =
     then_lowers marked_text (marked high_in_start) (text_at whole_texts) _ (text_at marked_texts) _ text_lowers λ text.
     give_one high_in_start (high_in_text text) (start_with at) text refl
 
-process_by : (head : PlainProcessHead) (declarations : List PlainDeclaration) (start : PlainStart) (states : List PlainState) (connections : List PlainConnection) (p q r : Option ℕ)
-    → map_marked (λ x. process x) (process_marked head declarations (by_place p start) (by_place q states) (by_place r connections))
-    ≡ by_place (or_first p (lesser q r)) (process (process_with head declarations start states connections))
-process_by head declarations start states connections (Some at) q r = refl
-process_by head declarations start states connections None None None = refl
-process_by head declarations start states connections None None (Some at) = refl
-process_by head declarations start states connections None (Some at) None = refl
-process_by head declarations start states connections None (Some at) (Some other) = refl
+process_by : (head : PlainProcessHead) (declarations : List PlainDeclaration) (start : PlainStart) (states : List PlainState) (connections : List PlainConnection) (o p q r : Option ℕ)
+    → map_marked (λ x. process x) (process_marked head (by_place o declarations) (by_place p start) (by_place q states) (by_place r connections))
+    ≡ by_place (or_first o (or_first p (lesser q r))) (process (process_with head declarations start states connections))
+process_by head declarations start states connections (Some at) p q r = refl
+process_by head declarations start states connections None (Some at) q r = refl
+process_by head declarations start states connections None None None None = refl
+process_by head declarations start states connections None None None (Some at) = refl
+process_by head declarations start states connections None None (Some at) None = refl
+process_by head declarations start states connections None None (Some at) (Some other) = refl
 
 process_is : (head : PlainProcessHead) (declarations : List PlainDeclaration) (start : PlainStart) (sections : List PlainSection)
-    → map_marked (λ x. process x) (process_marked head declarations (marked high_in_start start) (gathered (filter_map marked_state_in (map section_mark sections))) (gathered (filter_map marked_connection_in (map section_mark sections))))
+    → map_marked (λ x. process x) (process_marked head (gathered (map (marked high_in_declaration) declarations)) (marked high_in_start start)
+    (gathered (filter_map marked_state_in (map section_mark sections))) (gathered (filter_map marked_connection_in (map section_mark sections))))
     ≡ marked high_in_entity (process (process_from head declarations start sections))
 unfolding high_in_start
 process_is head declarations start sections =
     let states : List PlainState = filter_map state_in sections in
     let connections : List PlainConnection = filter_map connection_in sections in
-    ap (λ ss. map_marked (λ x. process x) (process_marked head declarations (marked high_in_start start) ss (gathered (filter_map marked_connection_in (map section_mark sections)))))
+    ap (λ ds. map_marked (λ x. process x) (process_marked head ds (marked high_in_start start)
+    (gathered (filter_map marked_state_in (map section_mark sections))) (gathered (filter_map marked_connection_in (map section_mark sections)))))
+    (list_gathered high_in_declaration declarations)
+    ∙ (ap (λ ss. map_marked (λ x. process x) (process_marked head (marked (first_of high_in_declaration) declarations) (marked high_in_start start) ss (gathered (filter_map marked_connection_in (map section_mark sections)))))
     (ap gathered (states_marked sections) ∙ list_gathered high_in_state states)
-    ∙ ap (λ cs. map_marked (λ x. process x) (process_marked head declarations (marked high_in_start start) (marked (first_of high_in_state) states) cs))
+    ∙ (ap (λ cs. map_marked (λ x. process x) (process_marked head (marked (first_of high_in_declaration) declarations) (marked high_in_start start) (marked (first_of high_in_state) states) cs))
     (ap gathered (connections_marked sections) ∙ list_gathered high_in_connection connections)
-    ∙ process_by head declarations start states connections (high_in_text start.text) (first_of high_in_state states) (first_of high_in_connection connections)
+    ∙ process_by head declarations start states connections (first_of high_in_declaration declarations) (high_in_text start.text) (first_of high_in_state states) (first_of high_in_connection connections)))
 
 give_process_lowers : (head : PlainProcessHead) (declarations : List PlainDeclaration) (start : PlainStart) (sections : List PlainSection)
     → Lowers (marked high_in_entity) (give (process (process_from head declarations start sections)))
-    (give (map_marked (λ x. process x) (process_marked head declarations (marked high_in_start start) (gathered (filter_map marked_state_in (map section_mark sections))) (gathered (filter_map marked_connection_in (map section_mark sections))))))
+    (give (map_marked (λ x. process x) (process_marked head (gathered (map (marked high_in_declaration) declarations)) (marked high_in_start start)
+    (gathered (filter_map marked_state_in (map section_mark sections))) (gathered (filter_map marked_connection_in (map section_mark sections))))))
 unfolding Lowers mapped
 give_process_lowers head declarations start sections ts = ap (λ m. read m ts) (process_is head declarations start sections)
 
 process_lowers : Lowers (marked high_in_entity) process_at marked_process
 unfolding process_at marked_process
 process_lowers =
-    next_lowers (marked high_in_entity) process_head_at _ _ λ head. next_lowers (marked high_in_entity) (many a_declaration declaration_at) _ _ λ declarations.
+    next_lowers (marked high_in_entity) process_head_at _ _ λ head.
+    then_lowers (map (marked high_in_declaration)) (marked high_in_entity) (many a_declaration declaration_at) _ (many a_declaration marked_declaration) _ (many_lowers (marked high_in_declaration) a_declaration declaration_at marked_declaration declaration_lowers) λ declarations.
     then_lowers (marked high_in_start) (marked high_in_entity) start_at _ marked_start _ start_lowers λ start.
     then_lowers (map section_mark) (marked high_in_entity) (many a_section section_at) _ (many a_section marked_section) _ (many_lowers section_mark a_section section_at marked_section section_lowers) λ sections.
     next_lowers (marked high_in_entity) (token (a_word words.EndProcess)) _ _ λ _. next_lowers (marked high_in_entity) (closing_at head.name.name) _ _ λ _.
@@ -218,7 +280,8 @@ unfolding entity_at marked_entity
 entity_lowers =
     choice_lowers (marked high_in_entity) (a_word words.Signal) signals_at _ (kept_at signals_at) _ (never_lowers high_in_entity signals_at signals_none)
     (choice_lowers (marked high_in_entity) (a_word words.SignalRoute) route_at _ (kept_at route_at) _ (never_lowers high_in_entity route_at route_none)
-    (choice_lowers (marked high_in_entity) (a_word words.Connect) connect_at process_at (kept_at connect_at) marked_process (never_lowers high_in_entity connect_at connect_none) process_lowers))
+    (choice_lowers (marked high_in_entity) (a_word words.Connect) connect_at _ (kept_at connect_at) _ (never_lowers high_in_entity connect_at connect_none)
+    (choice_lowers (marked high_in_entity) (a_word words.Synonym) block_synonyms_at process_at marked_synonyms marked_process block_synonyms_lowers process_lowers)))
 
 block_with : Identifier → List PlainEntity → PlainBlock
 block_with name es = record { name = name; entities = es }

@@ -15,13 +15,13 @@ use Rattle.sdl_productions.proofs.Decides.{Decides, give_decides, token_decides,
 use Rattle.sdl_productions.proofs.Rows.{many_decides, separated_from_decides, separated_decides, list_decides}
 use Rattle.sdl_productions.proofs.SoundLemmas.{expression_decides}
 use Rattle.sdl_tree.proofs.TextDecides.{text_decides_from}
-use Rattle.sdl_tree.proofs.DeclarationsDecide.{whole, names_decides, terminator_decides, signals_decides, route_decides, connect_decides, constant_decides, declaration_decides}
+use Rattle.sdl_tree.proofs.DeclarationsDecide.{whole, names_decides, terminator_decides, signals_decides, route_decides, connect_decides, constant_decides, declaration_decides, block_synonyms_decides}
 
 place_decides : Decides place_syntax place_at
 unfolding place_syntax place_at
 place_decides = optional_decides a_name (token_decides a_name)
 
-stimulus_decides : Decides stimulus_syntax stimulus_at
+pub stimulus_decides : Decides stimulus_syntax stimulus_at
 unfolding stimulus_syntax stimulus_at
 stimulus_decides = do
   name ← token_decides a_name
@@ -112,7 +112,7 @@ reset_decides = do
   _ ← terminator_decides
   give_decides (reset_timer at timer)
 
-action_decides : Decides action_syntax (action_at whole)
+pub action_decides : Decides action_syntax (action_at whole)
 unfolding action_syntax action_at
 action_decides = choice_decides (a_word words.Task) task_decides (choice_decides (a_word words.Output) output_decides (choice_decides (a_word words.Set) set_decides reset_decides))
 
@@ -238,14 +238,14 @@ clause_decides : Decides clause_syntax clause_at
 unfolding clause_syntax clause_at
 clause_decides = choice_decides (a_word words.Input) input_decides save_decides
 
-closing_decides : (name : List ℕ) → Decides (closing_syntax name) (closing_at name)
+pub closing_decides : (name : List ℕ) → Decides (closing_syntax name) (closing_at name)
 unfolding closing_syntax closing_at
 closing_decides name = do
   closing ← optional_decides a_name (token_decides (a_closing name))
   _ ← terminator_decides
   give_decides closing
 
-end_state_decides : (name : List ℕ) → Decides (end_state_syntax name) (end_state_at name)
+pub end_state_decides : (name : List ℕ) → Decides (end_state_syntax name) (end_state_at name)
 unfolding end_state_syntax end_state_at
 end_state_decides name = do
   _ ← token_decides (a_word words.EndState)
@@ -262,7 +262,7 @@ state_decides = do
   _ ← optional_decides (a_word words.EndState) (end_state_decides name.name)
   give_decides (record { names = names; clauses = clauses })
 
-end_connection_decides : (name : List ℕ) → Decides (end_connection_syntax name) (end_connection_at name)
+pub end_connection_decides : (name : List ℕ) → Decides (end_connection_syntax name) (end_connection_at name)
 unfolding end_connection_syntax end_connection_at
 end_connection_decides name = do
   _ ← token_decides (a_word words.EndConnection)
@@ -317,7 +317,7 @@ instances_decides = do
   _ ← token_decides (a_symbol Close)
   give_decides first
 
-process_head_decides : Decides process_head_syntax process_head_at
+pub process_head_decides : Decides process_head_syntax process_head_at
 unfolding process_head_syntax process_head_at
 process_head_decides = do
   _ ← token_decides (a_word words.Process)
@@ -339,7 +339,7 @@ process_decides = do
 
 entity_decides : Decides entity_syntax entity_at
 unfolding entity_syntax entity_at
-entity_decides = choice_decides (a_word words.Signal) signals_decides (choice_decides (a_word words.SignalRoute) route_decides (choice_decides (a_word words.Connect) connect_decides process_decides))
+entity_decides = choice_decides (a_word words.Signal) signals_decides (choice_decides (a_word words.SignalRoute) route_decides (choice_decides (a_word words.Connect) connect_decides (choice_decides (a_word words.Synonym) block_synonyms_decides process_decides)))
 
 pub block_decides : Decides block_syntax block_at
 unfolding block_syntax block_at

@@ -1,16 +1,17 @@
 -- The concrete syntax of declarations, signals and routes (Z.100, concrete textual grammar): which
 -- trees the tokens read as.
-use Rattle.std.specs.Prelude.{ℕ, List, ◌∷◌, pos, ◌-ℤ◌}
+use Rattle.std.specs.Prelude.{ℕ, List, ◌∷◌}
 use Rattle.std.specs.Option.{option_to_list}
 use Rattle.sdl_lex.specs.declared.lexemes.Word.TheVariants as words
-use Rattle.sdl_lex.specs.declared.lexemes.Symbol.TheVariants.{Semicolon, Assign, Minus}
+use Rattle.sdl_lex.specs.declared.lexemes.Symbol.TheVariants.{Semicolon, Assign, Minus, Equal}
 use Rattle.sdl_ast.specs.declared.expression.Identifier.{Identifier}
 use Rattle.sdl_ast.specs.declared.tree.Constant.{Constant}
-use Rattle.sdl_ast.specs.declared.tree.Literal.TheVariants as literals
-use Rattle.sdl_ast.specs.Plain.{PlainGroup, PlainDeclaration, variables, timers, PlainPath}
-use Rattle.sdl_ast.specs.Plain.{PlainSignal, PlainEntity, signals, route, connect}
-use Rattle.sdl_productions.specs.Tokens.{a_word, a_symbol, a_number, a_name, a_sort, a_party}
-use Rattle.sdl_productions.specs.Tokens.{a_constant, a_quoted}
+use Rattle.sdl_ast.specs.Plain.{PlainGroup, PlainSynonym, PlainDeclaration, variables, timers}
+use Rattle.sdl_ast.specs.Plain.{own_synonyms, PlainPath, PlainSignal, PlainEntity, signals, route}
+use Rattle.sdl_ast.specs.Plain.{connect, synonyms}
+use Rattle.sdl_productions.specs.Expressions.{expression_syntax}
+use Rattle.sdl_productions.specs.Tokens.{a_word, a_symbol, a_name, a_sort, a_party, a_constant}
+use Rattle.sdl_productions.specs.Tokens.{a_negated, a_quoted}
 use Rattle.sdl_productions.specs.Grammar.{Grammar, give, token, ◌>>=◌, choice, optional, separated}
 use Rattle.sdl_productions.specs.Grammar.{list_in_parentheses}
 
@@ -76,14 +77,13 @@ connect_syntax = do
   _ ← terminator_syntax
   give (connect channels routes)
 
--- - number
+-- - ( number | name )
 unfoldable pub negative_syntax : Grammar Constant
 negative_syntax = do
   at ← token (a_symbol Minus)
-  value ← token a_number
-  give (record { at = at; value = literals.Integer (pos 0 -ℤ pos value) })
+  token (a_negated at)
 
--- [ - ] number | TRUE | FALSE
+-- [ - ] ( number | name ) | TRUE | FALSE
 unfoldable pub constant_syntax : Grammar Constant
 constant_syntax = choice (a_symbol Minus) negative_syntax (token a_constant)
 
@@ -117,6 +117,37 @@ timers_syntax = do
   _ ← terminator_syntax
   give (timers names)
 
--- a DCL or a TIMER
+-- name [sort] = expression
+unfoldable pub synonym_syntax : Grammar PlainSynonym
+synonym_syntax = do
+  name ← token a_name
+  sort ← optional a_sort (token a_sort)
+  _ ← token (a_symbol Equal)
+  value ← expression_syntax
+  give (record { name = name; sort = sort; value = value })
+
+-- SYNONYM name [sort] = expression {, name [sort] = expression} ;
+unfoldable pub synonyms_syntax : Grammar (List PlainSynonym)
+synonyms_syntax = do
+  _ ← token (a_word words.Synonym)
+  list ← separated synonym_syntax
+  _ ← terminator_syntax
+  give list
+
+-- the synonyms of a block
+unfoldable pub block_synonyms_syntax : Grammar PlainEntity
+block_synonyms_syntax = do
+  list ← synonyms_syntax
+  give (synonyms list)
+
+-- the synonyms of a process
+unfoldable pub own_synonyms_syntax : Grammar PlainDeclaration
+own_synonyms_syntax = do
+  list ← synonyms_syntax
+  give (own_synonyms list)
+
+-- a DCL, a SYNONYM or a TIMER
 unfoldable pub declaration_syntax : Grammar PlainDeclaration
-declaration_syntax = choice (a_word words.Dcl) variables_syntax timers_syntax
+declaration_syntax =
+    choice (a_word words.Dcl) variables_syntax
+    (choice (a_word words.Synonym) own_synonyms_syntax timers_syntax)

@@ -1,4 +1,5 @@
 pub mod DeclarationSyntax
+pub mod PlainTokens
 pub mod Printed
 pub mod Refusals
 pub mod SectionViews

@@ -11,7 +11,8 @@ use Rattle.sdl_ast.specs.Views.{block_of}
 use Rattle.sdl_ast.specs.Heights.{Height, first_too_high}
 
 -- No text that reads agrees with these tokens up to and including this index. The end counts as a
--- token: a text that ends there differs from one that continues.
+-- token: a text that ends there differs from one that continues. Each token says whether the word
+-- SYNONYM is in its text, so a text agrees only if it has the word as well, or lacks it as well.
 abbrev pub NoneAgrees : List Token → ℕ → Type 0
 NoneAgrees tokens at =
     (others : List Token) (b : PlainBlock) → take (at + 1) others ≡ take (at + 1) tokens

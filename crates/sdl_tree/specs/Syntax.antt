@@ -29,7 +29,7 @@ use Rattle.sdl_productions.specs.Grammar.{separated_from, separated, list_in_par
 use Rattle.sdl_productions.specs.Expressions.{expression_syntax}
 use Rattle.sdl_tree.specs.DeclarationSyntax.{names_syntax, terminator_syntax, signals_syntax}
 use Rattle.sdl_tree.specs.DeclarationSyntax.{route_syntax, connect_syntax, constant_syntax}
-use Rattle.sdl_tree.specs.DeclarationSyntax.{declaration_syntax}
+use Rattle.sdl_tree.specs.DeclarationSyntax.{declaration_syntax, block_synonyms_syntax}
 
 -- [ name ]
 unfoldable pub place_syntax : Grammar (Option Identifier)
@@ -381,8 +381,8 @@ process_head_syntax = do
   _ ← terminator_syntax
   give (process_head name instances)
 
--- PROCESS name [ ( number [, [number]] ) ] ; { DCL .. | TIMER .. } START .. { STATE .. | CONNECTION
--- .. } ENDPROCESS [name] ;
+-- PROCESS name [ ( number [, [number]] ) ] ; { DCL .. | SYNONYM .. | TIMER .. } START ..
+-- { STATE .. | CONNECTION .. } ENDPROCESS [name] ;
 unfoldable pub process_syntax : Grammar PlainEntity
 process_syntax = do
   head ← process_head_syntax
@@ -393,14 +393,16 @@ process_syntax = do
   _ ← closing_syntax head.name.name
   give (process (process_from head declarations start sections))
 
--- a SIGNAL, a SIGNALROUTE, a CONNECT or a PROCESS
+-- a SIGNAL, a SIGNALROUTE, a CONNECT, a SYNONYM or a PROCESS
 unfoldable pub entity_syntax : Grammar PlainEntity
 entity_syntax =
     choice (a_word words.Signal) signals_syntax
     (choice (a_word words.SignalRoute) route_syntax
-    (choice (a_word words.Connect) connect_syntax process_syntax))
+    (choice (a_word words.Connect) connect_syntax
+    (choice (a_word words.Synonym) block_synonyms_syntax process_syntax)))
 
--- BLOCK name ; { SIGNAL .. | SIGNALROUTE .. | CONNECT .. | PROCESS .. } ENDBLOCK [name] ;
+-- BLOCK name ; { SIGNAL .. | SIGNALROUTE .. | CONNECT .. | SYNONYM .. | PROCESS .. } ENDBLOCK
+-- [name] ;
 unfoldable pub block_syntax : Grammar PlainBlock
 block_syntax = do
   _ ← token (a_word words.Block)

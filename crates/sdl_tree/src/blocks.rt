@@ -5,7 +5,7 @@ ghost use Rattle.sdl_productions.specs.Readings.{token, optional};
 ghost use Rattle.sdl_ast.specs.Plain.{PlainEntity, process, process_head};
 ghost use Rattle.sdl_tree.specs.SectionViews.{head_of};
 ghost use Rattle.sdl_productions.specs.BodyViews.{marked_view};
-ghost use Rattle.sdl_productions.specs.Marks.{Marked, map_marked, body_marked, process_marked};
+ghost use Rattle.sdl_productions.specs.Marks.{Marked, map_marked, body_marked, start_marked, process_marked};
 ghost use Rattle.sdl_productions.specs.MarkedParts.{marked_process, marked_entity, marked_block};
 ghost use Rattle.sdl_productions.specs.Productions.{second_number_at, instances_at, process_head_at};
 ghost use Rattle.sdl_productions.specs.Tokens.{a_number, the_number, a_symbol, an_entity};
@@ -14,7 +14,7 @@ ghost use Rattle.sdl_productions.specs.Mirrors.{Mirrors, same};
 ghost use Rattle.sdl_productions.proofs.MarkedLengths.{marked_entity_takes, marked_entity_keeps};
 
 use crate::attempt::attempt;
-use crate::declarations::{read_connect, read_route, read_signals};
+use crate::declarations::{read_block_synonyms, read_connect, read_route, read_signals};
 use crate::endings::{read_closing, terminator};
 use crate::production::{Listed, Production, read_many};
 use crate::sections::{Sections, parted};
@@ -154,17 +154,52 @@ fn body_of(
     }
 }
 
-/// The process, or the first mark in it.
-fn process_of(
+/// The process, or the first mark in its START or after it.
+fn started(
     front: ProcessFront,
     start: Marked<Start>,
     states: Marked<Vec<StatePart>>,
     connections: Marked<Vec<Connection>>,
 ) -> Marked<Entity>
-    ensures { marked_view entity_of result ≡ map_marked (λ p. process p) (process_marked (process_head front.name (Some front.instances)) (map declaration_of front.declarations.items) (marked_view start_of start) (marked_view (λ v. map state_of v.items) states) (marked_view (λ v. map connection_of v.items) connections)) }
+    ensures { marked_view entity_of result ≡ map_marked (λ p. process p) (start_marked (process_head front.name (Some front.instances)) (map declaration_of front.declarations.items) (marked_view start_of start) (marked_view (λ v. map state_of v.items) states) (marked_view (λ v. map connection_of v.items) connections)) }
 {
     match start {
         Marked::Kept(start) => body_of(front, start, states, connections),
+        Marked::TooHigh(at) => Marked::TooHigh(at),
+    }
+}
+
+/// What follows the declarations of a process.
+#[derive(Drop)]
+struct ProcessBody {
+    start: Marked<Start>,
+    states: Marked<Vec<StatePart>>,
+    connections: Marked<Vec<Connection>>,
+}
+
+/// A process, where nothing in it is too high.
+fn process_of(
+    head: ProcessHead,
+    declarations: Marked<Vec<Declaration>>,
+    body: ProcessBody,
+) -> Marked<Entity>
+    ensures { marked_view entity_of result ≡ map_marked (λ p. process p) (process_marked (head_of head) (marked_view (λ v. map declaration_of v.items) declarations) (marked_view start_of body.start) (marked_view (λ v. map state_of v.items) body.states) (marked_view (λ v. map connection_of v.items) body.connections)) }
+{
+    let ProcessHead { name, instances } = head;
+    let ProcessBody {
+        start,
+        states,
+        connections,
+    } = body;
+    match declarations {
+        Marked::Kept(declarations) => {
+            let front = ProcessFront {
+                name,
+                instances,
+                declarations,
+            };
+            started(front, start, states, connections)
+        }
         Marked::TooHigh(at) => Marked::TooHigh(at),
     }
 }
@@ -178,23 +213,25 @@ fn read_process<'a>(
     ensures { Mirrors (marked_view entity_of) result (marked_process tokens.now) }
 {
     let (ProcessHead { name, instances }, rest) = attempt!(read_process_head(tokens));
-    let (declarations, rest) = attempt!(read_many::<Declaration>(alloc, rest));
+    let (declarations, rest) = attempt!(read_many::<Marked<Declaration>>(alloc, rest));
     let (start, rest) = attempt!(read_start(alloc, rest));
     let (sections, rest) = attempt!(read_many::<Section>(alloc, rest));
     let (_, rest) = attempt!(take(rest, Word::EndProcess));
     let (_, rest) = attempt!(read_closing(rest, name.name));
+    let declarations = attempt!(gathered(alloc, declarations));
     let Sections {
         states,
         connections,
     } = attempt!(parted(alloc, sections));
     let states = attempt!(gathered(alloc, states));
     let connections = attempt!(gathered(alloc, connections));
-    let front = ProcessFront {
-        name,
-        instances,
-        declarations,
+    let head = ProcessHead { name, instances };
+    let body = ProcessBody {
+        start,
+        states,
+        connections,
     };
-    Ok((process_of(front, start, states, connections), rest))
+    Ok((process_of(head, declarations, body), rest))
 }
 
 impl Production for Marked<Entity> {
@@ -222,6 +259,9 @@ impl Production for Marked<Entity> {
         if stands_next(tokens, Word::Connect) {
             let (entity, rest) = attempt!(read_connect(alloc, tokens));
             return Ok((Marked::Kept(entity), rest));
+        }
+        if stands_next(tokens, Word::Synonym) {
+            return Ok(attempt!(read_block_synonyms(alloc, tokens)));
         }
         Ok(attempt!(read_process(alloc, tokens)))
     }

@@ -1,28 +1,33 @@
-//! Reads signals, routes, variables and timers.
+//! Reads signals, routes, variables, timers and synonyms.
 ghost use Rattle.std.specs.Prelude.{◌≡◌, ◌∷◌, map, Option, None, IfOk, IfErr};
 ghost use Rattle.std.specs.Option.{option_map, option_to_list};
 ghost use Rattle.sdl_productions.specs.Readings.{token, separated, optional};
 ghost use Rattle.sdl_productions.specs.Productions.{place_at};
-ghost use Rattle.sdl_productions.specs.DeclarationProductions.{signal_at, signals_at, path_at, route_at, connect_at, negative_at, constant_at, initial_at, group_at, variables_at, timers_at, declaration_at};
+ghost use Rattle.sdl_productions.specs.DeclarationProductions.{signal_at, signals_at, path_at, route_at, connect_at, negative_at, constant_at, initial_at, group_at, variables_at, timers_at, synonym_at, synonyms_at};
+ghost use Rattle.sdl_productions.specs.Machine.{low_trees, expression_at};
+ghost use Rattle.sdl_productions.specs.BodyViews.{marked_view};
+ghost use Rattle.sdl_productions.specs.Marks.{Marked};
+ghost use Rattle.sdl_productions.specs.MarkedParts.{marked_own_synonyms, marked_declaration, marked_synonyms};
 ghost use Rattle.sdl_productions.specs.Tokens.{a_name, a_sort, a_word, a_symbol, a_declaration};
 ghost use Rattle.sdl_lex.specs.declared.lexemes.Symbol.TheVariants.{Assign};
 ghost use Rattle.sdl_lex.specs.declared.lexemes.Word.TheVariants.{From};
-ghost use Rattle.sdl_ast.specs.Plain.{PlainSignal, PlainGroup, PlainDeclaration};
-ghost use Rattle.sdl_ast.specs.Views.{signal_of, path_of, entity_of, group_of, declaration_of};
+ghost use Rattle.sdl_ast.specs.Plain.{PlainSignal, PlainGroup, PlainSynonym, PlainDeclaration};
+ghost use Rattle.sdl_ast.specs.Views.{signal_of, path_of, entity_of, group_of, declaration_of, synonym_of};
 ghost use Rattle.sdl_productions.specs.Mirrors.{Mirrors, same};
-ghost use Rattle.sdl_productions.proofs.Lengths.{name_keeps, sort_keeps, signal_keeps, group_keeps, place_keeps, declaration_takes, declaration_keeps};
+ghost use Rattle.sdl_productions.proofs.Lengths.{name_keeps, sort_keeps, signal_keeps, group_keeps, place_keeps, low_synonym_keeps};
+ghost use Rattle.sdl_productions.proofs.MarkedLengths.{marked_declaration_takes, marked_declaration_keeps};
 
 use crate::attempt::attempt;
 use crate::endings::terminator;
 use crate::production::{Listed, Production, read_in_parentheses, read_separated};
 use sdl_ast::{
-    Connect, Constant, Declaration, Entity, Group, Identifier, Literal, Path, Route,
-    SignalDeclaration, Sort,
+    Connect, Constant, Declaration, Entity, Group, Identifier, Path, Route, SignalDeclaration,
+    Sort, Synonym,
 };
 use sdl_lex::{Symbol, Token, Word};
 use sdl_productions::{
-    AnyConstant, AnyDeclaration, AnyName, AnyNumber, AnyParty, AnySort, Stop, push, stands_next,
-    take,
+    AnyConstant, AnyDeclaration, AnyName, AnyParty, AnySort, Marked, Negated, Stop, expression,
+    limited_own_synonyms, limited_synonyms, push, stands_next, take,
 };
 use std::alloc::Global;
 
@@ -193,18 +198,16 @@ pub(crate) fn read_connect<'a>(
     Ok((Entity::Connect(Connect { channels, routes }), rest))
 }
 
-/// Reads `- number`.
+/// Reads `- ( number | name )`.
 #[tactic(auto, unfolding(sdl_productions::specs::DeclarationProductions::negative_at))]
 fn read_negative<'a>(tokens: &'a [Token]) -> Result<(Constant, &'a [Token]), Stop<'a>>
     ensures { Mirrors same result (negative_at tokens.now) }
 {
     let (at, rest) = attempt!(take(tokens, Symbol::Minus));
-    let (value, rest) = attempt!(take(rest, AnyNumber));
-    let value = Literal::Integer(-(value as i32));
-    Ok((Constant { at, value }, rest))
+    take(rest, Negated(at))
 }
 
-/// Reads `[ - ] number`, TRUE or FALSE.
+/// Reads `[ - ] ( number | name )`, TRUE or FALSE.
 #[tactic(auto, unfolding(sdl_productions::specs::DeclarationProductions::constant_at))]
 pub(crate) fn read_constant<'a>(tokens: &'a [Token]) -> Result<(Constant, &'a [Token]), Stop<'a>>
     ensures { Mirrors same result (constant_at tokens.now) }
@@ -290,31 +293,104 @@ fn read_timers<'a>(
     Ok((Declaration::Timers(names), rest))
 }
 
-impl Production for Declaration {
-    ghost Plain = { PlainDeclaration };
+/// Reads `[ sort ]`.
+fn read_optional_sort<'a>(tokens: &'a [Token]) -> Result<(Option<Sort>, &'a [Token]), Stop<'a>>
+    ensures { Mirrors same result (optional a_sort (token a_sort) tokens.now) }
+{
+    if !stands_next(tokens, AnySort) {
+        return Ok((None, tokens));
+    }
+    let (found, rest) = attempt!(take(tokens, AnySort));
+    Ok((Some(found), rest))
+}
 
-    ghost view = { declaration_of };
+impl Production for Synonym {
+    ghost Plain = { PlainSynonym };
 
-    ghost reading = { declaration_at };
+    ghost view = { synonym_of };
 
-    ghost never_longer = { declaration_keeps };
+    ghost reading = { synonym_at (expression_at low_trees) };
 
-    #[tactic(auto, unfolding(sdl_productions::specs::DeclarationProductions::declaration_at))]
-    fn read<'a>(
-        alloc: Global,
-        tokens: &'a [Token],
-    ) -> Result<(Declaration, &'a [Token]), Stop<'a>> {
-        if stands_next(tokens, Word::Dcl) {
-            return Ok(attempt!(read_variables(alloc, tokens)));
-        }
-        Ok(attempt!(read_timers(alloc, tokens)))
+    ghost never_longer = { low_synonym_keeps };
+
+    #[tactic(auto, unfolding(sdl_productions::specs::DeclarationProductions::synonym_at))]
+    fn read<'a>(alloc: Global, tokens: &'a [Token]) -> Result<(Synonym, &'a [Token]), Stop<'a>> {
+        let (name, rest) = attempt!(take(tokens, AnyName));
+        let (sort, rest) = attempt!(read_optional_sort(rest));
+        let (_, rest) = attempt!(take(rest, Symbol::Equal));
+        let (value, rest) = attempt!(expression(alloc, rest));
+        Ok((Synonym { name, sort, value }, rest))
     }
 }
 
-impl Listed for Declaration {
+/// Reads `SYNONYM name [sort] = expression {, name [sort] = expression} ;`.
+#[tactic(auto, unfolding(sdl_productions::specs::DeclarationProductions::synonyms_at))]
+fn read_synonyms<'a>(
+    alloc: Global,
+    tokens: &'a [Token],
+) -> Result<(Vec<Synonym>, &'a [Token]), Stop<'a>>
+    ensures { Mirrors (λ v. map synonym_of v.items) result (synonyms_at (expression_at low_trees) tokens.now) }
+{
+    let (_, rest) = attempt!(take(tokens, Word::Synonym));
+    let (list, rest) = attempt!(read_separated::<Synonym>(alloc, rest));
+    let (_, rest) = attempt!(terminator(rest));
+    Ok((list, rest))
+}
+
+/// Reads the SYNONYM of a block.
+#[tactic(auto, unfolding(sdl_productions::specs::MarkedParts::marked_synonyms))]
+pub(crate) fn read_block_synonyms<'a>(
+    alloc: Global,
+    tokens: &'a [Token],
+) -> Result<(Marked<Entity>, &'a [Token]), Stop<'a>>
+    ensures { Mirrors (marked_view entity_of) result (marked_synonyms tokens.now) }
+{
+    let (list, rest) = attempt!(read_synonyms(alloc, tokens));
+    Ok((limited_synonyms(list), rest))
+}
+
+/// Reads the SYNONYM of a process.
+#[tactic(auto, unfolding(sdl_productions::specs::MarkedParts::marked_own_synonyms))]
+fn read_own_synonyms<'a>(
+    alloc: Global,
+    tokens: &'a [Token],
+) -> Result<(Marked<Declaration>, &'a [Token]), Stop<'a>>
+    ensures { Mirrors (marked_view declaration_of) result (marked_own_synonyms tokens.now) }
+{
+    let (list, rest) = attempt!(read_synonyms(alloc, tokens));
+    Ok((limited_own_synonyms(list), rest))
+}
+
+impl Production for Marked<Declaration> {
+    ghost Plain = { Marked PlainDeclaration };
+
+    ghost view = { marked_view declaration_of };
+
+    ghost reading = { marked_declaration };
+
+    ghost never_longer = { marked_declaration_keeps };
+
+    #[tactic(auto, unfolding(sdl_productions::specs::MarkedParts::marked_declaration))]
+    fn read<'a>(
+        alloc: Global,
+        tokens: &'a [Token],
+    ) -> Result<(Marked<Declaration>, &'a [Token]), Stop<'a>> {
+        if stands_next(tokens, Word::Dcl) {
+            let (declaration, rest) = attempt!(read_variables(alloc, tokens));
+            return Ok((Marked::Kept(declaration), rest));
+        }
+        if stands_next(tokens, Word::Synonym) {
+            return Ok(attempt!(read_own_synonyms(alloc, tokens)));
+        }
+        let (declaration, rest) = attempt!(read_timers(alloc, tokens));
+        Ok((Marked::Kept(declaration), rest))
+    }
+}
+
+impl Listed for Marked<Declaration> {
     ghost starts = { a_declaration };
 
-    ghost shortens = { declaration_takes };
+    ghost shortens = { marked_declaration_takes };
 
     fn is_next(tokens: &[Token]) -> bool {
         stands_next(tokens, AnyDeclaration)

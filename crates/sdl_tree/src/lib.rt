@@ -16,9 +16,9 @@ mod statements;
 mod transitions;
 
 pub use fault::ParseFault;
-pub use parsing::{parse, reads_once};
+pub use parsing::{parse, reads_once, reads_plain};
 pub use sdl_ast::{
-    Action, Answer, Assignment, BinaryOperator, Block, Decision, Destination, End, Expression,
-    Identifier, Literal, Output, Party, Process, Range, Sending, SignalDeclaration, Sort,
-    StateClause, Statement, Stimulus, Transition, UnaryOperator,
+    Action, Answer, Assignment, BinaryOperator, Block, Decision, Declaration, Destination, End,
+    Entity, Expression, Identifier, Literal, Output, Party, Process, Range, Sending,
+    SignalDeclaration, Sort, StateClause, Statement, Stimulus, Synonym, Transition, UnaryOperator,
 };

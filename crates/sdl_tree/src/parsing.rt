@@ -1,5 +1,6 @@
 //! Parses tokens into a tree.
 ghost use Rattle.std.specs.Prelude.{◌≡◌, IfOk, IfErr};
+ghost use Rattle.sdl_tree.specs.PlainTokens.{PlainReading};
 ghost use Rattle.sdl_tree.specs.Refusals.{Answers, Refuses};
 ghost use Rattle.sdl_ast.specs.Plain.{PlainBlock};
 ghost use Rattle.sdl_tree.specs.Settled.{Settled};
@@ -39,16 +40,16 @@ fn read_text(alloc: Global, tokens: &[Token]) -> Result<Block, ParseFault>
 ///
 /// - [`ParseFault::Unexpected`] if and only if the tokens read as no tree, however high the part before the fault is.
 ///   It holds the index of the first token that doesn't fit, or the number of tokens if they end too early.
-/// - [`ParseFault::TooDeep`] if and only if the tokens read as a tree with a TASK, OUTPUT, SET or DECISION higher than
-///   [`MAX_HEIGHT`](crate::MAX_HEIGHT). It holds the place, in bytes, of the first one. A DECISION is one higher
-///   than the highest of its question and its answers.
+/// - [`ParseFault::TooDeep`] if and only if the tokens read as a tree with a TASK, OUTPUT, SET, DECISION or synonym higher
+///   than [`MAX_HEIGHT`](crate::MAX_HEIGHT). It holds the place, in bytes, of the first one; of a synonym that of its
+///   name. A DECISION is one higher than the highest of its question and its answers.
 /// - [`ParseFault::NoMemory`] if memory ran out, instead of any other answer.
 pub fn parse(alloc: Global, tokens: &[Token]) -> Result<Block, ParseFault>
     // a tree that is returned is one that the tokens read as
     ensures found { IfOk result (λ block. Reads tokens.now (block_of block)) }
     // a tree that the tokens read as is returned, or refused if it is too high
     ensures exact { (b : PlainBlock) → Reads tokens.now b → Answers result b }
-    // no text that reads begins with the tokens up to and including an unexpected one
+    // no text that reads agrees with the tokens up to and including an unexpected one
     ensures refused { IfErr result (λ fault. Refuses tokens.now fault) }
     // the unexpected token is the first at which the grammar, read from the front, stops; the place of TooDeep is that
     // of the first statement that is too high, from the front
@@ -60,6 +61,13 @@ pub fn parse(alloc: Global, tokens: &[Token]) -> Result<Block, ParseFault>
 /// Law: tokens read as at most one tree.
 pub fn reads_once(tokens: &[Token])
     ensures { (b c : PlainBlock) → Reads tokens.now b → Reads tokens.now c → b ≡ c }
+{
+    let _ = tokens;
+}
+
+/// Law: if no token is the word SYNONYM, or is in a text with it, the text has no synonyms.
+pub fn reads_plain(tokens: &[Token])
+    ensures { PlainReading tokens.now }
 {
     let _ = tokens;
 }

@@ -5,7 +5,7 @@ use Rattle.std.specs.Prelude.{option_to_list}
 use Rattle.std.proofs.lemmas.Grind.{flat_map-append}
 use Rattle.sdl_ast.specs.declared.tree.Join.{Join}
 use Rattle.sdl_ast.specs.Plain.{PlainInput, PlainProcess}
-use Rattle.sdl_sound.specs.TableNames.{number_of, connector_names}
+use Rattle.sdl_tables.specs.Names.{number_of, connector_names}
 use Rattle.sdl_sound.specs.Orders.{targets_of}
 use Rattle.sdl_sound.specs.Statements.{joins_of}
 use Rattle.sdl_tables.proofs.Numbers.{joined_push}

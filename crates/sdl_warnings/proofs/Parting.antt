@@ -39,7 +39,7 @@ pub answers_past : (start now : List Statement) (q : Tree) (xs : List Answer) (i
     → now ++ choice_statements q others ≡ start
 answers_past start now q xs i others past before = ap (λ l. now ++ choice_statements q (answers_before l others)) (sym (drop_all i xs past)) ∙ before
 
--- an action alone, and a DECISION alone
+-- a sole action, and a sole DECISION
 pub act_on : (old new : List Statement) (a : Action) → new ≡ old ++ acts (action_of a) ∷ [] → (rest : Text) → new ++ statements_of rest ≡ old ++ statements_of (statement_of (Act a) rest)
 act_on old new a more rest =
     ap (λ l. l ++ statements_of rest) more ∙ (append_assoc old (acts (action_of a) ∷ []) (statements_of rest) ∙ ap (λ t. old ++ statements_of t) (sym (statement_of-act a rest)))

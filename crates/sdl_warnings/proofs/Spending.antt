@@ -1,8 +1,7 @@
 -- An answer of which nothing is left where a range begins or ends has nothing left at all.
 use Rattle.std.proofs.Common.{◌≡◌, ◌⊎◌, inl, inr, ℕ, zero, suc, ◌+◌, Bool, true, false, not, ◌&&◌, ◌||◌, List, [], ◌∷◌, refl, sym, ap, ◌∙◌, subst, arith}
 use Rattle.std.proofs.lemmas.Int.{ints}
-use Rattle.std.specs.Prelude.{ℤ, pos, negsuc, ◌+ℤ◌, ◌≤ℤ◌, int_lt, int_le}
-use Rattle.std.specs.Ordering.{int_eq}
+use Rattle.std.specs.Prelude.{ℤ, pos, negsuc, ◌+ℤ◌, ◌≤ℤ◌, int_lt}
 use Rattle.std.specs.List.{list_any, list_all}
 use Rattle.std.proofs.lemmas.Bool.{cases_eq, not-true, or_cases, and_from}
 use Rattle.plain_laws.proofs.Truths.{and_first, and_second}
@@ -12,7 +11,7 @@ use Rattle.sdl_ast.specs.declared.tree.Relation.{Relation}
 use Rattle.sdl_ast.specs.declared.tree.Relation.TheVariants.{Equal, NotEqual, Less, LessEqual, Greater, GreaterEqual}
 use Rattle.sdl_ast.specs.declared.tree.Range.{Range}
 use Rattle.sdl_ast.specs.declared.tree.Range.TheVariants.{Value, Compared, Between}
-use Rattle.sdl_warnings.specs.Values.{compares, stands, has_value, is_left, none_from, LEAST, INTEGERS, is_spent}
+use Rattle.sdl_warnings.specs.Values.{compares, stands, has_value, is_left, none_from, LEAST, INTEGERS}
 use Rattle.sdl_warnings.specs.Bounds.{GREATEST, none_at, none_at_range, IsLeft}
 
 -- the next Integer stands to a constant as this one does, unless one of them is the constant

@@ -1,6 +1,6 @@
 -- What the tables of ways and of takers say of the states of a process.
 use Rattle.std.proofs.Common.{◌≡◌, ◌<◌, ℕ, zero, suc, ◌+◌, Bool, not, ◌&&◌, ◌||◌, List, [], ◌∷◌, ◌++◌, length, map, take, get_or, refl, sym, ap, ◌∙◌, arith, Some, true, false}
-use Rattle.std.specs.Prelude.{filter, find, slice_get}
+use Rattle.std.specs.Prelude.{filter}
 use Rattle.std.specs.List.{list_any}
 use Rattle.std.specs.Global.{Vec}
 use Rattle.std.specs.Option.{option_map_or}
@@ -10,9 +10,7 @@ use Rattle.plain_laws.proofs.Lists.{mapped_more}
 use Rattle.sdl_measures.specs.Links.{graph_in}
 use Rattle.sdl_ast.specs.declared.expression.Identifier.{Identifier}
 use Rattle.sdl_ast.specs.Plain.{PlainProcess}
-use Rattle.sdl_sound.specs.TableNames.{Input, states_of, number_of, inputs_of, inputs_by_state}
-use Rattle.sdl_tables.specs.Rows.{rows_inputs}
-use Rattle.sdl_tables.specs.declared.process_table.InputRow.{InputRow}
+use Rattle.sdl_tables.specs.Names.{Input, states_of, number_of, inputs_of, inputs_by_state}
 use Rattle.sdl_warnings.specs.Marked.{is_marked}
 use Rattle.sdl_warnings.specs.Reaches.{is_way_in}
 use Rattle.sdl_warnings.specs.Ways.{enters, leads, upto, state_numbers, state_links, is_way, is_entered}

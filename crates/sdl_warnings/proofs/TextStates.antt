@@ -8,7 +8,7 @@ use Rattle.sdl_ast.specs.declared.expression.Identifier.{Identifier}
 use Rattle.sdl_ast.specs.declared.tree.Connection.{Connection}
 use Rattle.sdl_ast.specs.Plain.{Text, PlainConnection, PlainProcess}
 use Rattle.sdl_ast.specs.Views.{connection_of}
-use Rattle.sdl_sound.specs.Joins.{reaches, reached}
+use Rattle.sdl_sound.specs.Joins.{reaches}
 use Rattle.sdl_warnings.specs.Marked.{is_marked, marked_only}
 use Rattle.sdl_warnings.specs.Ways.{text_states, exits}
 use Rattle.sdl_warnings.proofs.Marking.{only_push, only_passing}

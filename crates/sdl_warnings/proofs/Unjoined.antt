@@ -1,11 +1,11 @@
 -- The warnings of connections, one connection further on.
-use Rattle.std.proofs.Common.{◌≡◌, ℕ, zero, suc, ◌+◌, ◌<◌, Bool, List, [], ◌∷◌, ◌++◌, Some, length, map, take, get_or, refl, sym, ap, ◌∙◌, arith}
+use Rattle.std.proofs.Common.{◌≡◌, ℕ, zero, suc, ◌+◌, ◌<◌, Bool, List, [], ◌∷◌, ◌++◌, Some, length, map, take, get_or, sym, ap, ◌∙◌, arith}
 use Rattle.std.specs.Prelude.{slice_get}
 use Rattle.std.specs.List.{flat_map}
 use Rattle.plain_laws.proofs.Lists.{mapped_more}
 use Rattle.sdl_tables.proofs.Growing.{join_on}
 use Rattle.sdl_ast.specs.declared.tree.Connection.{Connection}
-use Rattle.sdl_ast.specs.Plain.{PlainConnection, PlainProcess}
+use Rattle.sdl_ast.specs.Plain.{PlainProcess}
 use Rattle.sdl_ast.specs.Views.{connection_of}
 use Rattle.sdl_warnings.specs.Marked.{is_marked}
 use Rattle.sdl_warnings.specs.Warned.{unless, warned, is_joined, unreached_connection}

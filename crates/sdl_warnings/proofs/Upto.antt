@@ -2,10 +2,10 @@
 use Rattle.std.proofs.Common.{◌≡◌, ℕ, zero, suc, ◌+◌, ◌<◌, Bool, ◌||◌, List, [], ◌∷◌, ◌++◌, length, map, refl, sym, ap, ◌∙◌, arith, Some}
 use Rattle.std.specs.Prelude.{slice_get}
 use Rattle.std.specs.List.{list_any, enumerate_from}
-use Rattle.std.proofs.lemmas.List.{map_push, map-append}
+use Rattle.std.proofs.lemmas.List.{map_push}
 use Rattle.std.proofs.lemmas.List.Folds.{list_any-append}
 use Rattle.sdl_ast.specs.Plain.{PlainProcess}
-use Rattle.sdl_sound.specs.TableNames.{states_of, inputs_of, inputs_by_state}
+use Rattle.sdl_tables.specs.Names.{states_of, inputs_of, inputs_by_state}
 use Rattle.sdl_warnings.specs.Ways.{upto, state_numbers}
 
 pub upto_more : (n : ℕ) → upto (n + 1) ≡ upto n ++ n ∷ []

@@ -10,18 +10,18 @@ use Rattle.sdl_warnings.specs.declared.warning.Kind.TheVariants.{FixedDecision, 
 
 -- the code and the name of a kind
 abbrev pub kind_name : Kind → List ℕ
-kind_name (UnreachedState state) = codes "W1 UnreachedState"
-kind_name (UnsentInput signal process) = codes "W2 UnsentInput"
-kind_name (UntakenTimer timer) = codes "W3 IdleTimer"
-kind_name (UnsetTimer timer) = codes "W3 IdleTimer"
-kind_name (UnusedVariable variable) = codes "W4 UnreadVariable"
-kind_name (AssignedVariable variable) = codes "W4 UnreadVariable"
-kind_name (UnroutedSignal signal) = codes "W5 StraySignal"
-kind_name (UntakenSignal signal process) = codes "W5 StraySignal"
-kind_name (VainSave signal state) = codes "W6 VainSave"
-kind_name SpentAnswer = codes "W7 SpentAnswer"
-kind_name FixedDecision = codes "W8 FixedDecision"
-kind_name (UnreachedConnection connection) = codes "W10 UnreachedConnection"
+kind_name (UnreachedState state) = codes "A1 UnreachedState"
+kind_name (UnsentInput signal process) = codes "A2 UnsentInput"
+kind_name (UntakenTimer timer) = codes "A3 IdleTimer"
+kind_name (UnsetTimer timer) = codes "A3 IdleTimer"
+kind_name (UnusedVariable variable) = codes "A4 UnreadVariable"
+kind_name (AssignedVariable variable) = codes "A4 UnreadVariable"
+kind_name (UnroutedSignal signal) = codes "A5 StraySignal"
+kind_name (UntakenSignal signal process) = codes "A5 StraySignal"
+kind_name (VainSave signal state) = codes "A6 VainSave"
+kind_name SpentAnswer = codes "A7 SpentAnswer"
+kind_name FixedDecision = codes "A8 FixedDecision"
+kind_name (UnreachedConnection connection) = codes "A10 UnreachedConnection"
 
 -- the sentence
 abbrev pub kind_text : Kind → List ℕ

@@ -1,8 +1,8 @@
 -- What the code keeps: statements, ways among states, and the states that take a signal.
-use Rattle.std.specs.Prelude.{◌≡◌, ◌<◌, ℕ, map, length, List}
+use Rattle.std.specs.Prelude.{◌≡◌, ◌<◌, ℕ, map, length}
 use Rattle.sdl_ast.specs.Plain.{PlainProcess}
-use Rattle.sdl_sound.specs.TableNames.{states_of}
-use Rattle.sdl_sound.specs.Statements.{Statement, acts, asks, covers, finishes}
+use Rattle.sdl_tables.specs.Names.{states_of}
+use Rattle.sdl_sound.specs.Statements.{Statement, acts, covers, finishes}
 use Rattle.sdl_sound.specs.Parts.{question_of}
 use Rattle.sdl_ast.specs.Views.{tree_of, action_of, process_of}
 use Rattle.sdl_ast.specs.declared.tree.Decision.{out-Decision}

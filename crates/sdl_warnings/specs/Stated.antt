@@ -4,7 +4,7 @@ use Rattle.std.specs.Prelude.{List, ◌++◌}
 use Rattle.std.specs.List.{flat_map}
 use Rattle.sdl_ast.specs.Plain.{PlainProcess}
 use Rattle.sdl_sound.specs.Statements.{Statement, statements_of}
-use Rattle.sdl_sound.specs.TableNames.{input_parts}
+use Rattle.sdl_tables.specs.Names.{input_parts}
 
 abbrev pub process_statements : PlainProcess → List Statement
 process_statements p =

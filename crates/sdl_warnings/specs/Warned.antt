@@ -1,6 +1,6 @@
 -- The warnings of a text: for each kind a list, with a warning for each place where its condition
 -- holds.
-use Rattle.std.specs.Prelude.{◌≡◌, ℕ, Bool, true, false, not, ◌&&◌, ◌||◌, List, [], ◌∷◌, ◌++◌}
+use Rattle.std.specs.Prelude.{ℕ, Bool, true, false, not, ◌&&◌, ◌||◌, List, [], ◌∷◌, ◌++◌}
 use Rattle.std.specs.Prelude.{Option, None, Some, if◌then◌else◌, find, slice_get}
 use Rattle.std.specs.List.{list_any, flat_map}
 use Rattle.std.specs.List.Sorted.{IsPermutation, IsNonDecreasingBy}
@@ -12,15 +12,15 @@ use Rattle.sdl_ast.specs.declared.tree.Destination.{Destination}
 use Rattle.sdl_ast.specs.declared.tree.Destination.TheVariants as address
 use Rattle.sdl_ast.specs.declared.tree.Range.{Range}
 use Rattle.sdl_ast.specs.declared.tree.Join.{Join}
-use Rattle.sdl_ast.specs.Plain.{Tree, number, truth, variable, unary, binary, PlainAssignment}
+use Rattle.sdl_ast.specs.Plain.{Tree, number, truth, variable, unary, binary}
 use Rattle.sdl_ast.specs.Plain.{PlainSending, PlainAction, task, output, set_timer, reset_timer}
 use Rattle.sdl_ast.specs.Plain.{Choice, nothing_else, otherwise, answer, PlainConnection}
 use Rattle.sdl_ast.specs.Plain.{PlainStimulus, PlainInput, PlainState, PlainProcess, PlainPath}
 use Rattle.sdl_ast.specs.Plain.{PlainSignal, PlainClause, PlainDeclaration, PlainBlock}
-use Rattle.sdl_sound.specs.TableNames.{same_name, is_in, number_of, signals_of, processes_of}
-use Rattle.sdl_sound.specs.TableNames.{variable_names, timers_of, states_of, input_parts, Input}
-use Rattle.sdl_sound.specs.TableNames.{inputs_of, stimulus_of, clause_saves, part_triggers}
-use Rattle.sdl_sound.specs.TableNames.{timers_in}
+use Rattle.sdl_tables.specs.Names.{same_name, is_in, number_of, signals_of, processes_of}
+use Rattle.sdl_tables.specs.Names.{variable_names, timers_of, states_of, input_parts, Input}
+use Rattle.sdl_tables.specs.Names.{inputs_of, stimulus_of, clause_saves, part_triggers}
+use Rattle.sdl_tables.specs.Names.{timers_in}
 use Rattle.sdl_sound.specs.Names.{tree_names, place_names}
 use Rattle.sdl_sound.specs.Receivers.{party_of, paths_of, carries}
 use Rattle.sdl_sound.specs.Statements.{Statement, acts, asks, covers, finishes, joins_of}
@@ -45,7 +45,7 @@ warned at kind = record { at = at; kind = kind } ∷ []
 abbrev pub unless : Bool → List Warning → List Warning
 unless holds found = if holds then [] else found
 
--- ---- W1: a state to which no way leads from START
+-- ---- A1: a state to which no way leads from START
 
 abbrev pub unreached_at : Option Identifier → List Warning
 unreached_at None = []
@@ -57,7 +57,7 @@ unreached_state p n = unless (is_entered p n) (unreached_at (slice_get (states_o
 abbrev pub unreached_states : PlainProcess → List Warning
 unreached_states p = flat_map (unreached_state p) (state_numbers p)
 
--- ---- W2: an input of a signal that nobody sends there. The environment sends what a route brings
+-- ---- A2: an input of a signal that nobody sends there. The environment sends what a route brings
 -- from it. A process sends what a route brings from it if it has an OUTPUT of it without TO, with
 -- TO SENDER or with TO the receiver.
 
@@ -93,7 +93,7 @@ unsent_stimulus b p x =
 abbrev pub unsent_inputs : PlainBlock → PlainProcess → List Warning
 unsent_inputs b p = flat_map (λ i. flat_map (unsent_stimulus b p) i.stimuli) (input_parts p)
 
--- ---- W3: a timer that is set and never an input, or an input and never set
+-- ---- A3: a timer that is set and never an input, or an input and never set
 
 abbrev pub sets_timer : List ℕ → Statement → Bool
 sets_timer x (acts (task at assignments)) = false
@@ -125,7 +125,7 @@ idle_in_declaration p d = flat_map (idle_timer p) (timers_in d)
 abbrev pub idle_timers : PlainProcess → List Warning
 idle_timers p = flat_map (idle_in_declaration p) p.declarations
 
--- ---- W4: a variable that no expression reads
+-- ---- A4: a variable that no expression reads
 
 abbrev pub reads_in : List ℕ → Tree → Bool
 reads_in x t = is_in (tree_names t) x
@@ -178,7 +178,7 @@ unread_variable p id =
 abbrev pub unread_variables : PlainProcess → List Warning
 unread_variables p = flat_map (unread_variable p) (variable_names p)
 
--- ---- W5: a signal on no route, or on a route to a process that neither takes nor saves it
+-- ---- A5: a signal on no route, or on a route to a process that neither takes nor saves it
 
 abbrev pub is_routed : PlainBlock → List ℕ → Bool
 is_routed b s = list_any (λ path. is_in path.signals s) (paths_of b)
@@ -211,7 +211,7 @@ untaken_in_path b path = untaken_to b path.signals path.to
 abbrev pub untaken_signals : PlainBlock → List Warning
 untaken_signals b = flat_map (untaken_in_path b) (paths_of b)
 
--- ---- W6: a signal or timer that is saved in a state from which no way leads to one that takes it
+-- ---- A6: a signal or timer that is saved in a state from which no way leads to one that takes it
 
 abbrev pub takes_in : List ℕ → List Input → Bool
 takes_in x inputs = list_any (λ i. same_name x (stimulus_of i).name) inputs
@@ -244,7 +244,7 @@ vain_in_part p part = flat_map (vain_in_clause p part) part.clauses
 abbrev pub vain_saves : PlainProcess → List Warning
 vain_saves p = flat_map (vain_in_part p) p.states
 
--- ---- W7: an answer whose values earlier answers match
+-- ---- A7: an answer whose values earlier answers match
 
 abbrev pub spent_answers : List Range → Choice → List Warning
 spent_answers earlier nothing_else = []
@@ -253,7 +253,7 @@ spent_answers earlier (answer at ranges body others) =
     unless (not (is_spent earlier ranges)) (warned at SpentAnswer)
     ++ spent_answers (earlier ++ ranges) others
 
--- ---- W8: a DECISION whose question has no variable
+-- ---- A8: a DECISION whose question has no variable
 
 abbrev pub is_constant : Tree → Bool
 is_constant (number at k) = true
@@ -274,7 +274,7 @@ statement_warnings (finishes e) = []
 abbrev pub decision_warnings : PlainProcess → List Warning
 decision_warnings p = flat_map statement_warnings (process_statements p)
 
--- ---- W10: a connection to which no JOIN leads from START or an INPUT, through others too
+-- ---- A10: a connection to which no JOIN leads from START or an INPUT, through others too
 
 abbrev pub outer_joins : PlainProcess → List Join
 outer_joins p = joins_of p.start.text ++ flat_map (λ i. joins_of i.text) (input_parts p)

@@ -6,7 +6,7 @@ use Rattle.sdl_ast.specs.declared.expression.Identifier.{Identifier}
 use Rattle.sdl_ast.specs.declared.tree.End.{End}
 use Rattle.sdl_ast.specs.declared.tree.End.TheVariants.{NextState, Stop, Join}
 use Rattle.sdl_ast.specs.Plain.{Text, PlainProcess}
-use Rattle.sdl_sound.specs.TableNames.{states_of, is_state, inputs_of}
+use Rattle.sdl_tables.specs.Names.{states_of, is_state, inputs_of}
 use Rattle.sdl_sound.specs.Statements.{Statement, acts, asks, covers, finishes, statements_of}
 use Rattle.sdl_sound.specs.Joins.{reached}
 use Rattle.sdl_measures.specs.Links.{goes}

@@ -2,7 +2,7 @@
 ghost use Rattle.std.specs.Prelude.{◌≡◌, ◌++◌, map, IfOk, OnOk};
 ghost use Rattle.std.specs.List.{flat_map};
 ghost use Rattle.sdl_ast.specs.Views.{process_of, block_of};
-ghost use Rattle.sdl_sound.specs.TableNames.{processes_of};
+ghost use Rattle.sdl_tables.specs.Names.{processes_of};
 ghost use Rattle.sdl_warnings.specs.Warned.{unreached_states, vain_saves, unsent_inputs, idle_timers, unread_variables, decision_warnings, unreached_connections, process_warnings, block_warnings, AreWarnings};
 
 use crate::connections::push_connections;

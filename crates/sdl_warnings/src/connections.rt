@@ -1,4 +1,4 @@
-//! W10: connections to which no JOIN leads from START or an INPUT.
+//! A10: connections to which no JOIN leads from START or an INPUT.
 ghost use Rattle.std.specs.Prelude.{◌≡◌, ◌++◌, ◌<◌, List, All, [], map, length, IfOk, OnOk};
 ghost use Rattle.std.specs.List.{list_any, flat_map};
 ghost use Rattle.sdl_ast.specs.Views.{input_of, text_of, connection_of, process_of};

@@ -1,4 +1,4 @@
-//! W7 and W8: answers whose values earlier answers match, and constant questions.
+//! A7 and A8: answers whose values earlier answers match, and constant questions.
 ghost use Rattle.std.specs.Prelude.{◌≡◌, ◌++◌, [], Option, map, not, OnOk};
 ghost use Rattle.std.specs.List.{flat_map};
 ghost use Rattle.sdl_ast.specs.Views.{tree_of, answers_before, else_choice, choice_of};

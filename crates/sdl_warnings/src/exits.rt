@@ -2,8 +2,8 @@
 ghost use Rattle.std.specs.Prelude.{◌≡◌, ◌||◌, ◌++◌, if◌then◌else◌, ℕ, [], map, length, IfOk, OnOk};
 ghost use Rattle.std.specs.List.{list_any, flat_map};
 ghost use Rattle.sdl_ast.specs.Views.{text_of, connection_of, process_of};
-ghost use Rattle.sdl_sound.specs.TableNames.{states_of, is_state, connector_names};
-ghost use Rattle.sdl_sound.specs.Scopes.{repeats};
+ghost use Rattle.sdl_tables.specs.Names.{states_of, is_state, connector_names};
+ghost use Rattle.sdl_tables.specs.Scopes.{repeats};
 ghost use Rattle.sdl_sound.specs.Orders.{links_of};
 ghost use Rattle.sdl_measures.specs.Links.{graph_in, IsGraph};
 ghost use Rattle.sdl_warnings.specs.Standing.{part_of};

@@ -3,7 +3,7 @@ ghost use Rattle.std.specs.Prelude.{◌≡◌, map};
 ghost use Rattle.std.specs.List.{list_any};
 ghost use Rattle.sdl_sound.specs.Statements.{acts};
 ghost use Rattle.sdl_ast.specs.Views.{tree_of, assignment_of, sending_of, action_of};
-ghost use Rattle.sdl_sound.specs.TableNames.{same_name};
+ghost use Rattle.sdl_tables.specs.Names.{same_name};
 ghost use Rattle.sdl_warnings.specs.Standing.{part_of};
 ghost use Rattle.sdl_warnings.specs.Warned.{reads_in, reads_in_sending, reads_in_action, reads, assigns, is_constant};
 

@@ -1,9 +1,9 @@
-//! W6: signals and timers saved in a state from which no way leads to one that takes them.
+//! A6: signals and timers saved in a state from which no way leads to one that takes them.
 ghost use Rattle.std.specs.Prelude.{◌≡◌, ◌++◌, ℕ, not, map, find, length, slice_get, IfOk, OnOk};
 ghost use Rattle.std.specs.List.{list_any, flat_map};
 ghost use Rattle.std.specs.Option.{option_map_or};
 ghost use Rattle.sdl_ast.specs.Views.{clause_of, state_of, process_of};
-ghost use Rattle.sdl_sound.specs.TableNames.{same_name, inputs_by_state, states_of, clause_saves};
+ghost use Rattle.sdl_tables.specs.Names.{same_name, inputs_by_state, states_of, clause_saves};
 ghost use Rattle.sdl_tables.specs.Rows.{row_input, rows_inputs};
 ghost use Rattle.sdl_warnings.specs.Standing.{AreWays, AreTakers};
 ghost use Rattle.sdl_warnings.specs.Marked.{is_marked};

@@ -1,8 +1,8 @@
-//! W2: inputs of signals that nobody sends there.
+//! A2: inputs of signals that nobody sends there.
 ghost use Rattle.std.specs.Prelude.{◌≡◌, ◌++◌, map, OnOk};
 ghost use Rattle.std.specs.List.{list_any, flat_map};
 ghost use Rattle.sdl_ast.specs.Views.{sending_of, action_of, stimulus_of, input_of, process_of, block_of};
-ghost use Rattle.sdl_sound.specs.TableNames.{same_name, processes_of};
+ghost use Rattle.sdl_tables.specs.Names.{same_name, processes_of};
 ghost use Rattle.sdl_warnings.specs.Standing.{part_of};
 ghost use Rattle.sdl_warnings.specs.Warned.{addresses, sends, is_sender, is_sent, unsent_stimulus, unsent_inputs};
 ghost use Rattle.sdl_ast.specs.Plain.{output};

@@ -1,8 +1,8 @@
-//! W5: signals on no route, or on a route to a process that neither takes nor saves them.
+//! A5: signals on no route, or on a route to a process that neither takes nor saves them.
 ghost use Rattle.std.specs.Prelude.{◌≡◌, ◌++◌, ◌&&◌, map, OnOk};
 ghost use Rattle.std.specs.List.{list_any, flat_map};
 ghost use Rattle.sdl_ast.specs.Views.{clause_of, state_of, stimulus_of, path_of, route_of, signal_of, process_of, block_of};
-ghost use Rattle.sdl_sound.specs.TableNames.{same_name, is_in, clause_triggers, part_triggers, signals_of, routes_of};
+ghost use Rattle.sdl_tables.specs.Names.{same_name, is_in, clause_triggers, part_triggers, signals_of, routes_of};
 ghost use Rattle.sdl_sound.specs.Receivers.{paths_of};
 ghost use Rattle.sdl_warnings.specs.Warned.{is_routed, heeds, is_heeded, unrouted_signal, unrouted_signals, untaken_signal, untaken_to, untaken_in_path, untaken_signals};
 

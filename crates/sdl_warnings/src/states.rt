@@ -1,7 +1,7 @@
-//! W1: states to which no way leads from START.
+//! A1: states to which no way leads from START.
 ghost use Rattle.std.specs.Prelude.{◌≡◌, ◌++◌, ◌<◌, length, map, OnOk};
 ghost use Rattle.sdl_ast.specs.Views.{process_of};
-ghost use Rattle.sdl_sound.specs.TableNames.{states_of};
+ghost use Rattle.sdl_tables.specs.Names.{states_of};
 ghost use Rattle.sdl_warnings.specs.Standing.{AreWays};
 ghost use Rattle.sdl_warnings.specs.Warned.{unreached_state, unreached_states};
 

@@ -1,9 +1,9 @@
-//! W3: timers that are set and never an input, or an input and never set.
+//! A3: timers that are set and never an input, or an input and never set.
 ghost use Rattle.std.specs.Prelude.{◌≡◌, ◌++◌, map, OnOk};
 ghost use Rattle.std.specs.List.{list_any, flat_map};
 ghost use Rattle.sdl_sound.specs.Statements.{acts};
 ghost use Rattle.sdl_ast.specs.Views.{action_of, stimulus_of, input_of, declaration_of, process_of};
-ghost use Rattle.sdl_sound.specs.TableNames.{same_name};
+ghost use Rattle.sdl_tables.specs.Names.{same_name};
 ghost use Rattle.sdl_warnings.specs.Standing.{part_of};
 ghost use Rattle.sdl_warnings.specs.Warned.{sets_timer, names_stimulus, idle_timer, idle_in_declaration};
 
@@ -112,6 +112,7 @@ fn push_declaration(
     match declaration {
         Declaration::Variables(_) => Ok(()),
         Declaration::Timers(timers) => push_names(found, process, timers),
+        Declaration::Synonyms(_) => Ok(()),
     }
 }
 

@@ -3,7 +3,7 @@ ghost use Rattle.std.specs.Prelude.{◌≡◌, ◌++◌, map, IfOk, OnOk};
 ghost use Rattle.std.specs.List.{flat_map};
 ghost use Rattle.sdl_ast.specs.Views.{input_of, connection_of, process_of, block_of};
 ghost use Rattle.sdl_sound.specs.Statements.{statements_of};
-ghost use Rattle.sdl_sound.specs.TableNames.{processes_of};
+ghost use Rattle.sdl_tables.specs.Names.{processes_of};
 ghost use Rattle.sdl_warnings.specs.Standing.{part_of};
 ghost use Rattle.sdl_warnings.specs.Stated.{process_statements};
 

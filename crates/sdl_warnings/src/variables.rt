@@ -1,9 +1,9 @@
-//! W4: variables that nothing reads.
+//! A4: variables that nothing reads.
 ghost use Rattle.std.specs.Prelude.{◌≡◌, ◌++◌, Option, map, OnOk};
 ghost use Rattle.std.specs.List.{list_any, flat_map};
 ghost use Rattle.std.specs.Option.{option_to_list};
 ghost use Rattle.sdl_ast.specs.Views.{stimulus_of, input_of, process_of};
-ghost use Rattle.sdl_sound.specs.TableNames.{same_name, is_in};
+ghost use Rattle.sdl_tables.specs.Names.{same_name, is_in};
 ghost use Rattle.sdl_sound.specs.Names.{place_names};
 ghost use Rattle.sdl_warnings.specs.Warned.{stimulus_assigns, input_assigns, is_assigned, variable_kind, unread_variable};
 

@@ -10,29 +10,29 @@ use std::fmt;
 /// The kind of a warning. Names are spelled as at its place.
 #[derive(Clone, Copy, Debug, PartialEq, Eq)]
 pub enum Kind {
-    /// W1: no way from START leads to this state.
+    /// A1: no way from START leads to this state.
     UnreachedState(Name),
-    /// W2: nobody sends this signal to this process, which takes it.
+    /// A2: nobody sends this signal to this process, which takes it.
     UnsentInput(Name, Name),
-    /// W3: this timer is set, and never an input.
+    /// A3: this timer is set, and never an input.
     UntakenTimer(Name),
-    /// W3: this timer is an input, and is never set.
+    /// A3: this timer is an input, and is never set.
     UnsetTimer(Name),
-    /// W4: this variable is neither read nor assigned.
+    /// A4: this variable is neither read nor assigned.
     UnusedVariable(Name),
-    /// W4: this variable is assigned, and never read.
+    /// A4: this variable is assigned, and never read.
     AssignedVariable(Name),
-    /// W5: no route has this signal.
+    /// A5: no route has this signal.
     UnroutedSignal(Name),
-    /// W5: a route brings this signal to this process, which neither takes nor saves it.
+    /// A5: a route brings this signal to this process, which neither takes nor saves it.
     UntakenSignal(Name, Name),
-    /// W6: this signal or timer is saved in this state, and no way leads from there to one that takes it.
+    /// A6: this signal or timer is saved in this state, and no way leads from there to one that takes it.
     VainSave(Name, Name),
-    /// W7: earlier answers match each value of this one.
+    /// A7: earlier answers match each value of this one.
     SpentAnswer,
-    /// W8: the question has no variable.
+    /// A8: the question has no variable.
     FixedDecision,
-    /// W10: no JOIN leads from START or an INPUT to this connection.
+    /// A10: no JOIN leads from START or an INPUT to this connection.
     UnreachedConnection(Name),
 }
 
@@ -64,18 +64,18 @@ impl Kind {
         ensures { result.now ≡ kind_name self.now }
     {
         match self {
-            Kind::UnreachedState(_) => "W1 UnreachedState",
-            Kind::UnsentInput(_, _) => "W2 UnsentInput",
-            Kind::UntakenTimer(_) => "W3 IdleTimer",
-            Kind::UnsetTimer(_) => "W3 IdleTimer",
-            Kind::UnusedVariable(_) => "W4 UnreadVariable",
-            Kind::AssignedVariable(_) => "W4 UnreadVariable",
-            Kind::UnroutedSignal(_) => "W5 StraySignal",
-            Kind::UntakenSignal(_, _) => "W5 StraySignal",
-            Kind::VainSave(_, _) => "W6 VainSave",
-            Kind::SpentAnswer => "W7 SpentAnswer",
-            Kind::FixedDecision => "W8 FixedDecision",
-            Kind::UnreachedConnection(_) => "W10 UnreachedConnection",
+            Kind::UnreachedState(_) => "A1 UnreachedState",
+            Kind::UnsentInput(_, _) => "A2 UnsentInput",
+            Kind::UntakenTimer(_) => "A3 IdleTimer",
+            Kind::UnsetTimer(_) => "A3 IdleTimer",
+            Kind::UnusedVariable(_) => "A4 UnreadVariable",
+            Kind::AssignedVariable(_) => "A4 UnreadVariable",
+            Kind::UnroutedSignal(_) => "A5 StraySignal",
+            Kind::UntakenSignal(_, _) => "A5 StraySignal",
+            Kind::VainSave(_, _) => "A6 VainSave",
+            Kind::SpentAnswer => "A7 SpentAnswer",
+            Kind::FixedDecision => "A8 FixedDecision",
+            Kind::UnreachedConnection(_) => "A10 UnreachedConnection",
         }
     }
 }

@@ -2,8 +2,8 @@
 ghost use Rattle.std.specs.Prelude.{◌≡◌, ◌||◌, ◌<◌, ◌&&◌, ℕ, [], map, filter, length, IfOk, OnOk};
 ghost use Rattle.std.specs.List.{list_any};
 ghost use Rattle.sdl_ast.specs.Views.{text_of, process_of};
-ghost use Rattle.sdl_sound.specs.TableNames.{states_of, is_state, connector_names, inputs_of, inputs_by_state};
-ghost use Rattle.sdl_sound.specs.Scopes.{repeats};
+ghost use Rattle.sdl_tables.specs.Names.{states_of, is_state, connector_names, inputs_of, inputs_by_state};
+ghost use Rattle.sdl_tables.specs.Scopes.{repeats};
 ghost use Rattle.sdl_sound.specs.Orders.{links_of};
 ghost use Rattle.sdl_measures.specs.Links.{graph_in, IsGraph};
 ghost use Rattle.sdl_tables.specs.Rows.{row_input, rows_inputs};

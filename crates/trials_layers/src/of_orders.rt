@@ -42,7 +42,7 @@ fn obeyed(alloc: Global, stream: &[u8], most: usize) -> io::Result<String> {
     Ok(text)
 }
 
-const ROWS: [(&[u8], &str); 6] = [
+const ROWS: [(&[u8], &str); 8] = [
     (b"", ""),
     (
         b"power\n\n# one\n  state   LSC \nstop",
@@ -57,6 +57,14 @@ const ROWS: [(&[u8], &str); 6] = [
         "1 at\n1 at x\n1 4 ok\n",
     ),
     (b"\xff\nback\n", "1 \n1 back\n"),
+    (
+        b"=a  stop \n5 =a ok =b start\n5 =c refused K2 Waiting\n5 =d\n5 = ok stop\n6 =d ok leave 5\n",
+        "1 =a stop\n5 =b start\n5 5 = ok stop\n6 leave 5\n",
+    ),
+    (
+        b"1 table - 0\n1 reader away\n0 begins now\n9 late 120\n1 =12345678901234567890123456789012 ok a\n1 =123456789012345678901234567890123 ok b\n",
+        "1 a\n1 1 =123456789012345678901234567890123 ok b\n",
+    ),
     (
         b"99999999999999999999 ok stop\nfree\n",
         "1 99999999999999999999 ok stop\n1 free\n",

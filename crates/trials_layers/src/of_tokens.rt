@@ -75,13 +75,26 @@ Name(\"ENDBLOCKS\"), Name(\"x_9\")]",
 ];
 
 /// Texts, and the printed text of their tokens with places.
-const PLACES: [(&str, &str); 4] = [
-    ("''", "[Token { lexeme: Quoted, start: 0, end: 2 }]"),
-    (" 'a''b'", "[Token { lexeme: Quoted, start: 1, end: 7 }]"),
-    ("''''''", "[Token { lexeme: Quoted, start: 0, end: 6 }]"),
+const PLACES: [(&str, &str); 5] = [
+    (
+        "'' Synonym",
+        "[Token { lexeme: Quoted, start: 0, end: 2, with_synonyms: true }, Token { lexeme: Word(Synonym), start: 3, end: 10, with_synonyms: true }]",
+    ),
+    (
+        "''",
+        "[Token { lexeme: Quoted, start: 0, end: 2, with_synonyms: false }]",
+    ),
+    (
+        " 'a''b'",
+        "[Token { lexeme: Quoted, start: 1, end: 7, with_synonyms: false }]",
+    ),
+    (
+        "''''''",
+        "[Token { lexeme: Quoted, start: 0, end: 6, with_synonyms: false }]",
+    ),
     (
         "'/*\n\u{e9} ? 2147483648'''",
-        "[Token { lexeme: Quoted, start: 0, end: 22 }]",
+        "[Token { lexeme: Quoted, start: 0, end: 22, with_synonyms: false }]",
     ),
 ];
 

@@ -19,6 +19,8 @@ mod of_gates;
 #[cfg(test)]
 mod of_last_steps;
 #[cfg(test)]
+mod of_limits;
+#[cfg(test)]
 mod of_pools;
 #[cfg(test)]
 mod of_rebases;

@@ -73,8 +73,8 @@ transition: Transition { statements: [], end: Some(Join(Join { at: 82, connector
         "Block { name: Identifier { name: \"B\", at: 6 }, entities: [Process(Process { name: Identifier { name: \"P\", at: 17 }, instances: 1, \
 declarations: [], start: Start { at: 20, transition: Transition { statements: [Decide(Decision { at: 27, question: Variable { \
 at: 36, name: Identifier { name: \"x\", at: 36 } }, answers: [Answer { at: 39, ranges: [Value(Constant { at: 40, value: \
-Integer(1) })], body: Transition { statements: [], end: Some(Stop(44)) } }, Answer { at: 50, ranges: [Value(Constant { at: 51, \
-value: Integer(2) }), Value(Constant { at: 54, value: Integer(3) })], body: Transition { statements: [], end: Some(Join(Join { \
+Integer(1), is_negated: false, synonym: None })], body: Transition { statements: [], end: Some(Stop(44)) } }, Answer { at: 50, ranges: [Value(Constant { at: 51, \
+value: Integer(2), is_negated: false, synonym: None }), Value(Constant { at: 54, value: Integer(3), is_negated: false, synonym: None })], body: Transition { statements: [], end: Some(Join(Join { \
 at: 58, connector: Identifier { name: \"c\", at: 63 } })) } }], otherwise: Some(Transition { statements: [Act(Task(Task { at: \
 72, assignments: [Assignment { variable: Identifier { name: \"y\", at: 77 }, value: Number { at: 82, value: 1 } }] }))], end: \
 None }) })], end: Some(Stop(98)) } }, states: [], connections: [] })] }",
@@ -95,36 +95,45 @@ operand: Binary { at: 38, operator: Add, left: Number { at: 39, value: 1 }, righ
 ];
 
 const RANGES: [Row; 10] = [
-    ("7", "Value(Constant { at: 40, value: Integer(7) })"),
-    ("-7", "Value(Constant { at: 40, value: Integer(-7) })"),
-    ("TRUE", "Value(Constant { at: 40, value: Boolean(true) })"),
+    (
+        "7",
+        "Value(Constant { at: 40, value: Integer(7), is_negated: false, synonym: None })",
+    ),
+    (
+        "-7",
+        "Value(Constant { at: 40, value: Integer(-7), is_negated: false, synonym: None })",
+    ),
+    (
+        "TRUE",
+        "Value(Constant { at: 40, value: Boolean(true), is_negated: false, synonym: None })",
+    ),
     (
         "1:-2",
-        "Between(Constant { at: 40, value: Integer(1) }, Constant { at: 42, value: Integer(-2) })",
+        "Between(Constant { at: 40, value: Integer(1), is_negated: false, synonym: None }, Constant { at: 42, value: Integer(-2), is_negated: false, synonym: None })",
     ),
     (
         "=1",
-        "Compared { at: 40, relation: Equal, constant: Constant { at: 41, value: Integer(1) } }",
+        "Compared { at: 40, relation: Equal, constant: Constant { at: 41, value: Integer(1), is_negated: false, synonym: None } }",
     ),
     (
         "/=1",
-        "Compared { at: 40, relation: NotEqual, constant: Constant { at: 42, value: Integer(1) } }",
+        "Compared { at: 40, relation: NotEqual, constant: Constant { at: 42, value: Integer(1), is_negated: false, synonym: None } }",
     ),
     (
         "<1",
-        "Compared { at: 40, relation: Less, constant: Constant { at: 41, value: Integer(1) } }",
+        "Compared { at: 40, relation: Less, constant: Constant { at: 41, value: Integer(1), is_negated: false, synonym: None } }",
     ),
     (
         "<=1",
-        "Compared { at: 40, relation: LessEqual, constant: Constant { at: 42, value: Integer(1) } }",
+        "Compared { at: 40, relation: LessEqual, constant: Constant { at: 42, value: Integer(1), is_negated: false, synonym: None } }",
     ),
     (
         ">1",
-        "Compared { at: 40, relation: Greater, constant: Constant { at: 41, value: Integer(1) } }",
+        "Compared { at: 40, relation: Greater, constant: Constant { at: 41, value: Integer(1), is_negated: false, synonym: None } }",
     ),
     (
         ">= -1",
-        "Compared { at: 40, relation: GreaterEqual, constant: Constant { at: 43, value: Integer(-1) } }",
+        "Compared { at: 40, relation: GreaterEqual, constant: Constant { at: 43, value: Integer(-1), is_negated: false, synonym: None } }",
     ),
 ];
 

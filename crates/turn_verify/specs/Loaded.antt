@@ -14,7 +14,8 @@ use Rattle.sdl_ast.specs.Limits.{GREATEST_HEIGHT}
 use Rattle.sdl_tree.specs.declared.fault.ParseFault.{ParseFault}
 use Rattle.sdl_tree.specs.declared.fault.ParseFault.TheVariants as parsing
 use Rattle.sdl_sound.specs.Sound.{Sound}
-use Rattle.sdl_sound.specs.Refusals.{Refuses}
+use Rattle.sdl_compile.specs.Expansion.{expanded}
+use Rattle.sdl_compile.specs.Texts.{WellDeclared, RefusesText}
 use Rattle.sdl_sound.specs.declared.fault.RuleFault.{RuleFault}
 use Rattle.sdl_sound.specs.declared.fault.RuleFault.TheVariants as rules
 use Rattle.sdl_compile.specs.Blocks.{MatchesBlock}
@@ -26,17 +27,25 @@ use Rattle.turn_verify.specs.declared.loading.LoadFault.TheVariants.{Lex, Parse,
 -- ---- texts and their blocks
 
 -- The tokens of a text, and the block that they read as, which is at most `GREATEST_HEIGHT` high.
-pub record IsRead (text : List ℕ) (tokens : List Token) (b : PlainBlock) : Type 0 where
+pub record IsWritten (text : List ℕ) (tokens : List Token) (b : PlainBlock) : Type 0 where
   pub lexed : Answers text (Ok tokens)
   pub reads : Reads tokens b
   pub low : heights.Height b ≤ GREATEST_HEIGHT
 
--- The text reads as the block, and the block breaks no rule.
+-- The block that a text means: the one that is written, with a constant node of its value in place
+-- of each synonym.
+pub record IsRead (text : List ℕ) (tokens : List Token) (b : PlainBlock) : Type 0 where
+  pub written : PlainBlock
+  pub is_written : IsWritten text tokens written
+  pub means : b ≡ expanded written
+
+-- The text means the block, and none of the rules is broken.
 pub record IsSoundText (text : List ℕ) (tokens : List Token) (b : PlainBlock) : Type 0 where
   pub read : IsRead text tokens b
   pub sound : Sound b
+  pub declared : WellDeclared read.written
 
--- The text reads as some sound block.
+-- The text means some sound block.
 pub record IsSound (text : List ℕ) : Type 0 where
   pub tokens : List Token
   pub block : PlainBlock
@@ -102,10 +111,10 @@ rule_place (rules.Limit which) = None
 rule_place (rules.Unset variable path) = None
 rule_place rules.NoMemory = None
 
--- The block breaks this rule, and no rule with a lesser number.
+-- The text that reads as this block breaks this rule, and no rule with a lesser number.
 pub record IsUnsound (text : List ℕ) (b : PlainBlock) (fault : RuleFault) (line : Option ℕ) :
     Type 0 where
-  pub refuses : Refuses b fault
+  pub refuses : RefusesText b fault
   pub named : fault ≡ rules.NoMemory → ⊥
   pub there : line ≡ option_map (line_at text) (rule_place fault)
 
@@ -115,5 +124,5 @@ IsRefused text (Lex fault line) = IsUnlexed text fault line
 IsRefused text (Parse fault line) =
     (tokens : List Token) × Answers text (Ok tokens) × IsUnread text tokens fault line
 IsRefused text (Rule fault line) =
-    (tokens : List Token) × (b : PlainBlock) × IsRead text tokens b × IsUnsound text b fault line
+    (tokens : List Token) × (b : PlainBlock) × IsWritten text tokens b × IsUnsound text b fault line
 IsRefused text NoMemory = Unit {0}

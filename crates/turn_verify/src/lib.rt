@@ -2,7 +2,11 @@
 //! has one.
 #![tactic(auto)]
 
+mod laws;
 mod loading;
+mod meanings;
 
+pub use laws::as_written;
 pub use loading::{LoadFault, load};
+pub use meanings::{BlockSynonyms, meaning};
 pub use turn_check::Verified;

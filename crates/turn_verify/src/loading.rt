@@ -5,15 +5,16 @@ ghost use Rattle.sdl_lex.specs.Lexed as lexis;
 ghost use Rattle.sdl_lex.specs.declared.lexemes.Token as lexeme;
 ghost use Rattle.sdl_ast.specs.Plain.{PlainBlock};
 ghost use Rattle.sdl_ast.specs.Views.{block_of};
-ghost use Rattle.sdl_sound.specs.Sound.{Sound};
+ghost use Rattle.sdl_compile.specs.Expansion.{expanded};
+ghost use Rattle.sdl_compile.specs.Texts.{IsExpansion, RefusesText, SoundText};
 ghost use Rattle.sdl_compile.specs.Blocks.{MatchesBlock};
 ghost use Rattle.sdl_compile.specs.Meaning.{RunsAsMeant};
 ghost use Rattle.sdl_compile.specs.Meant.{IsSetOf};
 ghost use Rattle.turn_verify.specs.Printed.{fault_text, place_text};
-ghost use Rattle.turn_verify.specs.Loaded.{IsLoaded, IsSoundText, IsRead, Gives, IsRefused, line_at, token_place, rule_place};
+ghost use Rattle.turn_verify.specs.Loaded.{IsLoaded, IsSoundText, IsWritten, IsRead, Gives, IsRefused, line_at, token_place, rule_place};
 
 use sdl_ast::Block;
-use sdl_compile::{Resolved, compile, resolve, set_law};
+use sdl_compile::{Expansion, Resolved, compile, expand, set_law};
 use sdl_lex::{LexFault, Token, line_of, tokens};
 use sdl_sound::RuleFault;
 use sdl_tree::{ParseFault, parse};
@@ -89,7 +90,8 @@ impl fmt::Display for LoadFault {
     }
 }
 
-/// Loads a text: its tokens, their tree, the rules, the code of its transitions, and the check of that code.
+/// Loads a text: its tokens, their tree, the values of its synonyms, the rules, the code of its transitions, and the
+/// check of that code.
 ///
 /// It accepts exactly a text that has tokens, reads as a tree at most 32 high, and breaks no rule. On every input that
 /// fits a transition of the set, its run is what the text's transition at the same place means. Each certificate names
@@ -105,7 +107,7 @@ pub fn load(alloc: Global, text: &str) -> Result<Verified, LoadFault>
     // Each sound text is accepted, unless memory runs out.
     ensures exact { (ts : List lexeme.Token) (b : PlainBlock) → IsSoundText text.now ts b
         → Gives result (MatchesBlock b) }
-    // For each way to read the text, the result is the set of the block that is read.
+    // For each block that the text means, the result is the set of that block.
     ensures every { (ts : List lexeme.Token) (b : PlainBlock) → IsRead text.now ts b
         → IfOk result (λ v. IsSetOf b v) }
     // A refusal names a fault of the text, and its line.
@@ -135,8 +137,8 @@ fn tokens_of(alloc: Global, text: &str) -> Result<Vec<Token>, LoadFault>
 /// The tree that these tokens of the text read as.
 fn block_in(alloc: Global, text: &str, tokens: &[Token]) -> Result<Block, LoadFault>
     requires { lexis.Answers text.now (Ok tokens.now) }
-    ensures read { IfOk result (λ block. IsRead text.now tokens.now (block_of block)) }
-    ensures exact { (b : PlainBlock) → IsRead text.now tokens.now b → Gives result (λ block. block_of block ≡ b) }
+    ensures read { IfOk result (λ block. IsWritten text.now tokens.now (block_of block)) }
+    ensures exact { (b : PlainBlock) → IsWritten text.now tokens.now b → Gives result (λ block. block_of block ≡ b) }
     ensures refused { IfErr result (λ e. IsRefused text.now e) }
 {
     match parse(alloc, tokens) {
@@ -155,24 +157,47 @@ fn block_in(alloc: Global, text: &str, tokens: &[Token]) -> Result<Block, LoadFa
 
 /// The set of a tree of the text.
 fn set_of(alloc: Global, text: &str, block: &Block) -> Result<Verified, LoadFault>
-    ensures sound { IfOk result (λ v. Sound (block_of block.now)) }
-    ensures matches { IfOk result (λ v. MatchesBlock (block_of block.now) v) }
-    ensures runs { IfOk result (λ v. RunsAsMeant (block_of block.now) v) }
-    ensures set { IfOk result (λ v. IsSetOf (block_of block.now) v) }
-    ensures exact { Sound (block_of block.now) → Gives result (MatchesBlock (block_of block.now)) }
-    ensures refused { IfErr result (λ e. (ts : List lexeme.Token) → IsRead text.now ts (block_of block.now)
+    ensures sound { IfOk result (λ v. SoundText (block_of block.now)) }
+    ensures matches { IfOk result (λ v. MatchesBlock (expanded (block_of block.now)) v) }
+    ensures runs { IfOk result (λ v. RunsAsMeant (expanded (block_of block.now)) v) }
+    ensures set { IfOk result (λ v. IsSetOf (expanded (block_of block.now)) v) }
+    ensures exact { SoundText (block_of block.now) → Gives result (MatchesBlock (expanded (block_of block.now))) }
+    ensures refused { IfErr result (λ e. (ts : List lexeme.Token) → IsWritten text.now ts (block_of block.now)
         → IsRefused text.now e) }
 {
-    match resolve(alloc, block) {
-        Ok(resolved) => verified(alloc, &resolved),
-        Err(fault) => {
-            if wants_memory(&fault) {
-                return Err(LoadFault::NoMemory);
-            }
-            let line = rule_line(text, &fault);
-            Err(LoadFault::Rule { fault, line })
-        }
+    match expand(alloc, block) {
+        Ok(expansion) => set_meant(alloc, text, &expansion),
+        Err(_) => Err(LoadFault::NoMemory),
     }
+}
+
+/// The set of what a tree of the text means.
+fn set_meant(alloc: Global, text: &str, expansion: &Expansion) -> Result<Verified, LoadFault>
+    ensures sound { IfOk result (λ v. (b : PlainBlock) → IsExpansion b expansion.now → SoundText b) }
+    ensures matches { IfOk result (λ v. (b : PlainBlock) → IsExpansion b expansion.now → MatchesBlock (expanded b) v) }
+    ensures runs { IfOk result (λ v. (b : PlainBlock) → IsExpansion b expansion.now → RunsAsMeant (expanded b) v) }
+    ensures set { IfOk result (λ v. (b : PlainBlock) → IsExpansion b expansion.now → IsSetOf (expanded b) v) }
+    ensures exact { (b : PlainBlock) → IsExpansion b expansion.now → SoundText b → Gives result (MatchesBlock (expanded b)) }
+    ensures refused { IfErr result (λ e. (b : PlainBlock) (ts : List lexeme.Token) → IsExpansion b expansion.now
+        → IsWritten text.now ts b → IsRefused text.now e) }
+{
+    match expansion.resolve(alloc) {
+        Ok(resolved) => verified(alloc, &resolved),
+        Err(fault) => Err(rule_refusal(text, fault)),
+    }
+}
+
+/// The refusal of a text for a rule that it breaks.
+fn rule_refusal(text: &str, fault: RuleFault) -> LoadFault
+    ensures memory { fault ≡ RuleFault.NoMemory → result ≡ LoadFault.NoMemory }
+    ensures refused { (b : PlainBlock) (ts : List lexeme.Token) → RefusesText b fault → IsWritten text.now ts b
+        → IsRefused text.now result }
+{
+    if wants_memory(&fault) {
+        return LoadFault::NoMemory;
+    }
+    let line = rule_line(text, &fault);
+    LoadFault::Rule { fault, line }
 }
 
 /// The set of a sound tree. Fails only if memory runs out.

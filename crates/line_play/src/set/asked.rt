@@ -1,17 +1,15 @@
 //! Answers to questions about the links of a set.
-ghost use Rattle.std.specs.Prelude.{◌≡◌, ◌≤◌, IfOk, OnOk, option_copied, option_map, slice_get};
+ghost use Rattle.std.specs.Prelude.{◌≡◌, IfOk, OnOk, option_copied, option_map, slice_get};
 ghost use Rattle.std.specs.List.{flat_map};
-ghost use Rattle.line_filter.specs.Desks.{Told as TellsSuch};
-ghost use Rattle.line_filter.specs.Orders.{told};
 ghost use Rattle.line_filter.specs.Reporting.{TellsLines};
 ghost use Rattle.line_tending.specs.Tended.{link_count};
-ghost use Rattle.line_play.specs.SetDoing.{stood, first_of, last_of, terminal_at, reset_at, ResetEach, Resets, state_at, value_at};
+ghost use Rattle.line_play.specs.SetDoing.{stood, answered, terminal_at, reset_at, Resets, state_at, value_at};
 ghost use Rattle.line_play.specs.SetOrders.{plain_set_order, state, value, measures};
-ghost use Rattle.line_play.specs.SetShowing.{counted, aborted_at, state_text, value_text, count_told, aborted_told, shown_of, ShowsEach, ShowsHeld, Shows, held_text, table_text, unsure_text};
+ghost use Rattle.line_play.specs.SetShowing.{counted, aborted_at, state_text, value_text, count_told, aborted_told, shown_of, shown_each, shown_held, shows, held_text, table_of, unsure_text};
 
 use crate::link::texts::text_of;
 use crate::set::measures::Since;
-use crate::set::orders::{Focus, SetOrder};
+use crate::set::orders::SetOrder;
 use crate::set::state::SetState;
 use line_filter::Reports;
 use script_ends::{Measure, Terminal, all_measures, state_line, value_line};
@@ -19,18 +17,6 @@ use std::alloc::{AllocError, Global};
 use std::io;
 
 impl SetState {
-    /// The links that an order addresses: the first, and one more than the last.
-    pub(crate) fn links(&self, focus: Focus) -> (usize, usize)
-        ensures first { result.0 ≡ first_of focus }
-        ensures last { result.1 ≡ last_of focus self.now.tender }
-        ensures order { result.0 ≤ result.1 }
-    {
-        match focus {
-            Focus::Link(link) => (link, link.saturating_add(1)),
-            Focus::All => (0, self.tender.len()),
-        }
-    }
-
     /// The values that a link's counts start from.
     fn since(&self, link: usize) -> Option<&Since>
         ensures { option_copied result ≡ slice_get self.now.since.items link }
@@ -42,7 +28,7 @@ impl SetState {
     }
 
     /// The terminal of a link.
-    fn terminal(&self, link: usize) -> Option<&Terminal>
+    pub(crate) fn terminal(&self, link: usize) -> Option<&Terminal>
         ensures { option_copied result ≡ terminal_at self.now.tender link }
     {
         match self.tender.set().terminal(link) {
@@ -90,22 +76,13 @@ impl SetState {
         }
     }
 
-    /// `measure reset` for links `from` to `to` - 1.
-    fn reset_links(&mut self, from: usize, to: usize)
-        requires { from ≤ to }
-        ensures { ResetEach from (stood self.old) to (stood self.new) }
+    /// The answer about several links.
+    pub(crate) fn reset_links(&mut self, links: &[usize])
+        ensures { Resets (stood self.old) links.now (stood self.new) }
     {
-        for link in from..to {
-            self.reset(link);
+        for link in links {
+            self.reset(*link);
         }
-    }
-
-    /// `measure reset`.
-    pub(crate) fn reset_all(&mut self, focus: Focus)
-        ensures { Resets focus (stood self.old) (stood self.new) }
-    {
-        let (from, to) = self.links(focus);
-        self.reset_links(from, to);
     }
 
     /// The line that a script prints for `state P` of a link.
@@ -148,7 +125,7 @@ impl SetState {
         line: &[u8],
         reports: &mut P,
     ) -> io::Result<()>
-        ensures { OnOk result (TellsLines (P.stand reports.old) (P.stand reports.new) (told self.now.tender.ticks (state_text process.now link line.now))) }
+        ensures { OnOk result (TellsLines (P.stand reports.old) (P.stand reports.new) (answered (stood self.now) (state_text process.now link line.now))) }
     {
         let text = text_of(alloc, line)?;
         self.say_text(
@@ -184,7 +161,7 @@ impl SetState {
         line: &[u8],
         reports: &mut P,
     ) -> io::Result<()>
-        ensures { OnOk result (TellsLines (P.stand reports.old) (P.stand reports.new) (told self.now.tender.ticks (value_text process.now variable.now link line.now))) }
+        ensures { OnOk result (TellsLines (P.stand reports.old) (P.stand reports.new) (answered (stood self.now) (value_text process.now variable.now link line.now))) }
     {
         let text = text_of(alloc, line)?;
         self.say_text(
@@ -279,7 +256,7 @@ impl SetState {
 
     /// `held` for a link.
     fn tell_held<P: Reports>(&self, alloc: Global, link: usize, reports: &mut P) -> io::Result<()>
-        ensures { OnOk result (TellsLines (P.stand reports.old) (P.stand reports.new) (told self.now.tender.ticks (held_text self.now.tender link))) }
+        ensures { OnOk result (TellsLines (P.stand reports.old) (P.stand reports.new) (answered (stood self.now) (held_text self.now.tender link))) }
     {
         let held = self.tender.set().held(link).unwrap_or(0);
         let sent = self.tender.set().sent(link).unwrap_or(0);
@@ -292,7 +269,7 @@ impl SetState {
 
     /// `held`.
     fn tell_all_held<P: Reports>(&self, alloc: Global, reports: &mut P) -> io::Result<()>
-        ensures { OnOk result (TellsSuch (ShowsHeld self.now.tender (link_count self.now.tender)) (P.stand reports.old) (P.stand reports.new)) }
+        ensures { OnOk result (TellsLines (P.stand reports.old) (P.stand reports.new) (shown_held (stood self.now) (link_count self.now.tender))) }
     {
         for link in 0..self.tender.len() {
             self.tell_held(alloc, link, reports)?;
@@ -302,10 +279,10 @@ impl SetState {
 
     /// `table`.
     fn tell_table<P: Reports>(&self, alloc: Global, reports: &mut P) -> io::Result<()>
-        ensures { OnOk result (TellsLines (P.stand reports.old) (P.stand reports.new) (told self.now.tender.ticks (table_text self.now.tender))) }
+        ensures { OnOk result (TellsLines (P.stand reports.old) (P.stand reports.new) (answered (stood self.now) (table_of self.now.tender))) }
     {
-        let shared = self.tender.shared_out();
-        self.say_text(alloc, format!(in alloc; "{shared}")?, reports)
+        let table = self.tender.shared_out();
+        self.say_text(alloc, format!(in alloc; "{table}")?, reports)
     }
 
     /// Reports the answer of a link to an order, if it is a question.
@@ -330,27 +307,25 @@ impl SetState {
         }
     }
 
-    /// Reports the answers of links `from` to `to` - 1 to an order.
+    /// Reports what an order asked of links.
     fn tell_of_links<P: Reports>(
         &self,
         alloc: Global,
-        from: usize,
-        to: usize,
+        links: &[usize],
         order: &SetOrder,
         reports: &mut P,
     ) -> io::Result<()>
-        requires { from ≤ to }
-        ensures { OnOk result (TellsSuch (ShowsEach (plain_set_order order.now) (stood self.now) from to) (P.stand reports.old) (P.stand reports.new)) }
+        ensures { OnOk result (TellsLines (P.stand reports.old) (P.stand reports.new) (shown_each (plain_set_order order.now) (stood self.now) links.now)) }
     {
-        for link in from..to {
-            self.tell_one_asked(alloc, link, order, reports)?;
+        for link in links {
+            self.tell_one_asked(alloc, *link, order, reports)?;
         }
         Ok(())
     }
 
     /// `unsure`.
     fn tell_unsure<P: Reports>(&self, alloc: Global, reports: &mut P) -> io::Result<()>
-        ensures { OnOk result (TellsLines (P.stand reports.old) (P.stand reports.new) (told self.now.tender.ticks (unsure_text self.now.tender))) }
+        ensures { OnOk result (TellsLines (P.stand reports.old) (P.stand reports.new) (answered (stood self.now) (unsure_text self.now.tender))) }
     {
         let unsure = self.tender.set().unsure();
         self.say_text(alloc, format!(in alloc; "unsure {unsure}")?, reports)
@@ -360,20 +335,17 @@ impl SetState {
     pub(crate) fn tell_asked<P: Reports>(
         &self,
         alloc: Global,
-        focus: Focus,
+        links: &[usize],
         order: &SetOrder,
         reports: &mut P,
     ) -> io::Result<()>
-        ensures { OnOk result (TellsSuch (Shows (plain_set_order order.now) focus (stood self.now)) (P.stand reports.old) (P.stand reports.new)) }
+        ensures { OnOk result (TellsLines (P.stand reports.old) (P.stand reports.new) (shows (plain_set_order order.now) links.now (stood self.now))) }
     {
         match order {
             SetOrder::Table => self.tell_table(alloc, reports),
             SetOrder::Unsure => self.tell_unsure(alloc, reports),
             SetOrder::Held => self.tell_all_held(alloc, reports),
-            _ => {
-                let (from, to) = self.links(focus);
-                self.tell_of_links(alloc, from, to, order, reports)
-            }
+            _ => self.tell_of_links(alloc, links, order, reports),
         }
     }
 }

@@ -4,13 +4,13 @@ ghost use Rattle.line_play.specs.SetDoing.{millisecond_of};
 ghost use Rattle.line_play.specs.SetRounds.{Made, IsRound};
 ghost use Rattle.line_play.specs.SetDesks.{AreNewCounts, AreNewWires, IsNewSetDesk, place_of};
 
-use crate::set::attending::attend;
+use crate::set::attending::{attend, goes_on};
 use crate::set::lines::Lines;
 use crate::set::measures::Since;
 use crate::set::orders::Focus;
 use crate::set::queue::Queue;
-use crate::set::round::{RoundPlan, carry_lines, tend, tick};
-use crate::set::state::{SetState, tell_all};
+use crate::set::round::{RoundPlan, carry_lines, mind, tell_late, tend, tick};
+use crate::set::state::{Ending, SetState, tell_all};
 use line_filter::{Orders, Reports};
 use line_tending::{LinkLine, TendedSet};
 use std::alloc::{AllocError, Global};
@@ -89,6 +89,8 @@ impl<O, P> SetDesk<O, P> {
                 tender,
                 since,
                 focus: Focus::Link(0),
+                ending: Ending::Stays,
+                mark: String::new(alloc),
             },
             wires,
             ahead,
@@ -123,24 +125,28 @@ impl<O, P> SetDesk<O, P> {
 }
 
 impl<O: Orders, P: Reports> SetDesk<O, P> {
-    /// Makes a round: receives each line's octets and sends as many; lets a tick pass; tends the links; makes all
-    /// reports; and obeys the orders that are due. Returns whether the run goes on: not after `quit`.
+    /// Makes a round, which is reported to be late by so many milliseconds unless that is 0. Each link receives the
+    /// octets of its line, and one octet is sent for each; a tick passes; the links are tended; all reports are made;
+    /// the set acts on the number of messages that wait for their reader; and due orders are obeyed. Returns whether
+    /// the run goes on: not after `quit`, nor once links are stopped after `leave`.
     ///
     /// # Errors
     ///
-    /// Memory runs out, orders or reports fail, or no tick passes.
+    /// If memory, orders or reports fail, or no tick passes.
     pub fn round<L: Lines>(
         &mut self,
         alloc: Global,
         lines: &mut L,
+        late: u64,
         part: &mut [u8],
         out: &mut Vec<u8>,
     ) -> io::Result<bool>
-        ensures made { IfOk result (λ goes_on. Made (λ bytes traffic. IsRound self.old.ahead (place_of O.left self.old) bytes traffic goes_on (place_of O.left self.new))
+        ensures made { IfOk result (λ goes_on. Made (λ bytes traffic. IsRound self.old.ahead late (place_of O.left P.stand self.old) bytes traffic goes_on (place_of O.left P.stand self.new))
             (P.stand self.old.reports) (P.stand self.new.reports) (L.traffic lines.old) (L.traffic lines.new)) }
         ensures ahead { self.new.ahead ≡ self.old.ahead }
     {
         lines.begin(self.state.tender.now());
+        tell_late(alloc, &self.state.tender, late, &mut self.reports)?;
         let plan = RoundPlan {
             alloc,
             ahead: self.ahead,
@@ -157,14 +163,17 @@ impl<O: Orders, P: Reports> SetDesk<O, P> {
         tick(&mut self.state.tender)?;
         tend(&mut self.state.tender)?;
         tell_all(alloc, &mut self.state.tender, &mut self.reports)?;
-        let goes_on = attend(
+        self.reports.move_on()?;
+        mind(&mut self.state.tender, self.reports.messages())?;
+        attend(
             alloc,
             &mut self.state,
             &mut self.queue,
             &mut self.orders,
             &mut self.reports,
         )?;
+        self.state.depart(alloc)?;
         tell_all(alloc, &mut self.state.tender, &mut self.reports)?;
-        Ok(goes_on)
+        Ok(goes_on(&self.state))
     }
 }

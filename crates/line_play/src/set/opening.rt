@@ -9,11 +9,11 @@ ghost use Rattle.line_tending.specs.Tended.{IsNewTended};
 ghost use Rattle.line_play.specs.Opening.{IsNoSet};
 ghost use Rattle.line_play.specs.SetOpening.{IsEmpty, LacksOne, AreNewTerminals, IsNewTenderOf, IsNewTenderOver};
 
-use crate::link::opening::refuse_name;
+use crate::link::opening::{ChosenLimits, refuse_name, refuse_text};
 use line_tending::{Ends, TendedSet};
 use link_group::Group;
 use plain_text::FAILED;
-use script_check::{SetWord, load_set, write_refusal};
+use script_check::{SetWord, find_set, refuse_limit};
 use script_ends::{Mode, OpenError, RoundLimits, Terminal};
 use std::alloc::Global;
 use std::io::{Read, Write};
@@ -24,8 +24,8 @@ use turn_check::Verified;
 pub struct SetPlan {
     /// The error correction method.
     pub mode: Mode,
-    /// The limits at which cyclic retransmission is forced.
-    pub limits: RoundLimits,
+    /// The limits of forced retransmission that are chosen.
+    pub limits: ChosenLimits,
     /// The signalling points, and the network indicator of the set's own messages.
     pub ends: Ends,
     /// The number of links, 1 to 16.
@@ -38,16 +38,17 @@ pub struct SetPlan {
 fn push_terminal(
     alloc: Global,
     plan: SetPlan,
+    limits: RoundLimits,
     set: &Verified,
     terminals: &mut Vec<Terminal>,
 ) -> Result<(), OpenError>
-    ensures ok { OnOk result ((t : Term) × IsOverWithin set.now plan.limits plan.mode t × (terminals.new.items ≡ terminals.old.items ++ t ∷ [])) }
+    ensures ok { OnOk result ((t : Term) × IsOverWithin set.now limits plan.mode t × (terminals.new.items ≡ terminals.old.items ++ t ∷ [])) }
     ensures err { IfErr result (LacksOne set.now) }
 {
     if terminals.reserve(1).is_err() {
         return Err(OpenError::NoMemory);
     }
-    match Terminal::of_set_within(alloc, plan.limits, plan.mode, set) {
+    match Terminal::of_set_within(alloc, limits, plan.mode, set) {
         Ok(terminal) => {
             terminals.push_reserved(terminal);
             Ok(())
@@ -57,13 +58,18 @@ fn push_terminal(
 }
 
 /// Opens as many new terminals as planned.
-fn open_terminals(alloc: Global, plan: SetPlan, set: &Verified) -> Result<Vec<Terminal>, OpenError>
-    ensures ok { IfOk result (λ v. AreNewTerminals set.now plan.limits plan.mode plan.links v.items) }
+fn open_terminals(
+    alloc: Global,
+    plan: SetPlan,
+    limits: RoundLimits,
+    set: &Verified,
+) -> Result<Vec<Terminal>, OpenError>
+    ensures ok { IfOk result (λ v. AreNewTerminals set.now limits plan.mode plan.links v.items) }
     ensures err { IfErr result (LacksOne set.now) }
 {
     let mut terminals = Vec::new(alloc);
     for _made in 0..plan.links {
-        match push_terminal(alloc, plan, set, &mut terminals) {
+        match push_terminal(alloc, plan, limits, set, &mut terminals) {
             Ok(()) => {}
             Err(error) => return Err(error),
         }
@@ -94,37 +100,47 @@ fn tend(alloc: Global, plan: SetPlan, terminals: Vec<Terminal>) -> Result<Tended
 fn open_over<E: Write>(
     alloc: Global,
     plan: SetPlan,
+    limits: RoundLimits,
     set: &Verified,
     errors: &mut E,
 ) -> Result<TendedSet, u8>
-    ensures ok { IfOk result (IsNewTenderOf plan set.now) }
+    ensures ok { IfOk result (IsNewTenderOf plan limits set.now) }
     ensures refused { IfErr result (λ status. status ≡ 2 → LacksName set.now (E.contents errors.old) (E.contents errors.new)) }
     ensures status { IfErr result (λ status. (status ≡ 2) ⊎ (status ≡ 4)) }
 {
-    match open_terminals(alloc, plan, set) {
+    match open_terminals(alloc, plan, limits, set) {
         Ok(terminals) => tend(alloc, plan, terminals),
         Err(error) => Err(refuse_name(alloc, errors, error)),
     }
 }
 
-/// Opens a new link set whose terminals run these processes.
+/// Opens a new link set whose terminals run these processes. The limits of forced retransmission are those that are
+/// chosen, else those of the set's text.
 ///
 /// # Errors
 ///
-/// The exit status. 2: the text is refused, or it lacks a name that a terminal needs; `errors` then has a line about
-/// it. 4: out of memory, or a read or that write failed.
+/// The exit status. 2: the text is refused, has a limit out of its range, or lacks a name that a terminal needs;
+/// `errors` then has the lines about it, for a refused text those that point at the place too. 4: out of memory, or a
+/// read or that write failed.
 pub fn open_tender<S: Read + Drop, E: Write>(
     alloc: Global,
     plan: SetPlan,
+    name: &str,
     set: SetWord<S>,
     errors: &mut E,
 ) -> Result<TendedSet, u8>
     ensures ok { IfOk result (λ t. IsGiven (given S.remaining set) (IsNewTenderOver plan t)) }
-    ensures refused { IfErr result (λ status. status ≡ 2 → IsGiven (given S.remaining set) (IsNoSet (E.contents errors.old) (E.contents errors.new))) }
+    ensures refused { IfErr result (λ status. status ≡ 2 → IsGiven (given S.remaining set) (IsNoSet name.now plan.limits plan.mode (E.contents errors.old) (E.contents errors.new))) }
     ensures status { IfErr result (λ status. (status ≡ 2) ⊎ (status ≡ 4)) }
 {
-    match load_set(alloc, set) {
-        Ok(set) => open_over(alloc, plan, &set, errors),
-        Err(fault) => Err(write_refusal(alloc, errors, &fault)),
+    match find_set(alloc, set) {
+        Ok(found) => match found
+            .limits
+            .within(plan.mode, plan.limits.messages, plan.limits.octets)
+        {
+            Ok(limits) => open_over(alloc, plan, limits, &found.set, errors),
+            Err(limit) => Err(refuse_limit(alloc, errors, limit)),
+        },
+        Err(refusal) => Err(refuse_text(alloc, name, errors, &refusal)),
     }
 }

@@ -4,10 +4,10 @@ ghost use Rattle.script_lines.specs.Lines.{texts};
 ghost use Rattle.script_links.specs.Octets.{octets_of};
 ghost use Rattle.script_links.specs.Orders.{order_of};
 ghost use Rattle.script_links.specs.TermCommands.{plain_term_command};
-ghost use Rattle.line_play.specs.SetOrders.{plain_set_order, on, links as to_links, alone_of, focus_of, question_of, asked_of, pair_of, other_order_of, sent_word as word_sent, send_of, said_in, state, value};
+ghost use Rattle.line_play.specs.SetOrders.{plain_set_order, on, links as to_links, alone_of, focus_of, question_of, asked_of, pair_of, other_order_of, sent_word as word_sent, send_of, leave_of, set_order_of, state, value};
 
 use script_ends::Measure;
-use script_lines::{count, words_in};
+use script_lines::count;
 use script_links::{Order, TermCommand, octets_in, order_in, term_command_in};
 use std::alloc::{AllocError, Global};
 
@@ -17,9 +17,11 @@ const LEAST: usize = 5;
 /// The largest number of octets of a message.
 const MOST: usize = 273;
 
-/// The links that orders address.
+/// The links addressed by orders that name none.
 #[derive(Clone, Copy, Debug, PartialEq, Eq)]
 pub enum Focus {
+    /// None, because an `on` was refused.
+    Nothing,
     /// One link.
     Link(usize),
     /// All links.
@@ -55,6 +57,12 @@ pub enum SetOrder {
     Unsure,
     /// `rebalance`: the SLS values are shared out again, unless the link set refuses.
     Rebalance,
+    /// `reopen`: the file of reports is opened again.
+    Reopen,
+    /// `quit`: the run ends.
+    Quit,
+    /// `leave`, `leave SECONDS`: no message is taken any more, links are stopped once they hold none, and the run ends.
+    Leave(Option<u32>),
 }
 
 /// `on L`, `on all`.
@@ -90,6 +98,9 @@ fn word_in(word: &str) -> Option<SetOrder>
         "held" => Some(SetOrder::Held),
         "unsure" => Some(SetOrder::Unsure),
         "rebalance" => Some(SetOrder::Rebalance),
+        "reopen" => Some(SetOrder::Reopen),
+        "quit" => Some(SetOrder::Quit),
+        "leave" => Some(SetOrder::Leave(None)),
         _ => link_order(word),
     }
 }
@@ -118,7 +129,7 @@ fn send_in(alloc: Global, word: &str) -> Result<Option<SetOrder>, AllocError>
 }
 
 /// A copy of a name.
-fn owned(alloc: Global, name: &str) -> Result<String, AllocError>
+pub(crate) fn owned(alloc: Global, name: &str) -> Result<String, AllocError>
     ensures { IfOk result (λ s. string_bytes s ≡ name.now) }
 {
     let mut text = String::new(alloc);
@@ -184,19 +195,6 @@ fn asked_in(alloc: Global, words: &[&str]) -> Result<Option<SetOrder>, AllocErro
     }
 }
 
-/// Returns whether a line, after its millisecond, is a report of a link, of the links for SLS values, or of the number
-/// of unsure messages. Read as an order it is ignored; the report of an obeyed order is not.
-pub(crate) fn is_set_report(alloc: Global, line: &str) -> Result<bool, AllocError> {
-    let words = words_in(alloc, line)?;
-    match words.as_slice() {
-        [millisecond, word, ..] => Ok(
-            millisecond.parse::<u64>().is_ok()
-                && (count(word).is_some() || *word == "shared" || *word == "unsure"),
-        ),
-        _ => Ok(false),
-    }
-}
-
 /// The word after `send`, if no other word follows.
 fn sent_word<'a>(words: &[&'a str]) -> Option<&'a str>
     ensures { word_sent (texts words.now) ≡ option_map (λ w. w.now) result }
@@ -217,12 +215,26 @@ fn on_in(word: &str) -> Option<SetOrder>
     }
 }
 
-/// The order of two words, the first of which isn't `send`: `on L`, `on all`, or a question to links.
+/// The meaning of the word after `leave`.
+fn leave_in(word: &str) -> Option<SetOrder>
+    ensures { option_map plain_set_order result ≡ leave_of word.now }
+{
+    match count(word) {
+        Some(seconds) => Some(SetOrder::Leave(Some(seconds))),
+        None => None,
+    }
+}
+
+/// The meaning of two words of which the first isn't `send`: `on L`, `on all`, `leave SECONDS`, or a question about
+/// links.
 fn pair_in(alloc: Global, first: &str, word: &str) -> Result<Option<SetOrder>, AllocError>
     ensures { IfOk result (λ o. option_map plain_set_order o ≡ pair_of first.now word.now) }
 {
     if first == "on" {
         return Ok(on_in(word));
+    }
+    if first == "leave" {
+        return Ok(leave_in(word));
     }
     asked_in(alloc, &[first, word])
 }
@@ -239,38 +251,12 @@ fn other_in(alloc: Global, words: &[&str]) -> Result<Option<SetOrder>, AllocErro
     }
 }
 
-/// Returns the order that a line states; none if it states none.
-pub fn set_order_in(alloc: Global, line: &str) -> Result<Option<SetOrder>, AllocError>
-    ensures { IfOk result (λ o. option_map plain_set_order o ≡ said_in line.now) }
+/// The order that words mean, if any.
+pub(crate) fn set_order_in(alloc: Global, words: &[&str]) -> Result<Option<SetOrder>, AllocError>
+    ensures { IfOk result (λ o. option_map plain_set_order o ≡ set_order_of (texts words.now)) }
 {
-    let words = words_in(alloc, line)?;
-    let said = words.as_slice();
-    match sent_word(said) {
+    match sent_word(words) {
         Some(word) => send_in(alloc, word),
-        None => other_in(alloc, said),
-    }
-}
-
-/// An order as it was given, with its meaning; the meaning is none if the line is no order.
-#[derive(Drop)]
-pub struct Given {
-    /// The words as they were given.
-    pub text: String,
-    /// The meaning of the words.
-    pub said: Option<SetOrder>,
-}
-
-impl Given {
-    /// Reads an order.
-    ///
-    /// # Errors
-    ///
-    /// Out of memory.
-    pub fn read(alloc: Global, text: String) -> Result<Given, AllocError>
-        ensures text { IfOk result (λ g. string_bytes g.text ≡ string_bytes text) }
-        ensures said { IfOk result (λ g. option_map plain_set_order g.said ≡ said_in (string_bytes text)) }
-    {
-        let said = set_order_in(alloc, text.as_str())?;
-        Ok(Given { text, said })
+        None => other_in(alloc, words),
     }
 }

@@ -1,35 +1,60 @@
-//! Orders that wait.
-ghost use Rattle.std.specs.Prelude.{◌≡◌, ◌↔◌, ◌≤◌, ◌++◌, ◌∷◌, [], length, option_map, slice_get, IfSome, IsNone, IsTrue, string_bytes};
-ghost use Rattle.line_play.specs.SetOrders.{plain_set_order, says_so, starts_links};
-ghost use Rattle.line_play.specs.SetRounds.{MOST_WAITING as MOST, waited_of, waiting_in, starts_in, any_starts};
+//! Messages to send that wait.
+ghost use Rattle.std.specs.Prelude.{◌≡◌, ℕ, ◌≤◌, ◌<◌, ◌-◌, ◌/◌, ◌^◌, ◌++◌, ◌∷◌, [], cond, min, length, slice_get, true, false, IfSome, IsNone, IsTrue};
+ghost use Rattle.line_tending.specs.Labels.{label_in, number_of};
+ghost use Rattle.line_tending.specs.Sharing.{selection_by};
+ghost use Rattle.line_play.specs.SetQueues.{MOST_WAITING as MOST, waited_of, waiting_in, selection_in, is_at, count_of};
 
-use crate::set::orders::{Focus, Given};
 use std::alloc::Global;
 use std::collections::VecDeque;
 
-/// The largest number of orders that may wait after a message that waits.
+/// The most orders that may wait.
 const MOST_WAITING: usize = 1_024;
 
-/// An order that waits, with the links that it addresses.
+/// A waiting `send`.
 #[derive(Drop)]
 pub struct Waiting {
-    pub focus: Focus,
-    pub order: Given,
+    /// The beginning of its answer.
+    pub mark: String,
+    /// Its words.
+    pub text: String,
+    /// The octets of its message.
+    pub octets: Vec<u8>,
+    /// The millisecond at which it came.
+    pub since: u64,
 }
 
-impl Waiting {
-    /// Whether the order starts links.
-    fn starts(&self) -> bool
-        ensures { result ≡ says_so starts_links (option_map plain_set_order self.now.order.said) }
-    {
-        match &self.order.said {
-            Some(order) => order.starts(),
-            None => false,
-        }
+/// The selection of a label of these octets: the upper half of the last.
+fn selection_by(a: u8, b: u8, c: u8, last: u8) -> usize
+    ensures value { result ≡ number_of a b c last / 2 ^ 28 }
+    ensures small { result < 16 }
+{
+    let _unasked = (a, b, c);
+    (last / 16) as usize
+}
+
+/// The selection of the label with which a message's field begins, or 0.
+fn selection_of(field: &[u8]) -> usize
+    ensures value { result ≡ selection_by (label_in field.now) }
+    ensures small { result < 16 }
+{
+    match field {
+        [a, b, c, last, ..] => selection_by(*a, *b, *c, *last),
+        _ => 0,
     }
 }
 
-/// The orders that wait, in the order in which they came.
+/// The selection of a message, from the label after its service information octet, or 0.
+pub(crate) fn selection(octets: &[u8]) -> usize
+    ensures value { result ≡ selection_in octets.now }
+    ensures small { result < 16 }
+{
+    match octets {
+        [_, field @ ..] => selection_of(field),
+        [] => 0,
+    }
+}
+
+/// Waiting messages to send, in the order in which they came.
 #[derive(Drop)]
 pub struct Queue {
     waiting: VecDeque<Waiting>,
@@ -45,62 +70,65 @@ impl Queue {
         }
     }
 
-    /// Whether no order waits.
-    pub fn is_empty(&self) -> bool
-        ensures { IsTrue result ↔ (waiting_in self.now ≡ []) }
+    /// The number of waiting messages.
+    pub fn len(&self) -> usize
+        ensures { result ≡ length (waiting_in self.now) }
     {
-        self.waiting.is_empty()
+        self.waiting.len()
     }
 
     /// Whether no further order may wait.
     pub fn is_full(&self) -> bool
-        ensures { IsTrue result → MOST ≤ length (waiting_in self.now) }
+        ensures many { result ≡ true → MOST ≤ length (waiting_in self.now) }
+        ensures few { result ≡ false → length (waiting_in self.now) < MOST }
     {
         self.waiting.len() >= MOST_WAITING
     }
 
-    /// Whether the order at a place, if one waits there, starts links.
-    fn starts_at(&self, place: usize) -> bool
-        ensures { result ≡ starts_in (slice_get (waiting_in self.now) place) }
+    /// Whether the message at a place, if one waits there, is of a selection.
+    fn is_of(&self, place: usize, wanted: usize) -> bool
+        ensures { result ≡ is_at wanted (slice_get (waiting_in self.now) place) }
     {
         match self.waiting.get(place) {
-            Some(waiting) => waiting.starts(),
+            Some(waiting) => selection(waiting.octets.as_slice()) == wanted,
             None => false,
         }
     }
 
-    /// Whether an order that starts links waits: a `stop` after it may not overtake it.
-    pub fn has_start(&self) -> bool
-        ensures { result ≡ any_starts (waiting_in self.now) }
+    /// 1 if the message at a place is of a selection, else 0.
+    fn one_at(&self, place: usize, wanted: usize) -> usize
+        ensures { result ≡ cond {A = ℕ} (is_at wanted (slice_get (waiting_in self.now) place)) 1 0 }
     {
-        for place in 0..self.waiting.len() {
-            if self.starts_at(place) {
-                return true;
-            }
+        if self.is_of(place, wanted) {
+            return 1;
         }
-        false
+        0
     }
 
-    /// Returns the first waiting order.
-    pub fn first(&self) -> Option<&Waiting>
-        ensures { option_map (λ w. waited_of w.now) result ≡ slice_get (waiting_in self.now) 0 }
+    /// The number of waiting messages of a selection.
+    pub fn count(&self, selection: usize) -> usize
+        ensures { result ≡ min (2 ^ 64 - 1) (count_of selection (waiting_in self.now)) }
     {
-        self.waiting.front()
+        let mut count: usize = 0;
+        for place in 0..self.waiting.len() {
+            count = count.saturating_add(self.one_at(place, selection));
+        }
+        count
     }
 
     /// Takes the first waiting order.
     pub fn take(&mut self) -> Option<Waiting>
         ensures some { IfSome result (λ first. waiting_in self.old ≡ waited_of first ∷ waiting_in self.new) }
         ensures none { IsNone result → waiting_in self.new ≡ waiting_in self.old }
-        ensures empty { IsNone result → waiting_in self.new ≡ [] }
+        ensures nobody { IsNone result → waiting_in self.old ≡ [] }
     {
         self.waiting.pop_front()
     }
 
-    /// Adds an order to the queue. Returns whether there was memory.
-    pub fn put(&mut self, focus: Focus, order: Given) -> bool
-        ensures { IsTrue result → waiting_in self.new ≡ waiting_in self.old ++ record { focus = focus; text = string_bytes order.text; said = option_map plain_set_order order.said } ∷ [] }
+    /// Appends a message. Returns whether there was memory.
+    pub fn put(&mut self, waiting: Waiting) -> bool
+        ensures { IsTrue result → waiting_in self.new ≡ waiting_in self.old ++ waited_of waiting ∷ [] }
     {
-        self.waiting.push_back(Waiting { focus, order }).is_ok()
+        self.waiting.push_back(waiting).is_ok()
     }
 }

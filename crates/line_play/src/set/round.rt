@@ -1,9 +1,11 @@
 //! A round of a link set on its lines.
 ghost use Rattle.std.specs.Prelude.{◌≡◌, ◌<◌, [], length, replicate, IfOk, OnOk};
+ghost use Rattle.line_tending.specs.Readers.{Minds};
 ghost use Rattle.line_tending.specs.Rounds.{Tends, Ticks};
 ghost use Rattle.line_tending.specs.LinkLines.{Hears, Passes, SILENT};
 ghost use Rattle.line_play.specs.LineTraffic.{Grows, given, front_of, silence_for};
-ghost use Rattle.line_play.specs.SetRounds.{Made, PassesOn, Carries, CarriesAt, CarriesAll};
+ghost use Rattle.line_filter.specs.Reporting.{TellsLines};
+ghost use Rattle.line_play.specs.SetRounds.{Made, PassesOn, Carries, CarriesAt, CarriesAll, late_told};
 
 use crate::set::lines::{LineNews, Lines};
 use crate::set::state::{failed, say_of};
@@ -245,4 +247,29 @@ pub(crate) fn tend(tender: &mut TendedSet) -> io::Result<()>
         Ok(()) => Ok(()),
         Err(error) => Err(failed(error)),
     }
+}
+
+/// Acts on the number of messages that wait for their reader.
+pub(crate) fn mind(tender: &mut TendedSet, messages: usize) -> io::Result<()>
+    ensures { OnOk result (Minds messages tender.old tender.new) }
+{
+    match tender.mind(messages) {
+        Ok(()) => Ok(()),
+        Err(error) => Err(failed(error)),
+    }
+}
+
+/// Reports that rounds of so many milliseconds have to be made up, unless that is 0.
+pub(crate) fn tell_late<P: Reports>(
+    alloc: Global,
+    tender: &TendedSet,
+    late: u64,
+    reports: &mut P,
+) -> io::Result<()>
+    ensures { OnOk result (TellsLines (P.stand reports.old) (P.stand reports.new) (late_told tender.now.ticks late)) }
+{
+    if late == 0 {
+        return Ok(());
+    }
+    say_of(alloc, tender, format!(in alloc; "late {late}")?, reports)
 }

@@ -1,9 +1,8 @@
 //! The command `line`.
 ghost use Rattle.std.specs.Prelude.{◌≡◌, ◌⊎◌, None, Some};
 ghost use Rattle.script_check.specs.Checked.{given};
-ghost use Rattle.mtp2_words.specs.Limits.{usual_limits_of};
 ghost use Rattle.mtp2_words.specs.Own.{text_of};
-ghost use Rattle.mtp2_play.specs.Sets.{own_text_of};
+ghost use Rattle.mtp2_play.specs.Sets.{own_text_of, word_text};
 ghost use Rattle.mtp2_play.specs.Printed.{IsSpoken};
 
 use crate::line::running::run_line as run_on;
@@ -32,7 +31,7 @@ fn line_on<
     reader: &mut R,
     writer: &mut W,
 ) -> u8
-    ensures { IsSpoken (given S.remaining set) (usual_limits_of named.now) end.now result
+    ensures { IsSpoken (word_text named.now) (given S.remaining set) end.now result
         (record { read = R.remaining reader.old; written = W.contents writer.old })
         (record { read = R.remaining reader.new; written = W.contents writer.new }) }
 {
@@ -54,7 +53,7 @@ fn line_text<
     reader: &mut R,
     writer: &mut W,
 ) -> u8
-    ensures { IsSpoken None (usual_limits_of named.now) end.now result
+    ensures { IsSpoken (word_text named.now) None end.now result
         (record { read = R.remaining reader.old; written = W.contents writer.old })
         (record { read = R.remaining reader.new; written = W.contents writer.new }) }
 {
@@ -79,7 +78,7 @@ fn line_own<H: Files<File = File> + Threads + Eprint + Clock + AllocGlobal, R: R
     reader: &mut R,
     writer: &mut W,
 ) -> u8
-    ensures { IsSpoken (Some (text_of own)) (usual_limits_of set.now) end.now result
+    ensures { IsSpoken (word_text set.now) (Some (text_of own)) end.now result
         (record { read = R.remaining reader.old; written = W.contents writer.old })
         (record { read = R.remaining reader.new; written = W.contents writer.new }) }
 {
@@ -97,7 +96,7 @@ pub fn run_line<H: Files<File = File> + Threads + Eprint + Clock + AllocGlobal, 
     reader: &mut R,
     writer: &mut W,
 ) -> u8
-    ensures { IsSpoken (own_text_of set.now) (usual_limits_of set.now) end.now result
+    ensures { IsSpoken (word_text set.now) (own_text_of set.now) end.now result
         (record { read = R.remaining reader.old; written = W.contents writer.old })
         (record { read = R.remaining reader.new; written = W.contents writer.new }) }
 {

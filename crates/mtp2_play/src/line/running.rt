@@ -6,17 +6,18 @@ ghost use Rattle.script_check.specs.Checked.{given, IsGiven};
 ghost use Rattle.line_play.specs.InTurn.{HoldsNone};
 ghost use Rattle.line_play.specs.Opening.{IsNoSet};
 ghost use Rattle.line_streams.specs.Known.{known_of, left_of};
-ghost use Rattle.mtp2_words.specs.Limits.{usual_limits_of};
 ghost use Rattle.mtp2_play.specs.TracedEnds.{terminal_of};
-ghost use Rattle.mtp2_play.specs.Spoken.{AreGiven, ordered_by, SpokeBy, Spoke, SpokeOver, Begun, BegunOver, IsUntouched};
+ghost use Rattle.mtp2_play.specs.Sets.{word_text};
+ghost use Rattle.mtp2_play.specs.Spoken.{chosen_by, AreGiven, ordered_by, SpokeBy, Spoke, SpokeOver, Begun, BegunOver, IsUntouched};
 
 use crate::line::measuring::write_measures;
 use crate::line::traced::{end_trace, open_traced, serve_traced, traced_desk};
 use crate::line::traces::TracedEnd;
+use crate::text::sets::set_word;
 use line_filter::{Desk, MOST_AHEAD, Orders, Reports};
-use line_play::{LinkEnd, link_desk, new_terminal, run_link};
+use line_play::{ChosenLimits, LinkEnd, link_desk, new_terminal, run_link};
 use line_streams::{
-    OrderStream, RecordStream, ReportStream, keep_apart, open_orders, open_reports,
+    Begin, OrderStream, RecordStream, ReportStream, keep_apart, open_orders, open_reports,
 };
 use link_term::Terminal;
 use mtp2_words::{LineEnd, Named};
@@ -33,7 +34,7 @@ use std::time::Clock;
 #[derive(Drop)]
 struct Streams<'a, H: Eprint> {
     orders: OrderStream,
-    reports: ReportStream<Errors<'a, H>>,
+    reports: ReportStream<'a, H, Errors<'a, H>>,
     /// The file for measurements, if there is one.
     measures: Option<File>,
 }
@@ -99,7 +100,7 @@ fn open_streams<'a, H: Files<File = File> + Threads + Eprint + AllocGlobal>(
         return Err(told(teller, Some(end.reports.unwrap_or("standard error")), error));
     }
     let errors = Errors { rt: host };
-    let reports = match open_reports(host, alloc, end.reports, errors) {
+    let reports = match open_reports(host, alloc, end.reports, Begin::Anew, errors) {
         Ok(reports) => reports,
         Err(error) => return Err(told(teller, end.reports, error)),
     };
@@ -116,7 +117,7 @@ fn end_streams<H: Files + Eprint + Clock + AllocGlobal>(
     host: &H,
     measures: Option<File>,
     terminal: &Terminal,
-    reports: &mut ReportStream<Errors<'_, H>>,
+    reports: &mut ReportStream<'_, H, Errors<'_, H>>,
     now: u64,
     status: u8,
 ) -> u8
@@ -160,7 +161,7 @@ fn serve<O: Orders, P: Reports, R: Read, W: Write>(
 fn speak_plain<H: Files<File = File> + Threads + Eprint + Clock + AllocGlobal, R: Read, W: Write>(
     host: &H,
     end: &LineEnd<'_>,
-    desk: &mut Desk<LinkEnd, OrderStream, ReportStream<Errors<'_, H>>>,
+    desk: &mut Desk<LinkEnd, OrderStream, ReportStream<'_, H, Errors<'_, H>>>,
     measures: Option<File>,
     reader: &mut R,
     writer: &mut W,
@@ -195,7 +196,7 @@ fn speak_traced<H: Files<File = File> + Threads + Eprint + Clock + AllocGlobal, 
     host: &H,
     teller: &Teller<'_, H>,
     end: &LineEnd<'_>,
-    desk: &mut Desk<TracedEnd<RecordStream>, OrderStream, ReportStream<Errors<'_, H>>>,
+    desk: &mut Desk<TracedEnd<RecordStream>, OrderStream, ReportStream<'_, H, Errors<'_, H>>>,
     measures: Option<File>,
     reader: &mut R,
     writer: &mut W,
@@ -290,25 +291,28 @@ pub fn run_line<
     reader: &mut R,
     writer: &mut W,
 ) -> u8
-    ensures spoke { result ≡ 0 → IsGiven (given S.remaining set) (SpokeOver (usual_limits_of named.now) end.now
+    ensures spoke { result ≡ 0 → IsGiven (given S.remaining set) (SpokeOver end.now
         (record { read = R.remaining reader.old; written = W.contents writer.old })
         (record { read = R.remaining reader.new; written = W.contents writer.new })) }
     ensures begun { IsUntouched (record { read = R.remaining reader.old; written = W.contents writer.old })
         (record { read = R.remaining reader.new; written = W.contents writer.new })
-        ⊎ IsGiven (given S.remaining set) (BegunOver (usual_limits_of named.now) end.now
+        ⊎ IsGiven (given S.remaining set) (BegunOver end.now
         (record { read = R.remaining reader.old; written = W.contents writer.old })
         (record { read = R.remaining reader.new; written = W.contents writer.new })) }
-    ensures refused { result ≡ 2 → IsGiven (given S.remaining set) (IsNoSet None None) }
+    ensures refused { result ≡ 2 → IsGiven (given S.remaining set) (IsNoSet (word_text named.now) (chosen_by end.now) end.now.mode None None) }
     ensures untouched { result ≡ 2 → IsUntouched (record { read = R.remaining reader.old; written = W.contents writer.old })
         (record { read = R.remaining reader.new; written = W.contents writer.new }) }
     ensures status { (result ≡ 0) ⊎ (result ≡ 2) ⊎ (result ≡ 4) }
 {
-    let usual = named.usual_limits();
-    let limits = end.limits_over(usual);
+    let chosen = ChosenLimits {
+        messages: end.messages,
+        octets: end.octets,
+    };
     match new_terminal(
         host.alloc(),
-        limits,
+        chosen,
         end.mode,
+        set_word(named),
         set,
         &mut Errors { rt: host },
     ) {

@@ -3,7 +3,6 @@ ghost use Rattle.std.specs.Prelude.{◌≡◌, ◌⊎◌, None, option_map};
 ghost use Rattle.script_check.specs.Checked.{given};
 ghost use Rattle.script_play.specs.Played.{IsOnSet, IsRefused};
 ghost use Rattle.script_play.specs.Seen.{IsWatched, IsWatchedInPart};
-ghost use Rattle.mtp2_words.specs.Limits.{usual_limits_of};
 ghost use Rattle.mtp2_words.specs.declared.requests.Named.TheVariants.{Own};
 ghost use Rattle.mtp2_play.specs.Printed.{IsPlayedOn, IsWatchedOn, path_by, wanted_for, wanted_by};
 
@@ -31,42 +30,30 @@ fn play_on<H: Eprint, S: Read + Drop, T: Read + Drop, F: Write, W: Write>(
     alloc: Global,
     teller: &Teller<'_, H>,
     set: SetWord<S>,
-    named: &Named<'_>,
+    name: &str,
     script: T,
     watch: &mut Watch<F>,
     writer: &mut W,
 ) -> u8
     ensures held { result ≡ 0
         → IsOnSet (given S.remaining set) None
-        (IsWatched (usual_limits_of named.now) watch.old.echo watch.old.wanted (W.contents writer.old) (W.contents writer.new)
+        (λ limits. IsWatched limits watch.old.echo watch.old.wanted (W.contents writer.old) (W.contents writer.new)
         (option_map F.contents watch.old.out) (option_map F.contents watch.new.out)) }
     ensures missed { result ≡ 1
         → IsOnSet (given S.remaining set) None
-        (IsWatchedInPart (usual_limits_of named.now) watch.old.echo watch.old.wanted (W.contents writer.old) (W.contents writer.new)
+        (λ limits. IsWatchedInPart limits watch.old.echo watch.old.wanted (W.contents writer.old) (W.contents writer.new)
         (option_map F.contents watch.old.out) (option_map F.contents watch.new.out)) }
     ensures refused { result ≡ 2 → IsRefused (given S.remaining set) None (W.contents writer.old) (W.contents writer.new) }
     ensures status { (result ≡ 0) ⊎ (result ≡ 1) ⊎ (result ≡ 2) ⊎ (result ≡ 4) }
 {
-    let name = set_word(named);
-    let usual = named.usual_limits();
     let (echo, wanted) = (watch.echo, watch.wanted);
     let mut errors = teller.errors();
     if echo {
-        return play(alloc, set, usual, name, script, echo, writer, &mut errors);
+        return play(alloc, set, name, script, echo, writer, &mut errors);
     }
     match &mut watch.out {
-        Some(out) => play_seen(
-            alloc,
-            set,
-            usual,
-            name,
-            script,
-            wanted,
-            out,
-            writer,
-            &mut errors,
-        ),
-        None => play(alloc, set, usual, name, script, echo, writer, &mut errors),
+        Some(out) => play_seen(alloc, set, name, script, wanted, out, writer, &mut errors),
+        None => play(alloc, set, name, script, echo, writer, &mut errors),
     }
 }
 
@@ -75,18 +62,18 @@ fn play_source<R: Runtime + AllocGlobal, H: Eprint, S: Read + Drop, F: Write, W:
     rt: &R,
     teller: &Teller<'_, H>,
     set: SetWord<S>,
-    named: &Named<'_>,
+    name: &str,
     script: Source<'_>,
     watch: &mut Watch<F>,
     writer: &mut W,
 ) -> u8
     ensures held { result ≡ 0
         → IsOnSet (given S.remaining set) None
-        (IsWatched (usual_limits_of named.now) watch.old.echo watch.old.wanted (W.contents writer.old) (W.contents writer.new)
+        (λ limits. IsWatched limits watch.old.echo watch.old.wanted (W.contents writer.old) (W.contents writer.new)
         (option_map F.contents watch.old.out) (option_map F.contents watch.new.out)) }
     ensures missed { result ≡ 1
         → IsOnSet (given S.remaining set) None
-        (IsWatchedInPart (usual_limits_of named.now) watch.old.echo watch.old.wanted (W.contents writer.old) (W.contents writer.new)
+        (λ limits. IsWatchedInPart limits watch.old.echo watch.old.wanted (W.contents writer.old) (W.contents writer.new)
         (option_map F.contents watch.old.out) (option_map F.contents watch.new.out)) }
     ensures refused { result ≡ 2 → IsRefused (given S.remaining set) None (W.contents writer.old) (W.contents writer.new) }
     ensures status { (result ≡ 0) ⊎ (result ≡ 1) ⊎ (result ≡ 2) ⊎ (result ≡ 4) }
@@ -94,14 +81,14 @@ fn play_source<R: Runtime + AllocGlobal, H: Eprint, S: Read + Drop, F: Write, W:
     match script {
         Source::Stdin => {
             let script = NamedReader::new(teller, STDIN, rt.reader());
-            play_on(rt.alloc(), teller, set, named, script, watch, writer)
+            play_on(rt.alloc(), teller, set, name, script, watch, writer)
         }
         Source::File(path) => match fs::open(rt, path) {
             Ok(file) => play_on(
                 rt.alloc(),
                 teller,
                 set,
-                named,
+                name,
                 NamedReader::new(teller, path, file),
                 watch,
                 writer,
@@ -124,8 +111,7 @@ fn play_own<R: Runtime + AllocGlobal, H: Eprint, F: Write, W: Write>(
         (option_map F.contents watch.old.out) (option_map F.contents watch.new.out) }
     ensures status { (result ≡ 0) ⊎ (result ≡ 1) ⊎ (result ≡ 2) ⊎ (result ≡ 4) }
 {
-    let named = Named::Own(own);
-    play_source(rt, teller, own_set(own), &named, script, watch, writer)
+    play_source(rt, teller, own_set(own), own.word(), script, watch, writer)
 }
 
 /// Runs a script on a set whose text comes from a reader.
@@ -133,7 +119,7 @@ fn play_own<R: Runtime + AllocGlobal, H: Eprint, F: Write, W: Write>(
 fn play_text<R: Runtime + AllocGlobal, H: Eprint, S: Read + Drop, F: Write, W: Write>(
     rt: &R,
     teller: &Teller<'_, H>,
-    named: &Named<'_>,
+    name: &str,
     text: S,
     script: Source<'_>,
     watch: &mut Watch<F>,
@@ -141,17 +127,16 @@ fn play_text<R: Runtime + AllocGlobal, H: Eprint, S: Read + Drop, F: Write, W: W
 ) -> u8
     ensures held { result ≡ 0
         → IsOnSet None None
-        (IsWatched (usual_limits_of named.now) watch.old.echo watch.old.wanted (W.contents writer.old) (W.contents writer.new)
+        (λ limits. IsWatched limits watch.old.echo watch.old.wanted (W.contents writer.old) (W.contents writer.new)
         (option_map F.contents watch.old.out) (option_map F.contents watch.new.out)) }
     ensures missed { result ≡ 1
         → IsOnSet None None
-        (IsWatchedInPart (usual_limits_of named.now) watch.old.echo watch.old.wanted (W.contents writer.old) (W.contents writer.new)
+        (λ limits. IsWatchedInPart limits watch.old.echo watch.old.wanted (W.contents writer.old) (W.contents writer.new)
         (option_map F.contents watch.old.out) (option_map F.contents watch.new.out)) }
     ensures refused { result ≡ 2 → IsRefused None None (W.contents writer.old) (W.contents writer.new) }
     ensures status { (result ≡ 0) ⊎ (result ≡ 1) ⊎ (result ≡ 2) ⊎ (result ≡ 4) }
 {
-    let set = SetWord::Text(text);
-    play_source(rt, teller, set, named, script, watch, writer)
+    play_source(rt, teller, SetWord::Text(text), name, script, watch, writer)
 }
 
 /// Runs `play` on the set and the script that the command line names, with a view of the run in a file, if there is
@@ -172,12 +157,12 @@ fn run_watched<R: Runtime + AllocGlobal, H: Eprint, F: Write, W: Write>(
         Named::Own(own) => play_own(rt, teller, own, script, watch, writer),
         Named::Stdin => {
             let text = NamedReader::new(teller, STDIN, rt.reader());
-            play_text(rt, teller, &set, text, script, watch, writer)
+            play_text(rt, teller, set_word(&set), text, script, watch, writer)
         }
         Named::File(path) => match fs::open(rt, path) {
             Ok(file) => {
                 let text = NamedReader::new(teller, path, file);
-                play_text(rt, teller, &set, text, script, watch, writer)
+                play_text(rt, teller, path, text, script, watch, writer)
             }
             Err(error) => teller.fail(path, &error),
         },

@@ -1,81 +1,39 @@
 //! The command `set`.
-ghost use Rattle.std.specs.Prelude.{◌≡◌, ◌⊎◌, None, Some, length, IfErr, IsOk, OnOk};
-ghost use Rattle.script_check.specs.Checked.{given};
-ghost use Rattle.line_play.specs.SetDesks.{Ran, RanFrom, place_of};
-ghost use Rattle.line_play.specs.SetRounds.{Made};
-ghost use Rattle.mtp2_play.specs.SetRuns.{plan_of};
+ghost use Rattle.std.specs.Prelude.{◌≡◌, ◌⊎◌, None, Some, length, IfErr, IfOk, IsOk, OnOk};
+ghost use Rattle.script_check.specs.Checked.{given, IsGiven};
+ghost use Rattle.line_play.specs.Opening.{IsNoSet};
+ghost use Rattle.line_play.specs.SetOpening.{IsNewTenderOver};
+ghost use Rattle.line_streams.specs.Known.{ComeFrom, left_of, stand_of};
+ghost use Rattle.mtp2_play.specs.SetRuns.{RanOn, RanWhole, chosen_of, plan_of};
 ghost use Rattle.mtp2_words.specs.Own.{text_of};
-ghost use Rattle.mtp2_play.specs.Sets.{own_text_of};
+ghost use Rattle.mtp2_play.specs.Sets.{own_text_of, word_text};
 ghost use Rattle.mtp2_play.specs.Printed.{IsSetRun};
 
+use crate::set::beginning::{Origin, SummedReader, sum_of, tell_begin};
+use crate::set::gauges::Gauges;
 use crate::set::lines::SetLines;
+use crate::set::rounds::{run_on, since_1970};
 use crate::set::tap::SetTap;
-use crate::text::sets::own_set;
-use line_filter::{Orders, Reports};
-use line_play::{Ends, Lines, SetDesk, SetPlan, TendedSet, open_tender};
+use crate::text::sets::{own_set, set_word};
+use line_play::{ChosenLimits, Ends, SetPlan, TendedSet, open_tender};
 use line_streams::{
-    OrderStream, ReportStream, keep_apart, open_orders, open_records, open_reports,
+    Begin, OrderStream, ReportStream, keep_apart, open_orders, open_records, open_reports,
 };
 use mtp2_words::{Named, OwnSet, SetEnd};
 use plain_text::{DONE, Errors, FAILED, NamedReader, Teller};
 use script_check::SetWord;
 use std::fs::{self, File};
-use std::io::{self, ErrorKind, Read};
+use std::io::{self, Read};
 use std::rt::Files;
-use std::thread;
 use std::thread::Threads;
-use std::time::{Clock, Duration, Instant};
-
-/// The number of octets of each line taken in a round; `LATE_PART` is the number while rounds are late.
-const PART: usize = 4_096;
-
-const LATE_PART: usize = 16;
-
-/// The number of milliseconds after its time from which a round is late.
-const LATE: u64 = 4;
-
-/// Waits until a round is due, counted from the beginning. Returns whether it is late.
-fn wait<R: Clock>(rt: &R, begin: Instant, round: u64) -> io::Result<bool> {
-    let gone = u64::try_from(begin.elapsed(rt)?.as_millis()).unwrap_or(u64::MAX);
-    if gone < round {
-        thread::sleep(rt, Duration::from_millis(round - gone));
-        return Ok(false);
-    }
-    Ok(gone - round > LATE)
-}
-
-/// Makes round after round, each due with a millisecond of the clock, up to `quit` or the end of all lines.
-fn go_round<H: Clock + AllocGlobal, L: Lines, O: Orders, P: Reports>(
-    host: &H,
-    desk: &mut SetDesk<O, P>,
-    lines: &mut L,
-) -> io::Result<()>
-    ensures { OnOk result (Made (λ bytes traffic. Ran desk.old.ahead (place_of O.left desk.old) bytes traffic (place_of O.left desk.new))
-        (P.stand desk.old.reports) (P.stand desk.new.reports) (L.traffic lines.old) (L.traffic lines.new)) }
-{
-    let begin = Instant::now(host)?;
-    let mut part = [0; PART];
-    let mut out = Vec::new(host.alloc());
-    for round in 0..u64::MAX {
-        let is_late = wait(host, begin, round)?;
-        let room = if is_late { LATE_PART } else { PART };
-        let goes_on = desk.round(host.alloc(), lines, &mut part[..room], &mut out)?;
-        if !goes_on {
-            return Ok(());
-        }
-        let are_over = lines.are_over()?;
-        if are_over {
-            return Ok(());
-        }
-    }
-    Err(io::Error::from(ErrorKind::Other))
-}
+use std::time::Clock;
 
 /// Opens a requested capture, with its header. A failure is reported by the name, and the exit status returned.
 fn tap_of<H: Files<File = File> + Threads + Eprint + AllocGlobal>(
     host: &H,
     teller: &Teller<'_, H>,
     links: usize,
+    since: u64,
     path: Option<&str>,
 ) -> Result<Option<SetTap>, u8>
     ensures { IfErr result (λ status. status ≡ 4) }
@@ -87,7 +45,7 @@ fn tap_of<H: Files<File = File> + Threads + Eprint + AllocGlobal>(
         Ok(sink) => sink,
         Err(error) => return Err(teller.fail(path, &error)),
     };
-    match SetTap::start(host.alloc(), links, sink) {
+    match SetTap::start(host.alloc(), links, since, sink) {
         Ok(tap) => Ok(Some(tap)),
         Err(error) => Err(teller.fail(path, &error)),
     }
@@ -123,6 +81,14 @@ fn status_of(ran: io::Result<()>, ended: io::Result<()>) -> u8
     }
 }
 
+/// The source of orders, the destination of reports, and the capture.
+#[derive(Drop)]
+struct Streams<'a, H: Eprint> {
+    orders: OrderStream,
+    reports: ReportStream<'a, H, Errors<'a, H>>,
+    tap: Option<SetTap>,
+}
+
 /// Runs a link set on its lines. Returns the exit status.
 fn serve<H: Files<File = File> + Threads + Eprint + Clock + AllocGlobal>(
     host: &H,
@@ -130,16 +96,16 @@ fn serve<H: Files<File = File> + Threads + Eprint + Clock + AllocGlobal>(
     lines: &[&str],
     end: &SetEnd<'_>,
     tender: TendedSet,
-    orders: OrderStream,
-    reports: ReportStream<Errors<'_, H>>,
+    streams: Streams<'_, H>,
 ) -> u8
-    ensures ran { result ≡ 0 → RanFrom end.now.ahead tender }
+    ensures ran { result ≡ 0 → RanWhole end.now.ahead tender (left_of streams.entry.orders) (stand_of (λ errors. None) streams.entry.reports) }
     ensures status { (result ≡ 0) ⊎ (result ≡ 4) }
 {
-    let tap = match tap_of(host, teller, lines.len(), end.capture) {
-        Ok(tap) => tap,
-        Err(status) => return status,
-    };
+    let Streams {
+        orders,
+        reports,
+        tap,
+    } = streams;
     let Ok(mut open_lines) = SetLines::shut(
         host,
         teller,
@@ -151,10 +117,18 @@ fn serve<H: Files<File = File> + Threads + Eprint + Clock + AllocGlobal>(
     ) else {
         return FAILED;
     };
-    let Ok(mut desk) = SetDesk::new(host.alloc(), tender, end.ahead, orders, reports) else {
+    let mut gauges = Gauges::new(host, teller, end.measures);
+    let Ok((ran, desk)) = run_on(
+        host,
+        tender,
+        end.ahead,
+        orders,
+        reports,
+        &mut open_lines,
+        &mut gauges,
+    ) else {
         return FAILED;
     };
-    let ran = go_round(host, &mut desk, &mut open_lines);
     let now = desk.millisecond();
     let (_orders, mut reports) = desk.end();
     let ended = reports.end(host, now);
@@ -162,57 +136,107 @@ fn serve<H: Files<File = File> + Threads + Eprint + Clock + AllocGlobal>(
     end_tap(host, teller, end.capture, open_lines.tap.take(), status)
 }
 
-/// Opens the source of orders and the sink of reports, and runs a link set. A failure is reported by the name.
+/// Opens the destination of reports, and reports how the run begins. If something can't be opened, it reports the name
+/// and returns the exit status.
+fn open_told<'a, H: Files<File = File> + Threads + Eprint + AllocGlobal>(
+    host: &'a H,
+    teller: &Teller<'_, H>,
+    end: &SetEnd<'_>,
+    since: u64,
+    origin: &Origin<'_>,
+) -> Result<ReportStream<'a, H, Errors<'a, H>>, u8>
+    ensures { IfErr result (λ status. status ≡ 4) }
+{
+    let alloc = host.alloc();
+    let name = end.reports.unwrap_or("reports");
+    if let Err(error) = keep_apart(host, end.orders, end.reports) {
+        return Err(teller.fail(end.reports.unwrap_or("standard error"), &error));
+    }
+    let errors = Errors { rt: host };
+    let mut reports = match open_reports(host, alloc, end.reports, Begin::After, errors) {
+        Ok(reports) => reports,
+        Err(error) => return Err(teller.fail(name, &error)),
+    };
+    match tell_begin(alloc, since, origin, &mut reports) {
+        Ok(()) => Ok(reports),
+        Err(error) => Err(teller.fail(name, &error)),
+    }
+}
+
+/// Opens the source of orders, the destination of reports and the capture, and reports how the run begins. If something
+/// can't be opened, it reports the name and returns the exit status.
+fn open_streams<'a, H: Files<File = File> + Threads + Eprint + Clock + AllocGlobal>(
+    host: &'a H,
+    teller: &Teller<'_, H>,
+    links: usize,
+    end: &SetEnd<'_>,
+    origin: &Origin<'_>,
+) -> Result<Streams<'a, H>, u8>
+    ensures orders { IfOk result (λ streams. ComeFrom end.now.orders streams.orders) }
+    ensures status { IfErr result (λ status. status ≡ 4) }
+{
+    let Ok(since) = since_1970(host) else {
+        return Err(FAILED);
+    };
+    let orders = match open_orders(host, host.alloc(), end.orders) {
+        Ok(orders) => orders,
+        Err(error) => return Err(teller.fail(end.orders.unwrap_or("orders"), &error)),
+    };
+    let reports = open_told(host, teller, end, since, origin)?;
+    let tap = tap_of(host, teller, links, since, end.capture)?;
+    Ok(Streams {
+        orders,
+        reports,
+        tap,
+    })
+}
+
+/// Opens the streams of a set, and runs it. Returns the exit status.
 fn begin<H: Files<File = File> + Threads + Eprint + Clock + AllocGlobal>(
     host: &H,
     teller: &Teller<'_, H>,
     lines: &[&str],
     end: &SetEnd<'_>,
+    origin: &Origin<'_>,
     tender: TendedSet,
 ) -> u8
-    ensures ran { result ≡ 0 → RanFrom end.now.ahead tender }
+    ensures ran { result ≡ 0 → RanOn end.now tender }
     ensures status { (result ≡ 0) ⊎ (result ≡ 4) }
 {
-    let orders = match open_orders(host, host.alloc(), end.orders) {
-        Ok(orders) => orders,
-        Err(error) => return teller.fail(end.orders.unwrap_or("orders"), &error),
-    };
-    if let Err(error) = keep_apart(host, end.orders, end.reports) {
-        return teller.fail(end.reports.unwrap_or("standard error"), &error);
+    match open_streams(host, teller, lines.len(), end, origin) {
+        Ok(streams) => serve(host, teller, lines, end, tender, streams),
+        Err(status) => status,
     }
-    let reports = match open_reports(host, host.alloc(), end.reports, Errors { rt: host }) {
-        Ok(reports) => reports,
-        Err(error) => return teller.fail(end.reports.unwrap_or("reports"), &error),
-    };
-    serve(host, teller, lines, end, tender, orders, reports)
 }
 
-/// Runs a link set with a process set. Returns the exit status.
-fn run_on<H: Files<File = File> + Threads + Eprint + Clock + AllocGlobal, S: Read + Drop>(
+/// A new set of links over processes, as the words of `set` describe it.
+fn tender_over<H: Eprint + AllocGlobal, S: Read + Drop>(
     host: &H,
-    teller: &Teller<'_, H>,
     named: &Named<'_>,
-    lines: &[&str],
+    links: usize,
     end: &SetEnd<'_>,
     set: SetWord<S>,
-) -> u8
-    ensures { IsSetRun (given S.remaining set) (plan_of named.now (length lines.now) end.now) end.now.ahead result }
+) -> Result<TendedSet, u8>
+    ensures ok { IfOk result (λ t. IsGiven (given S.remaining set) (IsNewTenderOver (plan_of links end.now) t)) }
+    ensures refused { IfErr result (λ status. status ≡ 2 → IsGiven (given S.remaining set) (IsNoSet (word_text named.now) (chosen_of end.now) end.now.mode None None)) }
+    ensures status { IfErr result (λ status. (status ≡ 2) ⊎ (status ≡ 4)) }
 {
     let plan = SetPlan {
         mode: end.mode,
-        limits: named.usual_limits(),
+        limits: ChosenLimits {
+            messages: end.messages,
+            octets: end.octets,
+        },
         ends: Ends {
             own: end.own,
             peer: end.peer,
             network: end.network,
         },
-        links: lines.len(),
+        links,
         tests: end.tests,
     };
-    match open_tender(host.alloc(), plan, set, &mut Errors { rt: host }) {
-        Ok(tender) => begin(host, teller, lines, end, tender),
-        Err(status) => status,
-    }
+    let name = set_word(named);
+    open_tender(host.alloc(), plan, name, set, &mut Errors { rt: host })
 }
 
 /// Runs a link set with a process set whose text comes from a reader. Returns the exit status.
@@ -224,9 +248,18 @@ fn run_text<H: Files<File = File> + Threads + Eprint + Clock + AllocGlobal, S: R
     end: &SetEnd<'_>,
     text: S,
 ) -> u8
-    ensures { IsSetRun None (plan_of named.now (length lines.now) end.now) end.now.ahead result }
+    ensures { IsSetRun (word_text named.now) None (plan_of (length lines.now) end.now) end.now result }
 {
-    run_on(host, teller, named, lines, end, SetWord::Text(text))
+    let mut summed = SummedReader::new(text);
+    let tender = match tender_over(host, named, lines.len(), end, SetWord::Text(&mut summed)) {
+        Ok(tender) => tender,
+        Err(status) => return status,
+    };
+    let Ok(sum) = summed.sum(host.alloc()) else {
+        return FAILED;
+    };
+    let name = set_word(named);
+    begin(host, teller, lines, end, &Origin { name, sum }, tender)
 }
 
 /// Runs a link set with a built-in process set. Returns the exit status.
@@ -238,9 +271,17 @@ fn run_own<H: Files<File = File> + Threads + Eprint + Clock + AllocGlobal>(
     end: &SetEnd<'_>,
     own: OwnSet,
 ) -> u8
-    ensures { IsSetRun (Some (text_of own)) (plan_of named.now (length lines.now) end.now) end.now.ahead result }
+    ensures { IsSetRun (word_text named.now) (Some (text_of own)) (plan_of (length lines.now) end.now) end.now result }
 {
-    run_on(host, teller, named, lines, end, own_set(own))
+    let tender = match tender_over(host, named, lines.len(), end, own_set(own)) {
+        Ok(tender) => tender,
+        Err(status) => return status,
+    };
+    let Ok(sum) = sum_of(host.alloc(), own.text()) else {
+        return FAILED;
+    };
+    let name = set_word(named);
+    begin(host, teller, lines, end, &Origin { name, sum }, tender)
 }
 
 /// Runs `set`: one end of a link set on its lines. Returns the exit status. 0: after `quit`, or no line could be opened
@@ -252,7 +293,7 @@ pub fn run_set<H: Files<File = File> + Threads + Eprint + Clock + AllocGlobal>(
     lines: &[&str],
     end: &SetEnd<'_>,
 ) -> u8
-    ensures { IsSetRun (own_text_of named.now) (plan_of named.now (length lines.now) end.now) end.now.ahead result }
+    ensures { IsSetRun (word_text named.now) (own_text_of named.now) (plan_of (length lines.now) end.now) end.now result }
 {
     match named {
         Named::File(path) => match fs::open(host, path) {

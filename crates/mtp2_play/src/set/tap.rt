@@ -22,8 +22,10 @@ struct Tapped {
 pub struct SetTap {
     lines: Vec<Tapped>,
     sink: RecordStream,
-    /// The time at which the round began, in microseconds.
+    /// The microsecond since 1970 at which the round began.
     at: u64,
+    /// The millisecond since 1970 at which the run began.
+    since: u64,
     /// The error that ended the capture: from then on nothing is captured, and the run ends.
     trouble: Option<io::Error>,
 }
@@ -61,12 +63,18 @@ impl Tapped {
 }
 
 impl SetTap {
-    /// Returns a capture of `links` lines before their first octets, and writes pcap's header to its sink.
+    /// Before the first octet of so many lines, at so many milliseconds since the beginning of 1970. Records are
+    /// written to a sink, which gets pcap's header now.
     ///
     /// # Errors
     ///
-    /// Out of memory, or the header can't be written.
-    pub fn start(alloc: Global, links: usize, sink: RecordStream) -> io::Result<SetTap> {
+    /// If memory runs out, or the header can't be written.
+    pub fn start(
+        alloc: Global,
+        links: usize,
+        since: u64,
+        sink: RecordStream,
+    ) -> io::Result<SetTap> {
         let mut lines = Vec::with_capacity(alloc, links)?;
         for link in 0..links {
             lines.push(Tapped {
@@ -79,14 +87,15 @@ impl SetTap {
         Ok(SetTap {
             lines,
             sink,
-            at: 0,
+            at: since.saturating_mul(1_000),
+            since,
             trouble: None,
         })
     }
 
     /// Begins a round.
     pub fn begin(&mut self, now: u64) {
-        self.at = now.saturating_mul(1_000);
+        self.at = self.since.saturating_add(now).saturating_mul(1_000);
     }
 
     /// Notes octets received on a line; the first bit of each is its least significant one.
@@ -137,7 +146,7 @@ impl SetTap {
             return teller.fail(path, &error);
         }
         let lost = self.sink.lost();
-        let now = self.at / 1_000;
+        let now = (self.at / 1_000).saturating_sub(self.since);
         if lost > 0 {
             let line = format_args!("{now} lost {lost} capture");
             if write_line(host.alloc(), &mut teller.errors(), &line).is_err() {

@@ -89,8 +89,11 @@ fn with_text<H: Eprint, S: Read + Drop, W: Write>(
     ensures status { IfErr result (λ s. (s ≡ 2) ⊎ (s ≡ 4)) }
 {
     match find_set(alloc, set) {
-        Ok(set) => match Vec::from_slice(alloc, text) {
-            Ok(text) => Ok(Side { set, text }),
+        Ok(found) => match Vec::from_slice(alloc, text) {
+            Ok(text) => Ok(Side {
+                set: found.set,
+                text,
+            }),
             Err(_) => Err(FAILED),
         },
         Err(refusal) => Err(refuse_side(alloc, teller, named, &refusal, writer)),

@@ -4,7 +4,7 @@ ghost use Rattle.sdl_lex.specs.Lexed.{Answers};
 ghost use Rattle.sdl_tree.specs.Syntax.{Reads};
 ghost use Rattle.sdl_ast.specs.Views.{block_of};
 ghost use Rattle.script_point.specs.Pointing.{token_end};
-ghost use Rattle.mtp2_play.specs.Warned.{IsLong, IsShort, IsWarning, PointsWhole, AreTold, WarnsOf};
+ghost use Rattle.mtp2_play.specs.Warned.{IsMeant, IsLong, IsShort, IsWarning, PointsWhole, AreTold, WarnsOf};
 ghost use Rattle.sdl_warnings.specs.Printed.{kind_text};
 
 use script_point::{Notes, Word, line_begin, line_end, point, point_head};
@@ -13,6 +13,7 @@ use sdl_tables::BlockTable;
 use sdl_tree::{Block, parse};
 use sdl_warnings::{Warning, warnings};
 use std::alloc::{AllocError, Global};
+use turn_verify::meaning;
 
 /// The most octets of a line that is printed with a warning.
 const MOST_SHOWN: usize = 1000;
@@ -117,7 +118,7 @@ fn push_all(
     Ok(())
 }
 
-/// Appends the lines of the warnings of the block that a text with these tokens reads as. Returns whether there is one.
+/// Appends the lines of the warnings of the block that a text with these tokens means. Returns whether there is one.
 #[tactic(auto, using(crate::proofs::Warnings::block_warned))]
 fn push_of_table(
     alloc: Global,
@@ -128,7 +129,7 @@ fn push_of_table(
     table: &BlockTable,
 ) -> Result<bool, AllocError>
     requires lexed { Answers text.now (Ok tokens.now) }
-    requires reads { Reads tokens.now (block_of table.now) }
+    requires meant { IsMeant tokens.now (block_of table.now) }
     ensures { IfOk result (λ some. WarnsOf name.now text.now told.old.items told.new.items some) }
 {
     let found = warnings(alloc, table)?;
@@ -137,7 +138,8 @@ fn push_of_table(
     Ok(!none)
 }
 
-/// As `push_of_table`, for a block without its tables.
+/// Appends the lines of the warnings of a text with these tokens that reads as this block: of the block with values in
+/// place of its synonyms. Returns whether there is one.
 fn push_of_block(
     alloc: Global,
     told: &mut Vec<u8>,
@@ -150,7 +152,8 @@ fn push_of_block(
     requires reads { Reads tokens.now (block_of block.now) }
     ensures { IfOk result (λ some. WarnsOf name.now text.now told.old.items told.new.items some) }
 {
-    match BlockTable::new(alloc, block) {
+    let meant = meaning(alloc, block)?;
+    match BlockTable::new(alloc, &meant) {
         Ok(table) => push_of_table(alloc, told, name, text, tokens, &table),
         Err(_) => Err(AllocError),
     }

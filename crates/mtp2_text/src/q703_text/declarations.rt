@@ -10,6 +10,14 @@ macro_rules! declarations {
    It is `standard` (examples/standard.sdl) but where a comment begins with a star; behind it stands the clause or figure of Q.703. */
 BLOCK Q703;
 
+/* Timers in milliseconds, with their ranges on a link of 64 kbit/s (12.3): T1 40 to 50 s, T2 5 to 50 s at the end with the shorter one and
+   70 to 150 s at the other, T3 1 to 2 s, T4 by the proving period (T4n: Pn, 7.5 to 9.5 s; T4e: Pe, 400 to 600 ms), T5 80 to 120 ms, T6 3 to
+   6 s, T7 0.5 to 2 s, with preventive cyclic retransmission 0.8 to 2 s. */
+SYNONYM T1 = 45000, T2 = 25000, T3 = 1500, T4n = 8200, T4e = 500, T5 = 100, T6 = 5000, T7 = 1000;
+/* How many unacknowledged messages and octets force preventive cyclic retransmission (6.4): N1 1 to 127, N2 300 to 8192. On a full line
+   N2 octets take less time than the far side may take to acknowledge a message. */
+SYNONYM N1 = 127, N2 = 3000;
+
 /* from the environment; Errored: a signal unit with errors, or N = 16 octets without one */
 SIGNAL PowerOn, StartLink, StopLink, Emergency, Calm, LocalOut, LocalBack;
 SIGNAL Unit(Integer), Bad, Errored, Good, MsuSent, AckSeen(Boolean), Busy, Free;

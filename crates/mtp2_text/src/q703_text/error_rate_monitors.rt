@@ -42,10 +42,12 @@ INPUT AeStop;
 ENDSTATE Aborted;
 ENDPROCESS AERM;
 
-/* The signal unit error rate monitor: a leaky bucket c, which an error fills and each 256th unit (D) empties by one; at 64 (T) the link
+/* The signal unit error rate monitor: a leaky bucket c, which an error fills and each unit D empties by one; at T the link
    fails. * octets: octet counting is on. There N octets are an error, and no unit that counts to D (10.2, figure 18). */
 PROCESS SUERM (1, 1);
 DCL c, n Integer := 0, octets Boolean := FALSE;
+/* where the bucket overflows, and units for which it loses one (10.2) */
+SYNONYM T = 64, D = 256;
 START;
 NEXTSTATE Idle;
 
@@ -60,7 +62,7 @@ ENDSTATE Idle;
 STATE Watching;
 INPUT Errored;
   TASK c := c + 1;
-  DECISION c >= 64;
+  DECISION c >= T;
   (TRUE):
     OUTPUT Fail(2);
     NEXTSTATE Idle;
@@ -84,7 +86,7 @@ ENDSTATE Watching;
 
 /* a unit was counted */
 CONNECTION step:
-  DECISION n >= 256;
+  DECISION n >= D;
   (TRUE):
     TASK n := 0;
     DECISION c > 0;

@@ -5,9 +5,11 @@ macro_rules! initial_alignment_control {
     ([$($before:literal)*] $next:ident $($rest:ident)*) => {
         $next!([$($before)*
 "/* Initial alignment control. em: the emergency is on here; short: the proving period is Pe, the emergency one, else Pn; more: another
-   period is to follow; cp: aborted periods, of which M = 5 end the alignment. */
+   period is to follow; cp: aborted periods, of which M end the alignment. */
 PROCESS IAC (1, 1);
 DCL em, short, more Boolean := FALSE, cp, k Integer := 0;
+/* aborted periods that end the alignment (7.3), and errors that abort one of Pn and of Pe (10.3) */
+SYNONYM M = 5, Tin = 4, Tie = 1;
 TIMER T2, T3, T4;
 START;
 NEXTSTATE Idle;
@@ -16,7 +18,7 @@ STATE Idle;
 INPUT IacStart(em);
   TASK short := em;
   OUTPUT Tx(0);
-  SET(NOW + 25000, T2);
+  SET(NOW + T2, T2);
   NEXTSTATE NotAligned;
 ENDSTATE Idle;
 
@@ -80,7 +82,7 @@ INPUT T4;
   ENDDECISION;
 INPUT Abort;
   TASK cp := cp + 1;
-  DECISION cp >= 5;
+  DECISION cp >= M;
   (TRUE):
     RESET(T4);
     OUTPUT AeStop, AlignFail;
@@ -102,7 +104,7 @@ INPUT Stat(k);
   (0):
     RESET(T4);
     OUTPUT AeStop;
-    SET(NOW + 1500, T3);
+    SET(NOW + T3, T3);
     NEXTSTATE Aligned;
   (2):
     DECISION short;
@@ -139,7 +141,7 @@ CONNECTION meet:
   (FALSE):
     OUTPUT Tx(1);
   ENDDECISION;
-  SET(NOW + 1500, T3);
+  SET(NOW + T3, T3);
   NEXTSTATE Aligned;
 ENDCONNECTION meet;
 
@@ -150,16 +152,16 @@ CONNECTION prove:
   JOIN period;
 ENDCONNECTION prove;
 
-/* a proving period begins: by Tie = 1 and Pe in an emergency, else by Tin = 4 and Pn */
+/* a proving period begins: by Tie and Pe in an emergency, else by Tin and Pn */
 CONNECTION period:
   TASK more := FALSE;
   DECISION short;
   (TRUE):
-    OUTPUT AeStart(1);
-    SET(NOW + 500, T4);
+    OUTPUT AeStart(Tie);
+    SET(NOW + T4e, T4);
   (FALSE):
-    OUTPUT AeStart(4);
-    SET(NOW + 8200, T4);
+    OUTPUT AeStart(Tin);
+    SET(NOW + T4n, T4);
   ENDDECISION;
   NEXTSTATE Proving;
 ENDCONNECTION period;

@@ -54,7 +54,7 @@ INPUT Emergency;
   NEXTSTATE InitAlign;
 INPUT AlignDone;
   OUTPUT SuStart;
-  SET(NOW + 45000, T1);
+  SET(NOW + T1, T1);
   DECISION lpo;
   (TRUE):
     /* * units are judged here too, and messages rejected (figures 8 and 14) */

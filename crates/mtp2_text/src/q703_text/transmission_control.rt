@@ -26,7 +26,7 @@ INPUT Tx(k);
   (9):
     DECISION out AND NOT run;
     (TRUE):
-      SET(NOW + 1000, T7);
+      SET(NOW + T7, T7);
       TASK run := TRUE;
     (FALSE):
     ENDDECISION;
@@ -45,7 +45,7 @@ INPUT MsuSent;
   DECISION run;
   (TRUE):
   (FALSE):
-    SET(NOW + 1000, T7);
+    SET(NOW + T7, T7);
     TASK run := TRUE;
   ENDDECISION;
   NEXTSTATE Sending;
@@ -56,7 +56,7 @@ INPUT AckSeen(m);
   TASK cong := FALSE, out := m, run := m AND k = 9;
   DECISION run;
   (TRUE):
-    SET(NOW + 1000, T7);
+    SET(NOW + T7, T7);
   (FALSE):
   ENDDECISION;
   NEXTSTATE Sending;
@@ -64,11 +64,11 @@ INPUT AckSeen(m);
 INPUT SibSeen;
   DECISION run;
   (TRUE):
-    SET(NOW + 1000, T7);
+    SET(NOW + T7, T7);
     DECISION cong;
     (TRUE):
     (FALSE):
-      SET(NOW + 5000, T6);
+      SET(NOW + T6, T6);
       TASK cong := TRUE;
     ENDDECISION;
   (FALSE):

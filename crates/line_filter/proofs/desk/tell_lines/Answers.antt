@@ -11,4 +11,4 @@ pub loop-line-preserved : goal.loop-line-preserved
 loop-line-preserved g c =
     lines_more (listed c.args.now c.args.order.now) c.args.lines.now c.loop-line.line-index c.line-item.result
     (listed c.args.now c.args.order.now c.line-item.result) _ (g.P.Reports.stand c.loop-line.reports) _
-    (search rules) (search rules) refl (search rules) (tells_one _ _ _ _ (search rules))
+    (search rules) (search rules) refl (search rules) (tells_one _ _ _ _ _ (search rules))

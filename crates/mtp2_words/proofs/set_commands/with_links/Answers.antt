@@ -16,7 +16,5 @@ returns c = λ local.
     c.needed_word-peer.ensures.rule c.needed_word-peer.ensures.local c.in_ok-arg-3.ensures in
     let network = with_word _ (option_word (codes "network")) _ c.option_word-network.result c.in_ok-arg-4.field-0 peer
     c.option_word-network.ensures.rule c.option_word-network.ensures.local c.in_ok-arg-4.ensures in
-    let set = with_word _ (option_word (codes "set")) _ c.option_word-set.result c.in_ok-arg-5.field-0 network
-    c.option_word-set.ensures.rule c.option_word-set.ensures.local c.in_ok-arg-5.ensures in
-    IfOk-weaker c.arg-6.result _ _ (λ r a. with_word _ (option_word (codes "text")) _ c.option_word-text.result r set
-    c.option_word-text.ensures.rule c.option_word-text.ensures.local a) c.arg-6.ensures
+    IfOk-weaker c.arg-5.result _ _ (λ r a. with_word _ (option_word (codes "set")) _ c.option_word-set.result r network
+    c.option_word-set.ensures.rule c.option_word-set.ensures.local a) c.arg-5.ensures

@@ -1,7 +1,7 @@
 use Rattle.std.proofs.Common.{codes, refl}
 use Rattle.std.proofs.lemmas.Result.{IfOk-weaker}
 use Rattle.clap.specs.Words.{app_of}
-use Rattle.mtp2_words.specs.Commands.{option_word, flag_word, IsCommand}
+use Rattle.mtp2_words.specs.Commands.{option_word, IsCommand}
 use Rattle.mtp2_words.proofs.Building.{with_word}
 use Rattle.mtp2_words.proofs.set_commands.with_streams.Goals as goal
 
@@ -12,11 +12,7 @@ returns c = λ local.
     c.option_word-orders.ensures.rule c.option_word-orders.ensures.local c.in_ok-arg.ensures in
     let reports = with_word _ (option_word (codes "reports")) _ c.option_word-reports.result c.in_ok-arg-2.field-0 orders
     c.option_word-reports.ensures.rule c.option_word-reports.ensures.local c.in_ok-arg-2.ensures in
-    let capture = with_word _ (option_word (codes "capture")) _ c.option_word-capture.result c.in_ok-command.command reports
-    c.option_word-capture.ensures.rule c.option_word-capture.ensures.local c.in_ok-command.ensures in
-    let bits = with_word _ (option_word (codes "bits")) _ c.option_word-bits.result c.in_ok-arg-3.field-0 capture
-    c.option_word-bits.ensures.rule c.option_word-bits.ensures.local c.in_ok-arg-3.ensures in
-    let ahead = with_word _ (option_word (codes "ahead")) _ c.option_word-ahead.result c.in_ok-arg-4.field-0 bits
-    c.option_word-ahead.ensures.rule c.option_word-ahead.ensures.local c.in_ok-arg-4.ensures in
-    IfOk-weaker c.arg-6.result _ _ (λ r a. with_word _ (flag_word (codes "no-test")) _ c.flag_word-no_test.result r ahead
-    c.flag_word-no_test.ensures.rule c.flag_word-no_test.ensures.local a) c.arg-6.ensures
+    let capture = with_word _ (option_word (codes "capture")) _ c.option_word-capture.result c.in_ok-arg-3.field-0 reports
+    c.option_word-capture.ensures.rule c.option_word-capture.ensures.local c.in_ok-arg-3.ensures in
+    IfOk-weaker c.arg-4.result _ _ (λ r a. with_word _ (option_word (codes "measures")) _ c.option_word-measures.result r capture
+    c.option_word-measures.ensures.rule c.option_word-measures.ensures.local a) c.arg-4.ensures

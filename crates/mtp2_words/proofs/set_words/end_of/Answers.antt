@@ -11,11 +11,14 @@ words c = record {
   own = c.in_ok-own.own;
   peer = c.in_ok-peer.peer;
   network = c.get_str-4.result;
-  orders = c.get_str-5.result;
-  reports = c.get_str-6.result;
-  capture = c.get_str-7.result;
-  bits = c.get_str-8.result;
-  ahead = c.get_str-9.result;
+  n1 = c.get_str-5.result;
+  n2 = c.get_str-6.result;
+  orders = c.get_str-7.result;
+  reports = c.get_str-8.result;
+  capture = c.get_str-9.result;
+  measures = c.get_str-10.result;
+  bits = c.get_str-11.result;
+  ahead = c.get_str-12.result;
   no_test = c.is_given.result;
 }
 
@@ -25,12 +28,15 @@ under_ids c = record {
   own = sym c.in_ok-own.ensures;
   peer = sym c.in_ok-peer.ensures;
   network = sym c.get_str-4.ensures;
-  orders = sym c.get_str-5.ensures;
-  reports = sym c.get_str-6.ensures;
-  capture = sym c.get_str-7.ensures;
-  bits = sym c.get_str-8.ensures;
-  ahead = sym c.get_str-9.ensures;
-  no_test = ap says_true (sym c.get_str-10.ensures) ∙ sym c.is_given.ensures;
+  n1 = sym c.get_str-5.ensures;
+  n2 = sym c.get_str-6.ensures;
+  orders = sym c.get_str-7.ensures;
+  reports = sym c.get_str-8.ensures;
+  capture = sym c.get_str-9.ensures;
+  measures = sym c.get_str-10.ensures;
+  bits = sym c.get_str-11.ensures;
+  ahead = sym c.get_str-12.ensures;
+  no_test = ap says_true (sym c.get_str-13.ensures) ∙ sym c.is_given.ensures;
 }
 
 pub returns-clause-some : goal.returns-clause-some

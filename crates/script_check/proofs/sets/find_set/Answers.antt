@@ -1,13 +1,13 @@
 use Rattle.std.proofs.Common.{◌∙◌, refl}
 use Rattle.std.specs.Prelude.{IfOk, IfErr}
-use Rattle.script_check.specs.Checked.{IsGiven, IsRefusal, IsRefusedAt, IsSetOf}
+use Rattle.script_check.specs.Checked.{IsGiven, IsRefusal, IsRefusedAt, IsFound}
 use Rattle.script_check.proofs.Long.{set_own, set_passed, fault_placed_own}
 use Rattle.script_check.proofs.Own.{of_text}
 use Rattle.script_check.proofs.sets.find_set.Goals as goal
 
 pub returns-in-Ok-clause-set : goal.returns-in-Ok-clause-set
 returns-in-Ok-clause-set g c =
-    of_text g.R.Read.remaining c.in-Ok.own _ _ (λ known. IfOk c.pointed_set.result (λ v. IsGiven known (λ bytes. IsSetOf bytes v))) c.in-Ok.ensures.own refl
+    of_text g.R.Read.remaining c.in-Ok.own _ _ (λ known. IfOk c.pointed_set.result (λ v. IsGiven known (λ bytes. IsFound bytes v))) c.in-Ok.ensures.own refl
     (set_passed _ _ _ c.pointed_set.ensures.set (set_own _ _ c.own_set.ensures.set))
 
 pub returns-in-Ok-clause-fault : goal.returns-in-Ok-clause-fault

@@ -3,7 +3,8 @@ use Rattle.sdl_ast.specs.declared.tree.Decision.{out-Decision}
 use Rattle.sdl_ast.specs.declared.tree.Statement.{Statement}
 use Rattle.sdl_ast.specs.Plain.{falls}
 use Rattle.sdl_ast.specs.Views.{tree_of, statement_of, else_choice, end_text}
-use Rattle.script_covered.specs.Ways.{stands, way_of, valued, is_for}
+use Rattle.script_covered.specs.Ways.{stands, way_of, is_for}
+use Rattle.sdl_meaning.specs.Valued.{valued}
 use Rattle.script_covered.specs.OnWay.{IsOnWay}
 use Rattle.script_covered.proofs.Walking.{on_start, on_part, first_statement, statement_ends, statement_goes, statements_past, statement_acts, statement_decides, decision_asked, answer_taken, answer_passed, answers_past, first_answer, else_taken}
 use Rattle.script_covered.proofs.ways.+walking.Goals as goal

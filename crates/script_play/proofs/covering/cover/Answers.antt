@@ -1,8 +1,11 @@
+use Rattle.sdl_ast.specs.Views.{block_of}
 use Rattle.script_play.proofs.covering.cover.Goals as goal
 
-pub cover_block-requires : goal.cover_block-requires
-cover_block-requires g c = record {
+pub cover_tree-requires : goal.cover_tree-requires
+cover_tree-requires g c = record {
   tokens = c.deref.result.now;
   lexed = rw c.deref.ensures.value c.in-Ok.ensures.lexed;
-  reads = rw c.in-Ok-new.ensures.table c.in-Ok-parse.ensures.found;
+  written = block_of c.in-Ok-parse.tree;
+  reads = c.in-Ok-parse.ensures.found;
+  means = c.in-Ok-expand.ensures.block;
 }

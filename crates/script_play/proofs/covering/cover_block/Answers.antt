@@ -8,7 +8,7 @@ use Rattle.script_play.proofs.covering.cover_block.Goals as goal
 pub returns-in-Ok-clause-held : goal.returns-in-Ok-clause-held
 returns-in-Ok-clause-held g c zero bytes keeps =
     let ran = status_was _ c.watch_text-status.result 0 c.tell.ensures.status zero (λ is. omega (arith, is)) in
-    play_told_as c.args.usual _ _ c.args.set.now bytes (λ ns. IsCovering (turns_run ns) c.watch_text-status.new.watcher.coverage)
+    play_told_as c.args.limits _ _ c.args.set.now bytes (λ ns. IsCovering (turns_run ns) c.watch_text-status.new.watcher.coverage)
     (IsCoveredBy c.args.name.now c.args.text.now (g.T.Write.contents c.args.out.now) (g.T.Write.contents c.tell.new.out))
     (covered_to c.report-told.result _ _ c.args.name.now c.args.text.now c.watch_text-status.new.watcher.coverage (c.tell.ensures.told (inl zero)) c.report-told.ensures)
     (c.watch_text-status.ensures.held ran c.in-Ok.ensures bytes keeps)
@@ -16,7 +16,7 @@ returns-in-Ok-clause-held g c zero bytes keeps =
 pub returns-in-Ok-clause-missed : goal.returns-in-Ok-clause-missed
 returns-in-Ok-clause-missed g c one bytes keeps =
     let ran = status_was _ c.watch_text-status.result 1 c.tell.ensures.status one (λ is. omega (arith, is)) in
-    play_part_as c.args.usual _ _ c.args.set.now bytes (λ ns. IsCovering (turns_run ns) c.watch_text-status.new.watcher.coverage)
+    play_part_as c.args.limits _ _ c.args.set.now bytes (λ ns. IsCovering (turns_run ns) c.watch_text-status.new.watcher.coverage)
     (IsCoveredBy c.args.name.now c.args.text.now (g.T.Write.contents c.args.out.now) (g.T.Write.contents c.tell.new.out))
     (covered_to c.report-told.result _ _ c.args.name.now c.args.text.now c.watch_text-status.new.watcher.coverage (c.tell.ensures.told (inr one)) c.report-told.ensures)
     (c.watch_text-status.ensures.missed ran c.in-Ok.ensures bytes keeps)

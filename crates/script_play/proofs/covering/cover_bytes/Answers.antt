@@ -1,22 +1,22 @@
 use Rattle.std.proofs.Common.{Some}
-use Rattle.script_check.proofs.Prints.{accepted_bytes, of_refusal, refusal_printed}
+use Rattle.script_check.proofs.Prints.{accepted_found, of_refusal, refusal_printed}
 use Rattle.script_play.specs.Played.{set_refused, script_refused}
 use Rattle.script_play.proofs.Texts.{not_held, not_missed}
 use Rattle.script_play.proofs.CoveredPlays.{bytes_covered, bytes_covered_in_part}
 use Rattle.script_play.proofs.covering.cover_bytes.Goals as goal
 
 pub returns-in-Ok-read-clause-accepted : goal.returns-in-Ok-read-clause-accepted
-returns-in-Ok-read-clause-accepted g c done = accepted_bytes (Some c.args.bytes.now) c.in-Ok.set c.in-Ok.ensures.set
+returns-in-Ok-read-clause-accepted g c done = accepted_found (Some c.args.bytes.now) c.in-Ok.found c.in-Ok.ensures.set
 
 pub returns-in-Ok-read-clause-held : goal.returns-in-Ok-read-clause-held
 returns-in-Ok-read-clause-held g c zero = record {
-  draft = c.in-Ok.set;
+  found = c.in-Ok.found;
   is_set = c.in-Ok.ensures.set;
   of_script = record {
     bytes = c.in-Ok-read.ensures.bytes;
     are_known = c.in-Ok-read.ensures.are_known;
     holds =
-        bytes_covered c.args.name.now c.args.bytes.now c.args.usual _ _ _ _ c.in-Ok.set c.in-Ok-read.ensures.bytes c.in-Ok.ensures.set
+        bytes_covered c.args.name.now c.args.bytes.now _ _ _ _ c.in-Ok.found c.in-Ok-read.ensures.bytes c.in-Ok.ensures.set
         (c.cover_set.ensures.held zero c.in-Ok-read.ensures.bytes c.in-Ok-read.ensures.keeps);
   };
 }
@@ -26,13 +26,13 @@ returns-clause-held g c zero = absurd (not_held _ c.refuse_set.ensures.status ze
 
 pub returns-in-Ok-read-clause-missed : goal.returns-in-Ok-read-clause-missed
 returns-in-Ok-read-clause-missed g c one = record {
-  draft = c.in-Ok.set;
+  found = c.in-Ok.found;
   is_set = c.in-Ok.ensures.set;
   of_script = record {
     bytes = c.in-Ok-read.ensures.bytes;
     are_known = c.in-Ok-read.ensures.are_known;
     holds =
-        bytes_covered_in_part c.args.name.now c.args.bytes.now c.args.usual _ _ _ _ c.in-Ok.set c.in-Ok-read.ensures.bytes c.in-Ok.ensures.set
+        bytes_covered_in_part c.args.name.now c.args.bytes.now _ _ _ _ c.in-Ok.found c.in-Ok-read.ensures.bytes c.in-Ok.ensures.set
         (c.cover_set.ensures.missed one c.in-Ok-read.ensures.bytes c.in-Ok-read.ensures.keeps);
   };
 }
@@ -43,7 +43,7 @@ returns-clause-missed g c one = absurd (not_missed _ c.refuse_set.ensures.status
 pub returns-in-Ok-read-clause-refused : goal.returns-in-Ok-read-clause-refused
 returns-in-Ok-read-clause-refused g c two =
     script_refused (record {
-      draft = c.in-Ok.set;
+      found = c.in-Ok.found;
       is_set = c.in-Ok.ensures.set;
       of_script = record {
         bytes = c.in-Ok-read.ensures.bytes;

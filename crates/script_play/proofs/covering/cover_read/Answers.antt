@@ -28,12 +28,12 @@ returns-clause-accepted g c done known reading =
 
 pub returns-clause-held : goal.returns-clause-held
 returns-clause-held g c zero known reading =
-    covered_as c.args.name.now known c.deref.result.now c.args.usual _ _ _ _ _
+    covered_as c.args.name.now known c.deref.result.now _ _ _ _ _
     (is_kept known c.args.of_set.now c.deref.result.now reading (sym c.is_too_long.ensures ∙ c.if-is_too_long.false) c.deref.ensures.value) (c.cover_bytes.ensures.held zero)
 
 pub returns-clause-missed : goal.returns-clause-missed
 returns-clause-missed g c one known reading =
-    covered_in_part_as c.args.name.now known c.deref.result.now c.args.usual _ _ _ _ _
+    covered_in_part_as c.args.name.now known c.deref.result.now _ _ _ _ _
     (is_kept known c.args.of_set.now c.deref.result.now reading (sym c.is_too_long.ensures ∙ c.if-is_too_long.false) c.deref.ensures.value) (c.cover_bytes.ensures.missed one)
 
 pub returns-clause-refused : goal.returns-clause-refused

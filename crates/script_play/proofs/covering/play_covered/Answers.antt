@@ -5,22 +5,21 @@ use Rattle.mtp2_text.specs.Own.{text_of}
 use Rattle.mtp2_text.specs.declared.own.OwnSet.{OwnSet}
 use Rattle.script_check.specs.declared.sets.SetWord.{SetWord}
 use Rattle.script_check.proofs.Own.{of_text}
-use Rattle.resend_store.specs.declared.messages.RoundLimits.{RoundLimits}
 use Rattle.script_play.specs.Played.{IsOnSet, IsRefused}
 use Rattle.script_play.specs.Seen.{IsTextCovered, IsTextCoveredInPart}
 use Rattle.script_play.proofs.covering.play_covered.Goals as goal
 
-covered : {R : Type 0} (remaining : R → Option (List ℕ)) (own : OwnSet) (set : SetWord R) (text name : List ℕ) (usual : RoundLimits) (script old new begun now : Option (List ℕ))
-    → set ≡ own_word own → text ≡ text_of own → IsOnSet (Some text) script (IsTextCovered name (Some text) usual old new begun now)
-    → IsOnSet (given remaining set) script (IsTextCovered name (given remaining set) usual old new begun now)
-covered remaining own set text name usual script old new begun now is same h =
-    of_text remaining own set text (λ known. IsOnSet known script (IsTextCovered name known usual old new begun now)) is same h
+covered : {R : Type 0} (remaining : R → Option (List ℕ)) (own : OwnSet) (set : SetWord R) (text name : List ℕ) (script old new begun now : Option (List ℕ))
+    → set ≡ own_word own → text ≡ text_of own → IsOnSet (Some text) script (λ limits. IsTextCovered name (Some text) limits old new begun now)
+    → IsOnSet (given remaining set) script (λ limits. IsTextCovered name (given remaining set) limits old new begun now)
+covered remaining own set text name script old new begun now is same h =
+    of_text remaining own set text (λ known. IsOnSet known script (λ limits. IsTextCovered name known limits old new begun now)) is same h
 
-covered_in_part : {R : Type 0} (remaining : R → Option (List ℕ)) (own : OwnSet) (set : SetWord R) (text name : List ℕ) (usual : RoundLimits) (script old new begun now : Option (List ℕ))
-    → set ≡ own_word own → text ≡ text_of own → IsOnSet (Some text) script (IsTextCoveredInPart name (Some text) usual old new begun now)
-    → IsOnSet (given remaining set) script (IsTextCoveredInPart name (given remaining set) usual old new begun now)
-covered_in_part remaining own set text name usual script old new begun now is same h =
-    of_text remaining own set text (λ known. IsOnSet known script (IsTextCoveredInPart name known usual old new begun now)) is same h
+covered_in_part : {R : Type 0} (remaining : R → Option (List ℕ)) (own : OwnSet) (set : SetWord R) (text name : List ℕ) (script old new begun now : Option (List ℕ))
+    → set ≡ own_word own → text ≡ text_of own → IsOnSet (Some text) script (λ limits. IsTextCoveredInPart name (Some text) limits old new begun now)
+    → IsOnSet (given remaining set) script (λ limits. IsTextCoveredInPart name (given remaining set) limits old new begun now)
+covered_in_part remaining own set text name script old new begun now is same h =
+    of_text remaining own set text (λ known. IsOnSet known script (λ limits. IsTextCoveredInPart name known limits old new begun now)) is same h
 
 refused_over : {R : Type 0} (remaining : R → Option (List ℕ)) (own : OwnSet) (set : SetWord R) (text : List ℕ) (script old new : Option (List ℕ))
     → set ≡ own_word own → text ≡ text_of own → IsRefused (Some text) script old new → IsRefused (given remaining set) script old new
@@ -31,10 +30,10 @@ returns-in-Ok-clause-accepted g c done =
     of_text _ c.in-Ok.own _ _ (λ known. IfSome known IsAccepted) c.in-Ok.ensures.own c.text.ensures (c.cover_own.ensures.accepted done)
 
 pub returns-in-Ok-clause-held : goal.returns-in-Ok-clause-held
-returns-in-Ok-clause-held g c zero = covered _ c.in-Ok.own _ _ _ _ _ _ _ _ _ c.in-Ok.ensures.own c.text.ensures (c.cover_own.ensures.held zero)
+returns-in-Ok-clause-held g c zero = covered _ c.in-Ok.own _ _ _ _ _ _ _ _ c.in-Ok.ensures.own c.text.ensures (c.cover_own.ensures.held zero)
 
 pub returns-in-Ok-clause-missed : goal.returns-in-Ok-clause-missed
-returns-in-Ok-clause-missed g c one = covered_in_part _ c.in-Ok.own _ _ _ _ _ _ _ _ _ c.in-Ok.ensures.own c.text.ensures (c.cover_own.ensures.missed one)
+returns-in-Ok-clause-missed g c one = covered_in_part _ c.in-Ok.own _ _ _ _ _ _ _ _ c.in-Ok.ensures.own c.text.ensures (c.cover_own.ensures.missed one)
 
 pub returns-in-Ok-clause-refused : goal.returns-in-Ok-clause-refused
 returns-in-Ok-clause-refused g c two = refused_over _ c.in-Ok.own _ _ _ _ _ c.in-Ok.ensures.own c.text.ensures (c.cover_own.ensures.refused two)

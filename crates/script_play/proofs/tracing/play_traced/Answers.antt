@@ -1,14 +1,14 @@
 use Rattle.script_play.specs.Played.{set_refused, script_refused}
 use Rattle.script_play.proofs.Texts.{not_held, not_missed}
 use Rattle.script_play.proofs.tracing.play_traced.Goals as goal
-use Rattle.script_check.proofs.Prints.{accepted_bytes, of_refusal, refusal_printed}
+use Rattle.script_check.proofs.Prints.{accepted_found, of_refusal, refusal_printed}
 
 pub returns-in-Ok-read-clause-accepted : goal.returns-in-Ok-read-clause-accepted
-returns-in-Ok-read-clause-accepted g c done = accepted_bytes _ c.in-Ok.set c.in-Ok.ensures.set
+returns-in-Ok-read-clause-accepted g c done = accepted_found _ c.in-Ok.found c.in-Ok.ensures.set
 
 pub returns-in-Ok-read-clause-held : goal.returns-in-Ok-read-clause-held
 returns-in-Ok-read-clause-held g c zero = record {
-  draft = c.in-Ok.set;
+  found = c.in-Ok.found;
   is_set = c.in-Ok.ensures.set;
   of_script = record {
     bytes = c.in-Ok-read.ensures.bytes;
@@ -22,7 +22,7 @@ returns-clause-held g c zero = absurd (not_held _ c.refuse_set.ensures.status ze
 
 pub returns-in-Ok-read-clause-missed : goal.returns-in-Ok-read-clause-missed
 returns-in-Ok-read-clause-missed g c one = record {
-  draft = c.in-Ok.set;
+  found = c.in-Ok.found;
   is_set = c.in-Ok.ensures.set;
   of_script = record {
     bytes = c.in-Ok-read.ensures.bytes;
@@ -37,7 +37,7 @@ returns-clause-missed g c one = absurd (not_missed _ c.refuse_set.ensures.status
 pub returns-in-Ok-read-clause-refused : goal.returns-in-Ok-read-clause-refused
 returns-in-Ok-read-clause-refused g c two =
     script_refused (record {
-      draft = c.in-Ok.set;
+      found = c.in-Ok.found;
       is_set = c.in-Ok.ensures.set;
       of_script = record {
         bytes = c.in-Ok-read.ensures.bytes;

@@ -4,7 +4,7 @@ use Rattle.plain_text.specs.Reading.{LONGEST}
 use Rattle.script_links.specs.GroupScripts.{plain_play_script, play_script_of}
 use Rattle.script_lines.specs.Lines.{lines_of}
 use Rattle.script_play.specs.Traced.{AreTraced, AreTracedInPart}
-use Rattle.script_play.specs.Played.{no_text, bad_line, no_script, no_terminal}
+use Rattle.script_play.specs.Played.{no_text, bad_line, no_script, no_limit, no_terminal}
 use Rattle.script_play.proofs.Refusals.{too_long, no_script_in}
 use Rattle.script_play.proofs.Texts.{not_held, not_missed}
 use Rattle.script_play.proofs.tracing.trace_text.Goals as goal
@@ -16,27 +16,32 @@ returns-then-not-read-clause-held g c zero bytes keeps = absurd (not_held _ c.re
 pub returns-then-is_too_long-clause-held : goal.returns-then-is_too_long-clause-held
 returns-then-is_too_long-clause-held g c zero bytes keeps = absurd (not_held _ c.refuse_script.ensures.status zero)
 
-pub returns-in-Ok-play_script_in-clause-held : goal.returns-in-Ok-play_script_in-clause-held
-returns-in-Ok-play_script_in-clause-held g c zero bytes keeps =
+pub returns-in-Ok-usual_over-clause-held : goal.returns-in-Ok-usual_over-clause-held
+returns-in-Ok-usual_over-clause-held g c zero bytes keeps =
     let is_text : IsTrue c.args.read.now.is_text = search rules in
     let same : c.in-Ok.text.now ≡ bytes =
     c.in-Ok.ensures.cases.0 ∙ (c.deref-2.ensures.value ∙ all_kept bytes c.args.read.now keeps (sym c.is_too_long.ensures ∙ c.if-is_too_long.false)) in
     let R : List ℕ → Type 0 =
-    λ bs. AreTraced c.args.usual c.args.every (lines_of bs) c.args.set.now (plain_play_script c.in-Ok-play_script_in.script) (g.T.Write.contents c.args.trace.now)
+    λ bs. AreTraced c.in-Ok-usual_over.usual c.args.every (lines_of bs) c.args.set.now (plain_play_script c.in-Ok-play_script_in.script) (g.T.Write.contents c.args.trace.now)
     (g.T.Write.contents c.trace_script.new.trace) in
     record {
       utf8 = keeps.utf8.0 is_text;
       script = plain_play_script c.in-Ok-play_script_in.script;
       reads = ap play_script_of (sym same) ∙ c.in-Ok-play_script_in.ensures.script;
+      usual = c.in-Ok-usual_over.usual;
+      is_usual = c.in-Ok-usual_over.ensures.ok;
       run = c.trace_script.ensures.held zero;
       traced = subst R same (c.trace_script.ensures.traced zero);
     }
 
-pub returns-in-Err-play_script_in-clause-held : goal.returns-in-Err-play_script_in-clause-held
-returns-in-Err-play_script_in-clause-held g c zero bytes keeps = absurd (not_held _ c.refuse_script-in-Err-play_script_in.ensures.status zero)
+pub returns-in-Ok-play_script_in-clause-held : goal.returns-in-Ok-play_script_in-clause-held
+returns-in-Ok-play_script_in-clause-held g c zero bytes keeps = absurd (not_held _ c.refuse_limit.ensures.status zero)
 
-pub returns-in-Err-clause-held : goal.returns-in-Err-clause-held
-returns-in-Err-clause-held g c zero bytes keeps = absurd (not_held _ c.refuse-in-Err.ensures.status zero)
+pub returns-in-Ok-clause-held : goal.returns-in-Ok-clause-held
+returns-in-Ok-clause-held g c zero bytes keeps = absurd (not_held _ c.refuse_script-in-Err-play_script_in.ensures.status zero)
+
+pub returns-clause-held : goal.returns-clause-held
+returns-clause-held g c zero bytes keeps = absurd (not_held _ c.refuse-in-Err.ensures.status zero)
 
 pub returns-then-not-read-clause-missed : goal.returns-then-not-read-clause-missed
 returns-then-not-read-clause-missed g c one bytes keeps = absurd (not_missed _ c.refuse.ensures.status one)
@@ -44,27 +49,32 @@ returns-then-not-read-clause-missed g c one bytes keeps = absurd (not_missed _ c
 pub returns-then-is_too_long-clause-missed : goal.returns-then-is_too_long-clause-missed
 returns-then-is_too_long-clause-missed g c one bytes keeps = absurd (not_missed _ c.refuse_script.ensures.status one)
 
-pub returns-in-Ok-play_script_in-clause-missed : goal.returns-in-Ok-play_script_in-clause-missed
-returns-in-Ok-play_script_in-clause-missed g c one bytes keeps =
+pub returns-in-Ok-usual_over-clause-missed : goal.returns-in-Ok-usual_over-clause-missed
+returns-in-Ok-usual_over-clause-missed g c one bytes keeps =
     let is_text : IsTrue c.args.read.now.is_text = search rules in
     let same : c.in-Ok.text.now ≡ bytes =
     c.in-Ok.ensures.cases.0 ∙ (c.deref-2.ensures.value ∙ all_kept bytes c.args.read.now keeps (sym c.is_too_long.ensures ∙ c.if-is_too_long.false)) in
     let R : List ℕ → Type 0 =
-    λ bs. AreTracedInPart c.args.usual c.args.every (lines_of bs) c.args.set.now (plain_play_script c.in-Ok-play_script_in.script) (g.T.Write.contents c.args.trace.now)
+    λ bs. AreTracedInPart c.in-Ok-usual_over.usual c.args.every (lines_of bs) c.args.set.now (plain_play_script c.in-Ok-play_script_in.script) (g.T.Write.contents c.args.trace.now)
     (g.T.Write.contents c.trace_script.new.trace) in
     record {
       utf8 = keeps.utf8.0 is_text;
       script = plain_play_script c.in-Ok-play_script_in.script;
       reads = ap play_script_of (sym same) ∙ c.in-Ok-play_script_in.ensures.script;
+      usual = c.in-Ok-usual_over.usual;
+      is_usual = c.in-Ok-usual_over.ensures.ok;
       missed = c.trace_script.ensures.missed one;
       traced = subst R same (c.trace_script.ensures.in_part one);
     }
 
-pub returns-in-Err-play_script_in-clause-missed : goal.returns-in-Err-play_script_in-clause-missed
-returns-in-Err-play_script_in-clause-missed g c one bytes keeps = absurd (not_missed _ c.refuse_script-in-Err-play_script_in.ensures.status one)
+pub returns-in-Ok-play_script_in-clause-missed : goal.returns-in-Ok-play_script_in-clause-missed
+returns-in-Ok-play_script_in-clause-missed g c one bytes keeps = absurd (not_missed _ c.refuse_limit.ensures.status one)
 
-pub returns-in-Err-clause-missed : goal.returns-in-Err-clause-missed
-returns-in-Err-clause-missed g c one bytes keeps = absurd (not_missed _ c.refuse-in-Err.ensures.status one)
+pub returns-in-Ok-clause-missed : goal.returns-in-Ok-clause-missed
+returns-in-Ok-clause-missed g c one bytes keeps = absurd (not_missed _ c.refuse_script-in-Err-play_script_in.ensures.status one)
+
+pub returns-clause-missed : goal.returns-clause-missed
+returns-clause-missed g c one bytes keeps = absurd (not_missed _ c.refuse-in-Err.ensures.status one)
 
 pub returns-then-not-read-clause-refused : goal.returns-then-not-read-clause-refused
 returns-then-not-read-clause-refused g c two bytes keeps =
@@ -85,8 +95,8 @@ returns-then-is_too_long-clause-refused g c two bytes keeps =
     (subst P c.deref.ensures.value c.line_at_limit-line.ensures))
     (c.refuse_script.ensures.printed two))
 
-pub returns-in-Ok-play_script_in-clause-refused : goal.returns-in-Ok-play_script_in-clause-refused
-returns-in-Ok-play_script_in-clause-refused g c two bytes keeps =
+pub returns-in-Ok-usual_over-clause-refused : goal.returns-in-Ok-usual_over-clause-refused
+returns-in-Ok-usual_over-clause-refused g c two bytes keeps =
     let is_text : IsTrue c.args.read.now.is_text = search rules in
     let same : c.in-Ok.text.now ≡ bytes =
     c.in-Ok.ensures.cases.0 ∙ (c.deref-2.ensures.value ∙ all_kept bytes c.args.read.now keeps (sym c.is_too_long.ensures ∙ c.if-is_too_long.false)) in
@@ -94,11 +104,27 @@ returns-in-Ok-play_script_in-clause-refused g c two bytes keeps =
       utf8 = keeps.utf8.0 is_text;
       script = plain_play_script c.in-Ok-play_script_in.script;
       reads = ap play_script_of (sym same) ∙ c.in-Ok-play_script_in.ensures.script;
+      usual = c.in-Ok-usual_over.usual;
+      is_usual = c.in-Ok-usual_over.ensures.ok;
       lacks = c.trace_script.ensures.refused two;
     })
 
-pub returns-in-Err-play_script_in-clause-refused : goal.returns-in-Err-play_script_in-clause-refused
-returns-in-Err-play_script_in-clause-refused g c two bytes keeps =
+pub returns-in-Ok-play_script_in-clause-refused : goal.returns-in-Ok-play_script_in-clause-refused
+returns-in-Ok-play_script_in-clause-refused g c two bytes keeps =
+    let is_text : IsTrue c.args.read.now.is_text = search rules in
+    let same : c.in-Ok.text.now ≡ bytes =
+    c.in-Ok.ensures.cases.0 ∙ (c.deref-2.ensures.value ∙ all_kept bytes c.args.read.now keeps (sym c.is_too_long.ensures ∙ c.if-is_too_long.false)) in
+    no_limit (record {
+      utf8 = keeps.utf8.0 is_text;
+      script = plain_play_script c.in-Ok-play_script_in.script;
+      reads = ap play_script_of (sym same) ∙ c.in-Ok-play_script_in.ensures.script;
+      name = c.in-Err-usual_over.limit;
+      wrong = c.in-Err-usual_over.ensures.err;
+      printed = c.refuse_limit.ensures.printed two;
+    })
+
+pub returns-in-Ok-clause-refused : goal.returns-in-Ok-clause-refused
+returns-in-Ok-clause-refused g c two bytes keeps =
     let is_text : IsTrue c.args.read.now.is_text = search rules in
     let same : c.in-Ok.text.now ≡ bytes =
     c.in-Ok.ensures.cases.0 ∙ (c.deref-2.ensures.value ∙ all_kept bytes c.args.read.now keeps (sym c.is_too_long.ensures ∙ c.if-is_too_long.false)) in
@@ -106,8 +132,8 @@ returns-in-Err-play_script_in-clause-refused g c two bytes keeps =
     (no_script_in _ _ c.in-Ok.text.now bytes c.in-Err-play_script_in.fault same (keeps.utf8.0 is_text) c.in-Err-play_script_in.ensures.fault
     (c.refuse_script-in-Err-play_script_in.ensures.printed two))
 
-pub returns-in-Err-clause-refused : goal.returns-in-Err-clause-refused
-returns-in-Err-clause-refused g c two bytes keeps =
+pub returns-clause-refused : goal.returns-clause-refused
+returns-clause-refused g c two bytes keeps =
     let is_text : IsTrue c.args.read.now.is_text = search rules in
     let same : c.deref-2.result.now ≡ bytes =
     c.deref-2.ensures.value ∙ all_kept bytes c.args.read.now keeps (sym c.is_too_long.ensures ∙ c.if-is_too_long.false) in

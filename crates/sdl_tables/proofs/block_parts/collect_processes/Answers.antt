@@ -5,7 +5,7 @@ use Rattle.sdl_ast.specs.Views.{entity_of, process_of}
 use Rattle.sdl_tables.specs.Names.{processes_in}
 use Rattle.sdl_tables.proofs.Growing.{join_on, join_nothing, pushed}
 use Rattle.sdl_tables.proofs.block_parts.collect_processes.Goals as goal
-use Rattle.sdl_tables.proofs.block_parts.collect_processes.Goals.{in-Signals, in-Route, in-Connect, in-Process+in_ok-push-in-Process}
+use Rattle.sdl_tables.proofs.block_parts.collect_processes.Goals.{in-Signals, in-Route, in-Connect, in-Synonyms, in-Process+in_ok-push-in-Process}
 use Rattle.plain_laws.proofs.Lists.{mapped_more}
 
 pub loop-entity-preserved : goal.loop-entity-preserved
@@ -18,6 +18,8 @@ loop-entity-preserved c =
           join_nothing processes_in [] _ _ _ _ _ more c.loop-entity.invariant (ap (λ v. map (λ (p : Bor the_process.Process). process_of p.now) v.items) w.rows-is) (ap (λ d. processes_in (entity_of d)) w.in-Route.is)
       | in-Connect w ↦
           join_nothing processes_in [] _ _ _ _ _ more c.loop-entity.invariant (ap (λ v. map (λ (p : Bor the_process.Process). process_of p.now) v.items) w.rows-is) (ap (λ d. processes_in (entity_of d)) w.in-Connect.is)
+      | in-Synonyms w ↦
+          join_nothing processes_in [] _ _ _ _ _ more c.loop-entity.invariant (ap (λ v. map (λ (p : Bor the_process.Process). process_of p.now) v.items) w.rows-is) (ap (λ d. processes_in (entity_of d)) w.in-Synonyms.is)
       | in-Process+in_ok-push-in-Process w ↦
           join_on processes_in [] _ _ _ _ _ more c.loop-entity.invariant (ap (λ v. map (λ (p : Bor the_process.Process). process_of p.now) v.items) w.rows-is ∙ (pushed (λ (p : Bor the_process.Process). process_of p.now) _ _ _ w.in_ok-push-in-Process.ensures.items ∙ ap (λ l. map (λ (p : Bor the_process.Process). process_of p.now) c.loop-entity.rows.items ++ l) (sym (ap (λ d. processes_in (entity_of d)) w.in-Process.is))))
     ]

@@ -5,7 +5,7 @@ use Rattle.sdl_ast.specs.Views.{entity_of, signal_of}
 use Rattle.sdl_tables.specs.Names.{signals_in}
 use Rattle.sdl_tables.proofs.Growing.{join_on, join_nothing}
 use Rattle.sdl_tables.proofs.block_parts.collect_signals.Goals as goal
-use Rattle.sdl_tables.proofs.block_parts.collect_signals.Goals.{in-Signals+in_ok-push_signals-in-Signals, in-Route, in-Connect, in-Process}
+use Rattle.sdl_tables.proofs.block_parts.collect_signals.Goals.{in-Signals+in_ok-push_signals-in-Signals, in-Route, in-Connect, in-Synonyms, in-Process}
 use Rattle.plain_laws.proofs.Lists.{mapped_more}
 
 pub loop-entity-preserved : goal.loop-entity-preserved
@@ -18,6 +18,8 @@ loop-entity-preserved c =
           join_nothing signals_in [] _ _ _ _ _ more c.loop-entity.invariant (ap (λ v. map (λ (s : Bor SignalDeclaration). signal_of s.now) v.items) w.rows-is) (ap (λ d. signals_in (entity_of d)) w.in-Route.is)
       | in-Connect w ↦
           join_nothing signals_in [] _ _ _ _ _ more c.loop-entity.invariant (ap (λ v. map (λ (s : Bor SignalDeclaration). signal_of s.now) v.items) w.rows-is) (ap (λ d. signals_in (entity_of d)) w.in-Connect.is)
+      | in-Synonyms w ↦
+          join_nothing signals_in [] _ _ _ _ _ more c.loop-entity.invariant (ap (λ v. map (λ (s : Bor SignalDeclaration). signal_of s.now) v.items) w.rows-is) (ap (λ d. signals_in (entity_of d)) w.in-Synonyms.is)
       | in-Process w ↦
           join_nothing signals_in [] _ _ _ _ _ more c.loop-entity.invariant (ap (λ v. map (λ (s : Bor SignalDeclaration). signal_of s.now) v.items) w.rows-is) (ap (λ d. signals_in (entity_of d)) w.in-Process.is)
     ]

@@ -3,7 +3,7 @@ use Rattle.std.specs.List.{flat_map}
 use Rattle.std.proofs.lemmas.Result.{on_ok_weaker}
 use Rattle.sdl_ast.specs.Views.{block_of, process_of, declaration_of}
 use Rattle.sdl_ast.specs.Plain.{PlainInput}
-use Rattle.sdl_sound.specs.TableNames.{variable_names}
+use Rattle.sdl_tables.specs.Names.{variable_names}
 use Rattle.sdl_tables.specs.Names as names
 use Rattle.sdl_tables.specs.Rows.{variable_of}
 use Rattle.sdl_warnings.specs.Warned.{unsent_stimulus, unsent_inputs, idle_in_declaration, idle_timers, unread_variable, unread_variables}

@@ -1,5 +1,5 @@
 use Rattle.std.proofs.Common.{length, take, ℕ, ◌||◌, ◌≡◌}
-use Rattle.sdl_sound.specs.TableNames.{is_state}
+use Rattle.sdl_tables.specs.Names.{is_state}
 use Rattle.sdl_warnings.specs.Marked.{is_marked}
 use Rattle.std.specs.List.{list_any}
 use Rattle.sdl_warnings.proofs.exits.mark_states.Given as goal

@@ -1,6 +1,6 @@
 use Rattle.std.proofs.Common.{map, take, ◌≡◌}
 use Rattle.sdl_ast.specs.Views.{assignment_of}
-use Rattle.sdl_sound.specs.TableNames.{same_name}
+use Rattle.sdl_tables.specs.Names.{same_name}
 use Rattle.std.specs.List.{list_any}
 use Rattle.sdl_warnings.proofs.reads.assigns_in.Given as goal
 

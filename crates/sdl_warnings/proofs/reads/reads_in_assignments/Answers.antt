@@ -1,5 +1,5 @@
 use Rattle.std.proofs.Common.{ap, ◌∙◌, map, take_all}
-use Rattle.std.specs.List.{list_any, flat_map}
+use Rattle.std.specs.List.{list_any}
 use Rattle.sdl_ast.specs.Plain.{PlainAssignment}
 use Rattle.sdl_ast.specs.Views.{assignment_of}
 use Rattle.sdl_warnings.specs.Warned.{reads_in}

@@ -1,7 +1,7 @@
 use Rattle.std.proofs.Common.{rules, ◌≡◌, ◌&&◌, Bool, List, not, Some, length, ap, ◌∙◌}
 use Rattle.std.specs.List.{list_any}
 use Rattle.sdl_ast.specs.Views.{process_of}
-use Rattle.sdl_sound.specs.TableNames.{number_of, states_of}
+use Rattle.sdl_tables.specs.Names.{number_of, states_of}
 use Rattle.sdl_warnings.specs.Marked.{is_marked}
 use Rattle.sdl_warnings.specs.Reaches.{is_way_in}
 use Rattle.sdl_warnings.specs.Ways.{upto}

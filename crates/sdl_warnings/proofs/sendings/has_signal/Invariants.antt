@@ -1,6 +1,6 @@
 use Rattle.std.proofs.Common.{map, take, ◌≡◌}
 use Rattle.sdl_ast.specs.Views.{sending_of}
-use Rattle.sdl_sound.specs.TableNames.{same_name}
+use Rattle.sdl_tables.specs.Names.{same_name}
 use Rattle.std.specs.List.{list_any}
 use Rattle.sdl_warnings.proofs.sendings.has_signal.Given as goal
 

@@ -1,8 +1,8 @@
 use Rattle.std.proofs.Common.{ap, ◌∙◌, map, take_all}
-use Rattle.std.specs.List.{list_any, flat_map}
+use Rattle.std.specs.List.{list_any}
 use Rattle.sdl_ast.specs.Plain.{PlainState}
 use Rattle.sdl_ast.specs.Views.{state_of}
-use Rattle.sdl_sound.specs.TableNames.{is_in, part_triggers}
+use Rattle.sdl_tables.specs.Names.{is_in, part_triggers}
 use Rattle.sdl_warnings.proofs.signals.heeds.Goals as goal
 
 pub returns : goal.returns

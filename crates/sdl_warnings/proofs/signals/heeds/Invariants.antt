@@ -1,6 +1,6 @@
 use Rattle.std.proofs.Common.{map, take, ◌≡◌}
 use Rattle.sdl_ast.specs.Views.{state_of}
-use Rattle.sdl_sound.specs.TableNames.{is_in, part_triggers}
+use Rattle.sdl_tables.specs.Names.{is_in, part_triggers}
 use Rattle.std.specs.List.{list_any}
 use Rattle.sdl_warnings.proofs.signals.heeds.Given as goal
 

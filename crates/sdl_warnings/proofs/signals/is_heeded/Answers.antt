@@ -2,7 +2,7 @@ use Rattle.std.proofs.Common.{◌∙◌, ◌&&◌, ap, map, take_all}
 use Rattle.std.specs.List.{list_any}
 use Rattle.sdl_ast.specs.Plain.{PlainProcess}
 use Rattle.sdl_ast.specs.Views.{process_of}
-use Rattle.sdl_sound.specs.TableNames.{same_name}
+use Rattle.sdl_tables.specs.Names.{same_name}
 use Rattle.sdl_warnings.specs.Warned.{heeds}
 use Rattle.sdl_warnings.proofs.signals.is_heeded.Goals as goal
 

@@ -1,6 +1,6 @@
 use Rattle.std.proofs.Common.{map, take, ◌≡◌}
 use Rattle.sdl_ast.specs.Views.{clause_of}
-use Rattle.sdl_sound.specs.TableNames.{clause_triggers, is_in}
+use Rattle.sdl_tables.specs.Names.{clause_triggers, is_in}
 use Rattle.std.specs.List.{flat_map}
 use Rattle.sdl_warnings.proofs.signals.is_in_part.Given as goal
 

@@ -1,8 +1,8 @@
 use Rattle.std.proofs.Common.{ap, ◌∙◌, map, take_all}
-use Rattle.std.specs.List.{list_any, flat_map}
+use Rattle.std.specs.List.{list_any}
 use Rattle.sdl_ast.specs.Plain.{PlainPath}
 use Rattle.sdl_ast.specs.Views.{path_of}
-use Rattle.sdl_sound.specs.TableNames.{is_in}
+use Rattle.sdl_tables.specs.Names.{is_in}
 use Rattle.sdl_warnings.proofs.signals.is_on_path.Goals as goal
 
 pub returns : goal.returns

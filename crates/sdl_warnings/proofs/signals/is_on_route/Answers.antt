@@ -2,7 +2,7 @@ use Rattle.std.proofs.Common.{ap, ◌∙◌, map, take_all}
 use Rattle.std.specs.List.{list_any, flat_map}
 use Rattle.sdl_ast.specs.Plain.{PlainPath, PlainRoute}
 use Rattle.sdl_ast.specs.Views.{route_of}
-use Rattle.sdl_sound.specs.TableNames.{is_in}
+use Rattle.sdl_tables.specs.Names.{is_in}
 use Rattle.std.specs.Borrow.{Bor}
 use Rattle.sdl_ast.specs.declared.tree.Route.{Route}
 use Rattle.sdl_warnings.proofs.signals.is_on_route.Goals as goal

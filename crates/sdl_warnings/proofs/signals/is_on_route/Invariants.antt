@@ -1,6 +1,6 @@
 use Rattle.std.proofs.Common.{map, take, ◌≡◌}
 use Rattle.sdl_ast.specs.Views.{route_of}
-use Rattle.sdl_sound.specs.TableNames.{is_in}
+use Rattle.sdl_tables.specs.Names.{is_in}
 use Rattle.std.specs.List.{flat_map, list_any}
 use Rattle.sdl_warnings.proofs.signals.is_on_route.Given as goal
 

@@ -1,6 +1,6 @@
 use Rattle.std.proofs.Common.{map, take, ◌≡◌}
 use Rattle.sdl_ast.specs.Views.{stimulus_of}
-use Rattle.sdl_sound.specs.TableNames.{is_in}
+use Rattle.sdl_tables.specs.Names.{is_in}
 use Rattle.sdl_warnings.proofs.signals.names_one.Given as goal
 
 abbrev pub invariant-loop-stimulus : goal.invariant-loop-stimulus

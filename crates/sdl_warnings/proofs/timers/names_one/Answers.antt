@@ -1,8 +1,8 @@
 use Rattle.std.proofs.Common.{ap, ◌∙◌, map, take_all}
-use Rattle.std.specs.List.{list_any, flat_map}
+use Rattle.std.specs.List.{list_any}
 use Rattle.sdl_ast.specs.Plain.{PlainStimulus}
 use Rattle.sdl_ast.specs.Views.{stimulus_of}
-use Rattle.sdl_sound.specs.TableNames.{same_name}
+use Rattle.sdl_tables.specs.Names.{same_name}
 use Rattle.sdl_warnings.proofs.timers.names_one.Goals as goal
 
 pub returns : goal.returns

@@ -1,11 +1,9 @@
 use Rattle.std.proofs.Common.{◌∙◌, ℕ, List, ap, map, take_all}
 use Rattle.std.specs.Prelude.{filter}
 use Rattle.std.specs.List.{list_any}
-use Rattle.std.specs.Global.{Vec}
 use Rattle.sdl_ast.specs.Views.{process_of}
-use Rattle.sdl_sound.specs.TableNames.{Input}
+use Rattle.sdl_tables.specs.Names.{Input}
 use Rattle.sdl_tables.specs.Rows.{row_input, rows_inputs}
-use Rattle.sdl_tables.specs.declared.process_table.InputRow.{InputRow}
 use Rattle.sdl_warnings.specs.Ways.{enters, state_numbers}
 use Rattle.sdl_warnings.proofs.StateWays.{rows_on, links_same}
 use Rattle.sdl_warnings.proofs.ways.graph_of.Goals as goal

@@ -1,6 +1,6 @@
 use Rattle.std.proofs.Common.{length, map, take, ℕ, ◌≡◌}
 use Rattle.sdl_ast.specs.Views.{process_of}
-use Rattle.sdl_sound.specs.TableNames.{states_of}
+use Rattle.sdl_tables.specs.Names.{states_of}
 use Rattle.sdl_tables.specs.Rows.{row_input}
 use Rattle.sdl_warnings.specs.Marked.{is_marked}
 use Rattle.sdl_warnings.specs.Ways.{enters}

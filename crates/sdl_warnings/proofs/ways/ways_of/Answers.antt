@@ -1,7 +1,7 @@
 use Rattle.std.proofs.Common.{◌≡◌, ◌∙◌, ◌||◌, List, Bool, false, length, replicate, ap, arith}
 use Rattle.std.proofs.lemmas.List.{length-replicate}
 use Rattle.sdl_ast.specs.Views.{process_of}
-use Rattle.sdl_sound.specs.TableNames.{states_of}
+use Rattle.sdl_tables.specs.Names.{states_of}
 use Rattle.sdl_measures.specs.Links.{goes, graph_in}
 use Rattle.sdl_warnings.specs.Marked.{is_marked}
 use Rattle.sdl_warnings.specs.Ways.{enters, state_links}

@@ -1,20 +1,20 @@
-use Rattle.std.proofs.Common.{false, subst}
-use Rattle.std.specs.Prelude.{IsTrue, IfOk}
-use Rattle.sdl_ast.specs.Views.{block_of}
-use Rattle.sdl_compile.specs.Blocks.{MatchesBlock}
-use Rattle.turn_verify.proofs.Loads.{no_refusal, gives_unless, refused_unless}
+use Rattle.std.proofs.lemmas.Result.{IfOk-weaker, IfErr-weaker}
 use Rattle.turn_verify.proofs.loading.set_of.Goals as goal
 
+pub returns-in-Ok-clause-sound : goal.returns-in-Ok-clause-sound
+returns-in-Ok-clause-sound c = IfOk-weaker c.set_meant.result _ _ (λ v h. h _ c.in-Ok.ensures) c.set_meant.ensures.sound
+
+pub returns-in-Ok-clause-matches : goal.returns-in-Ok-clause-matches
+returns-in-Ok-clause-matches c = IfOk-weaker c.set_meant.result _ _ (λ v h. h _ c.in-Ok.ensures) c.set_meant.ensures.matches
+
+pub returns-in-Ok-clause-runs : goal.returns-in-Ok-clause-runs
+returns-in-Ok-clause-runs c = IfOk-weaker c.set_meant.result _ _ (λ v h. h _ c.in-Ok.ensures) c.set_meant.ensures.runs
+
+pub returns-in-Ok-clause-set : goal.returns-in-Ok-clause-set
+returns-in-Ok-clause-set c = IfOk-weaker c.set_meant.result _ _ (λ v h. h _ c.in-Ok.ensures) c.set_meant.ensures.set
+
 pub returns-in-Ok-clause-exact : goal.returns-in-Ok-clause-exact
-returns-in-Ok-clause-exact c sound =
-    gives_unless c.verified.result (MatchesBlock (block_of c.args.block.now))
-    (subst (λ b. IfOk c.verified.result (MatchesBlock (block_of b))) c.in-Ok.ensures.block c.verified.ensures.matches)
-    c.verified.ensures.memory
+returns-in-Ok-clause-exact c sound = c.set_meant.ensures.exact _ c.in-Ok.ensures sound
 
 pub returns-in-Ok-clause-refused : goal.returns-in-Ok-clause-refused
-returns-in-Ok-clause-refused c = refused_unless c.verified.result c.args.text.now (block_of c.args.block.now) c.verified.ensures.memory
-
-pub returns-else-wants_memory-clause-exact : goal.returns-else-wants_memory-clause-exact
-returns-else-wants_memory-clause-exact c sound =
-    let memory = no_refusal _ c.in-Err.fault sound c.in-Err.ensures.refused in
-    let wanted : IsTrue false = subst IsTrue c.if-wants_memory.false (c.wants_memory.ensures.1 memory) in absurd (cc)
+returns-in-Ok-clause-refused c = IfErr-weaker c.set_meant.result _ _ (λ e h ts written. h _ ts c.in-Ok.ensures written) c.set_meant.ensures.refused

@@ -1,5 +1,6 @@
 -- The remaining orders are unchanged.
-use Rattle.line_filter.specs.Reading.{left_of, Stays}
+use Rattle.line_filter.specs.Orders.{Stays}
+use Rattle.line_filter.specs.Reading.{left_of}
 use Rattle.line_filter.proofs.stream.LineOrdersOrders.next.Given as goal
 
 abbrev pub invariant-loop-octet : goal.invariant-loop-octet

@@ -7,4 +7,4 @@ pub returns-in-Some-clause-none : goal.returns-in-Some-clause-none
 returns-in-Some-clause-none c = never_none c.refusal.result _ c.refusal.ensures.some
 
 pub returns-in-Some-clause-some : goal.returns-in-Some-clause-some
-returns-in-Some-clause-some c = refused_fault c.refusal.result (λ s. string_bytes s) c.in-Some.error c.refusal.ensures.text
+returns-in-Some-clause-some c = rw c.in-Some.is (refused_fault c.refusal.result (λ s. string_bytes s) c.in-Some.error c.refusal.ensures.text)

@@ -1,14 +1,10 @@
-use Rattle.line_play.proofs.SetRounds.{taken_at_once, taken_behind, taken_report}
+use Rattle.std.proofs.Common.{ap, ◌∙◌}
+use Rattle.line_play.specs.SetDoing.{stood, marked}
+use Rattle.line_play.proofs.SetQueues.{takes_as}
 use Rattle.line_play.proofs.set.attending.take_order.Goals as goal
 
-pub returns-then-branch : goal.returns-then-branch
-returns-then-branch g c = taken_report _ _ _ _ _ c.in_ok-order.ensures.said (c.in_ok-is_report.ensures c.if-branch.true)
-
-pub returns-then-not-has_to_wait : goal.returns-then-not-has_to_wait
-returns-then-not-has_to_wait g c =
-    taken_at_once c.obey.result _ _ _ _ _ _ _ _ c.in_ok-order.ensures.text c.in_ok-order.ensures.said (c.has_to_wait.ensures.none c.if-not-has_to_wait.true) c.obey.ensures
-
-pub returns-then-put : goal.returns-then-put
-returns-then-put g c =
-    taken_behind _ _ _ _ _ _ _ c.in_ok-order.ensures.text c.in_ok-order.ensures.said (c.has_to_wait.ensures.sends c.if-not-has_to_wait.false)
-    (c.has_to_wait.ensures.last c.if-not-has_to_wait.false) (c.put.ensures c.if-put.true)
+pub returns : goal.returns
+returns g c =
+    takes_as c.take_given.result _ _ _ _ (stood c.mark_with.new.self) _ (stood c.take_given.new.state) _ _ _ _ (ap (λ o. o.text) c.in_ok-order.ensures)
+    (ap (λ o. o.said) c.in_ok-order.ensures)
+    (c.in_ok-mark_with.ensures ∙ ap (λ m. marked m (stood c.args.state.now)) (c.as_str.ensures.value ∙ ap (λ o. o.mark) c.in_ok-order.ensures)) c.take_given.ensures

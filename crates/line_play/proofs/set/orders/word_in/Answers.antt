@@ -17,7 +17,16 @@ returns-in-unsure c = rw c.in-unsure.is refl
 pub returns-in-rebalance : goal.returns-in-rebalance
 returns-in-rebalance c = rw c.in-rebalance.is refl
 
+pub returns-in-reopen : goal.returns-in-reopen
+returns-in-reopen c = rw c.in-reopen.is refl
+
+pub returns-in-quit : goal.returns-in-quit
+returns-in-quit c = rw c.in-quit.is refl
+
+pub returns-in-leave : goal.returns-in-leave
+returns-in-leave c = rw c.in-leave.is refl
+
 pub returns-in_default : goal.returns-in_default
 returns-in_default c =
     c.link_order.ensures
-    ∙ other_word c.args.word.now c.in_default.not-measure c.in_default.not-table c.in_default.not-held c.in_default.not-unsure c.in_default.not-rebalance
+    ∙ other_word c.args.word.now c.in_default.not-measure c.in_default.not-table c.in_default.not-held c.in_default.not-unsure c.in_default.not-rebalance c.in_default.not-reopen c.in_default.not-quit c.in_default.not-leave

@@ -5,5 +5,5 @@ use Rattle.line_streams.proofs.departures.Departures.tell.Goals as goal
 
 pub returns : goal.returns
 returns c =
-    let P : Outlet → Type 0 = λ o. TellsOn c.args.line.now c.args.self.now.outlet o in
+    let P : Outlet → Type 0 = λ o. TellsOn (record { wait = c.args.wait; octets = c.args.line.now }) c.args.self.now.outlet o in
     subst P (sym c.wake.ensures) c.in_ok-count.ensures.told

@@ -12,7 +12,7 @@ returns-clause-some c = elim c.match-report.branch [
 
 pub returns-clause-none : goal.returns-clause-none
 returns-clause-none c = elim c.match-report.branch [
-  | in-Ok w ↦ λ none. rw (← c.self.view_is) (adds_report _ _ c.args.link w.in-Ok.report w.in-Ok.ensures.ok)
+  | in-Ok w ↦ λ none. rw (← c.self.view_is) (adds_report _ _ c.args.link w.in-Ok.report (rw w.result-is at none) w.in-Ok.ensures.ok)
   | in-Err w ↦ λ none. rw (← c.self.view_is) (adds_is _ _ _ w.in-Err.ensures.err (by_none _))
 ]
 

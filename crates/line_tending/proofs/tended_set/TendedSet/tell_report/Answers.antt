@@ -6,7 +6,7 @@ pub returns : goal.returns
 returns c = elim c.match-push_back.branch [
   | in-Ok w ↦
       rw (w.result-is, ← c.self.view_is)
-      (acts_report c.self.inside.set c.self.inside.plan c.self.inside.ticks c.self.inside.told.items c.push_back.new.self.items c.args.told
+      (acts_report c.self.inside.set c.self.inside.plan c.self.inside.ticks c.self.inside.told.items c.push_back.new.self.items c.args.told c.self.inside.reader c.self.inside.ordered c.requires
       (told_pushed c.push_back.result c.self.inside.told.items c.push_back.new.self.items c.args.told _ w.in-Ok.is c.push_back.ensures.items))
   | in-Err w ↦ rw w.result-is tt
 ]

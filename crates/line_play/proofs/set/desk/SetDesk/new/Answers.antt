@@ -9,7 +9,8 @@ returns g c = record {
   ahead_is = refl;
   focus = refl;
   since = all_counts _ _ _ c.len.ensures c.in_ok-wires.ensures.counts;
-  none_wait = c.new.ensures;
+  stays = refl;
+  none_wait = c.new-2.ensures;
   orders_are = refl;
   reports_are = refl;
 }

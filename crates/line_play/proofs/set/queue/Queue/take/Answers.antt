@@ -7,5 +7,5 @@ returns-clause-some c = first_taken c.pop_front.result _ _ c.pop_front.ensures.i
 pub returns-clause-none : goal.returns-clause-none
 returns-clause-none c = none_taken c.pop_front.result _ _ c.pop_front.ensures.items
 
-pub returns-clause-empty : goal.returns-clause-empty
-returns-clause-empty c = empty_taken c.pop_front.result _ _ _ c.pop_front.ensures.items c.args.self.now.waiting.ok.0 c.pop_front.ensures.variant
+pub returns-clause-nobody : goal.returns-clause-nobody
+returns-clause-nobody c = empty_taken c.pop_front.result _ _ _ c.pop_front.ensures.items c.args.self.now.waiting.ok.0 c.pop_front.ensures.variant

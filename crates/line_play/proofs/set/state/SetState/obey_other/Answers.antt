@@ -1,25 +1,14 @@
-use Rattle.std.proofs.Common.{IfSome, IsNone, refl, string_bytes}
-use Rattle.line_tending.proofs.Doing.{adds_nothing}
-use Rattle.line_play.specs.SetDoing.{stood, Changes, Refuses, MayShow}
-use Rattle.line_play.specs.SetOrders.{plain_set_order}
-use Rattle.line_play.proofs.SetObeying.{moved, not_some, refused_other, agreed_other}
+use Rattle.std.proofs.Common.{sym, ap, ◌∙◌}
+use Rattle.line_play.specs.SetDoing.{stood}
+use Rattle.line_play.specs.SetGiven.{plain_said, plain_whom, links_of}
+use Rattle.line_play.proofs.SetObeying.{lacking, there_so}
 use Rattle.line_play.proofs.set.state.SetState.obey_other.Goals as goal
 
-pub returns-in-Some : goal.returns-in-Some
-returns-in-Some g c =
-    let may = moved _ _ c.in-Some.is
-    (λ o. IfSome o (λ why. Refuses (plain_set_order c.args.order.now) c.args.focus (stood c.args.self.now) (string_bytes why) (stood c.args.self.now))) c.in_ok-why.ensures.some in
-    refused_other c.refuse.result _ _ _ (plain_set_order c.args.order.now) c.args.focus _ _ _ _ c.as_str.ensures.value c.requires (adds_nothing _) may c.refuse.ensures
+pub returns-then-lacks_links : goal.returns-then-lacks_links
+returns-then-lacks_links g c =
+    lacking c.refuse.result _ (plain_said c.args.said.now) (stood c.args.self.now) _ _ c.requires (sym c.lacks_links.ensures ∙ c.if-lacks_links.true) c.refuse.ensures
 
-pub returns-in-Some-2 : goal.returns-in-Some-2
-returns-in-Some-2 g c =
-    let may = moved _ _ c.in-Some-2.is
-    (λ o. IfSome o (λ why. Refuses (plain_set_order c.args.order.now) c.args.focus (stood c.args.self.now) (string_bytes why) (stood c.obey_plain.new.self))) c.in_ok-why-2.ensures.refuses in
-    refused_other c.refuse-in-Some-2.result _ _ _ (plain_set_order c.args.order.now) c.args.focus _ _ _ _ c.as_str-in-Some-2.ensures.value c.requires
-    c.in_ok-why-2.ensures.adds may c.refuse-in-Some-2.ensures
-
-pub returns-in-None : goal.returns-in-None
-returns-in-None g c =
-    let may = not_some _ (MayShow (plain_set_order c.args.order.now) c.args.focus c.args.self.now.tender) c.in_default.not-Some c.in_ok-why.ensures.none in
-    let changes = moved _ _ c.in-None.is (λ o. IsNone o → Changes (plain_set_order c.args.order.now) c.args.focus (stood c.args.self.now) (stood c.obey_plain.new.self)) c.in_ok-why-2.ensures.changes refl in
-    agreed_other c.answer.result _ (plain_set_order c.args.order.now) c.args.focus _ _ _ _ c.requires may c.in_ok-why-2.ensures.adds changes c.answer.ensures
+pub returns : goal.returns
+returns g c =
+    there_so c.obey_there.result _ (plain_said c.args.said.now) _ (stood c.args.self.now) _ _ _ c.requires (sym c.lacks_links.ensures ∙ c.if-lacks_links.false)
+    (c.as_slice.ensures.value ∙ (c.in_ok-links.ensures ∙ ap (λ n. links_of (plain_whom c.args.said.now.whom) c.args.self.now.focus n) c.len.ensures)) c.obey_there.ensures

@@ -1,9 +1,10 @@
 use Rattle.std.proofs.Common.{refl}
 use Rattle.line_play.specs.SetShowing.{ABORTED}
-use Rattle.line_play.proofs.SetTelling.{told_as, count_line}
+use Rattle.line_play.specs.SetDoing.{stood}
+use Rattle.line_play.proofs.SetTelling.{answered_as, count_line}
 use Rattle.line_play.proofs.set.state.SetState.tell_aborted.Goals as goal
 
 pub returns : goal.returns
 returns g c =
-    told_as c.say_text.result _ _ _ _ _ _ refl
+    answered_as c.say_text.result _ _ (stood c.args.self.now) _ _
     (count_line ABORTED ABORTED _ c.args.link _ _ refl c.aborted-count.ensures c.in_ok-format.ensures.ok) c.say_text.ensures

@@ -7,16 +7,16 @@ pub returns-in-Some-clause-some : goal.returns-in-Some-clause-some
 returns-in-Some-clause-some c =
     line_refused c.why_refused.result (λ s. string_bytes s) c.as_slice.result.now _
     (there_line (state_at c.args.process.now c.args.self.now.tender) c.in-Some.line.items c.as_slice.result.now _ _
-    (ap (option_map (λ v. v.items)) (sym c.in-Some.is) ∙ c.in_ok-line.ensures) c.links-first.ensures.first c.as_slice.ensures.value)
+    (ap (option_map (λ v. v.items)) (sym c.in-Some.is) ∙ c.in_ok-line.ensures) c.first_of-first.ensures c.as_slice.ensures.value)
     c.why_refused.ensures.some
 
 pub returns-in-Some-clause-none : goal.returns-in-Some-clause-none
 returns-in-Some-clause-none c =
     line_shown c.why_refused.result c.as_slice.result.now _
     (there_line (state_at c.args.process.now c.args.self.now.tender) c.in-Some.line.items c.as_slice.result.now _ _
-    (ap (option_map (λ v. v.items)) (sym c.in-Some.is) ∙ c.in_ok-line.ensures) c.links-first.ensures.first c.as_slice.ensures.value)
+    (ap (option_map (λ v. v.items)) (sym c.in-Some.is) ∙ c.in_ok-line.ensures) c.first_of-first.ensures c.as_slice.ensures.value)
     c.why_refused.ensures.none
 
 pub returns-in-None-clause-none : goal.returns-in-None-clause-none
 returns-in-None-clause-none c = λ none. nowhere_shown _
-    (there_none (state_at c.args.process.now c.args.self.now.tender) _ _ (ap (option_map (λ v. v.items)) (sym c.in-None.is) ∙ c.in_ok-line.ensures) c.links-first.ensures.first)
+    (there_none (state_at c.args.process.now c.args.self.now.tender) _ _ (ap (option_map (λ v. v.items)) (sym c.in-None.is) ∙ c.in_ok-line.ensures) c.first_of-first.ensures)

@@ -15,4 +15,4 @@ pub returns-in-Value-clause-none : goal.returns-in-Value-clause-none
 returns-in-Value-clause-none c = rw (c.in-Value.is, ← c.as_str-in-Value.ensures.value, ← c.as_str-in-Value-2.ensures.value) c.why_no_value.ensures.none
 
 pub returns-in_default-clause-none : goal.returns-in_default-clause-none
-returns-in_default-clause-none c = λ none. may_show c.args.order.now c.args.focus c.args.self.now.tender c.in_default.not-State c.in_default.not-Value
+returns-in_default-clause-none c = λ none. may_show c.args.order.now c.args.links.now c.args.self.now.tender c.in_default.not-State c.in_default.not-Value

@@ -1,0 +1,5 @@
+use Rattle.line_play.proofs.SetPromised.{promised}
+use Rattle.line_play.proofs.set.laws.a_run_keeps_its_promises.Goals as goal
+
+pub returns : goal.returns
+returns c = promised
