@@ -20,6 +20,7 @@ FAULTS = {
     "A6": "VainSave",
     "A7": "SpentAnswer",
     "A8": "FixedDecision",
+    "A9": "UnusedSynonym",
     "A10": "UnreachedConnection",
 }
 
@@ -96,6 +97,7 @@ class Process:
     def __init__(self, tree):
         self.name, declarations, self.start, self.parts, connections, _ = tree
         self.variables = [name for it in declarations if it[0] == "dcl" for name in it[1]]
+        self.initial = [it[3] for it in declarations if it[0] == "dcl"]
         self.timers = [name for it in declarations if it[0] == "timer" for name in it[1]]
         self.connections = {low(name): (at, name, body) for at, name, body in connections}
         self.inputs = [clause for _, clauses in self.parts for clause in clauses if clause[0] == "input"]
@@ -279,15 +281,45 @@ def of_process(paths, processes, process, reader):
     yield from of_decisions(reader, process)
 
 
+def named_constants(process):
+    """The synonyms that stand for the initial values of a process, and for values in its answers."""
+    answers = [ranges for action in process.actions if action[0] == "decide" for ranges, _ in action[3]]
+    own = [it for ranges in answers for one in ranges for it in one if isinstance(it, tuple)]
+    return {low(it[2]) for it in [*process.initial, *own] if it and it[0] == "name"}
+
+
+def unused(synonyms, used):
+    """The warnings of synonyms whose names aren't among those used."""
+    for name, _, _ in synonyms:
+        if low(name) not in used:
+            yield name[1], "A9", f"nothing uses {name[0]}"
+
+
+def of_synonyms(entities):
+    """The warnings of the synonyms of a block as it is written, and of its processes."""
+    synonyms = [one for it in entities if it[0] == "synonyms" for one in it[1]]
+    used = {"n1", "n2"}.union(*(variables(value) for _, _, value in synonyms))
+    for tree in (it[1] for it in entities if it[0] == "process"):
+        process = Process(tree)
+        own = [one for it in tree[1] if it[0] == "synonyms" for one in it[1]]
+        values = [value for _, _, value in own] + [it for action in process.actions for it in questions(action)]
+        here = named_constants(process).union(*map(variables, values))
+        used |= here - {low(it) for it in process.variables} - {low(name) for name, _, _ in own}
+        yield from unused(own, here)
+    yield from unused(synonyms, used)
+
+
 def warnings(text):
     """The warnings of an accepted text, in its order: each the place, the code and the sentence."""
     reader = P(text, lex(text))
-    entities = meant(reader.block(), reader.opened)
+    written = reader.block()
+    entities = meant(written, reader.opened)
     processes = [Process(it[1]) for it in entities if it[0] == "process"]
     routed = [path for it in entities if it[0] == "route" for path in it[2]]
     paths = {(party(source), party(target), low(signal)) for source, target, signals in routed for signal in signals}
     found = [it for process in processes for it in of_process(paths, processes, process, reader)]
-    return sorted([*found, *of_signals(entities, routed, {low(it.name): it for it in processes})])
+    signals = of_signals(entities, routed, {low(it.name): it for it in processes})
+    return sorted([*found, *signals, *of_synonyms(written)])
 
 
 def lines(name, text):

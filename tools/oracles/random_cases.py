@@ -11,8 +11,8 @@ from tools.steps.built import PLAY, ROOT, Run, missing, side_by_side
 
 
 class Asked:
-    """What the words of such a tool say: how many cases, the seed, how many side by side, and the one case that is
-    looked at alone, if one is."""
+    """What the words of such a tool say: how many cases, the seed, how many side by side, and the only case that
+    is looked at, if one is."""
 
     def __init__(self, words, count):
         numbers, given = [], iter(words)

@@ -170,6 +170,12 @@ class Ends:
         return [it.end("quit") for it in self.ends]
 
 
+def lost_line(ends):
+    """Whether the first end told that its line was lost. A read that waits fails then; one that begins only after the
+    channel is gone comes to its end."""
+    return any(ends.count(it)[0] for it in ("0 line failed", "0 line ended"))
+
+
 def on_card(block, *words, alarm=False):
     """The fault of a link on two channels of a card whose blocks are so long."""
     with tempfile.TemporaryDirectory() as name:
@@ -178,7 +184,7 @@ def on_card(block, *words, alarm=False):
             fault = None if ends.have_told("0 tested") else "the link doesn't come into service"
             if alarm and not fault:
                 span.alarm()
-                right = ends.have_told("0 tested", 2) and ends.count("0 line failed")[0]
+                right = ends.have_told("0 tested", 2) and lost_line(ends)
                 fault = None if right and ends.count("0 line open")[0] else "the link doesn't come back"
             fault = fault or ends.exchange()
             downs, statuses = ends.count("0 down"), ends.quit()

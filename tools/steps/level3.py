@@ -1,7 +1,7 @@
 """Attaches the programs of examples/level3 to two ends of a set of links, as docs/level3.md says: messages at a rate of
 1,000 a second, a reader that stops for ten seconds, a program that ends and comes again, one that is killed, a set that
 leaves and runs again, one that is killed, a link that goes down, and all of them. What is lost each time is what the
-table of that page says.
+table of that page says. And examples/level3/echo.py gives back what it gets.
 
 usage: tools/steps/level3 [NAME ..]
            the cases whose names begin so, all if none is named; of crates/mtp2_play/out/mtp2_play, or of the program
@@ -26,6 +26,7 @@ STOPPED = 10  # seconds
 # A link takes this many messages before it refuses one (docs/sets.md), and a program reads this much at once.
 HELD, PART = 256, 65536
 SETTLED = 60  # seconds until all has come
+GIVEN_BACK = 200  # messages
 
 
 class Traffic(threading.Thread):
@@ -148,6 +149,23 @@ def life(near, far, befall):
     return "; ".join([*faults(), *([f"statuses {statuses}"] if any(statuses) else [])]) or None
 
 
+def echoed():
+    """The fault of a run in which the second end's program gives each message back."""
+    with tempfile.TemporaryDirectory() as name, Tied(pathlib.Path(name), 1, "basic") as tied:
+        commands = PYTHON, [sys.executable, str(EXAMPLES / "echo.py")]
+        near, far = map(Program, commands, tied.ends)
+        try:
+            if not until(lambda: near.said.count(" tested"), LIMIT):
+                return "the link doesn't come into service"
+            for number in range(GIVEN_BACK):
+                near.send(number)
+            fault = lambda: faults_of(range(GIVEN_BACK), near.numbers(), 0)
+            until(lambda: not fault(), SETTLED)
+            return fault()
+        finally:
+            near.ends(), far.ends()
+
+
 def commands(room):
     """The programs, by their language; that in C if there is a compiler."""
     yield "Python", PYTHON
@@ -167,6 +185,8 @@ def main(words):
             for language in languages:
                 if not words or any(f"{name}: {language}".startswith(it) for it in words):
                     count.case(f"{name}: {language}", tried(languages[language], befall))
+        if not words or any("an echo".startswith(it) for it in words):
+            count.case("an echo", echoed())
     if "C" not in languages:
         count.skip(len(CASES), "no C compiler for examples/level3/attach.c")
     return count.end()

@@ -140,6 +140,7 @@ def cases(folder):
     return [
         Case("check of a file", ["check", "examples/counter.sdl"]),
         Case("check of standard", ["check", "standard"]),
+        Case("check with warnings", ["check", "--warn", "examples/monitors.sdl"]),
         Case(
             "check of standard from standard input",
             ["check", "stdin"],

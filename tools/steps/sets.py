@@ -21,6 +21,14 @@ from tools.steps import examples
 from tools.steps.built import LIMIT, PLAY, Count, Run, differs, missing
 
 
+def until(holds):
+    """Waits until something holds. Returns whether it does."""
+    end = time.monotonic() + LIMIT
+    while not (done := holds()) and time.monotonic() < end:
+        time.sleep(0.1)
+    return done
+
+
 def is_of_run(line):
     """Whether a report, without its millisecond, tells of lines, of the run's beginning or of late rounds."""
     return line.startswith(("begins ", "late ")) or " line " in line
@@ -66,10 +74,8 @@ def line_taken():
             (room / it).touch()
         run = subprocess.Popen(["mtp2_play", *on_line(room, f"{room}/in,{room}/out")], executable=str(PLAY))
         try:
-            for _wait in range(600):
-                if b" 0 line ended\n" in ((room / "reports").read_bytes() if (room / "reports").exists() else b""):
-                    break
-                time.sleep(0.1)
+            reports = room / "reports"
+            until(lambda: reports.exists() and b" 0 line ended\n" in reports.read_bytes())
             (room / "in").unlink()
             status = run.wait(LIMIT)
         except subprocess.TimeoutExpired:
@@ -138,26 +144,30 @@ def orders_anew():
         for fifo in ("a0", "b0"):
             os.mkfifo(room / fifo)
         orders, reports = room / "orders", room / "reports"
-        orders.write_text("at 99999999\ntable\n")
+        orders.write_text("on 9\nat 99999999\ntable\n")
         run = subprocess.Popen(
             ["mtp2_play", *on_line(room, f"{room}/a0,{room}/b0"), "--orders", str(orders)], executable=str(PLAY)
         )
+        # (each is given once the program told of what was given before; and `quit`, which has to come a second or more
+        # after the other lines, so much later that a program that is held up sees it so as well)
+        has_told = lambda text: until(lambda: reports.exists() and text in reports.read_text())
+
+        def give(text):
+            with orders.open("a") as more:
+                more.write(text)
+
         try:
-            # (each is given so much later that it is no part of the orders given before)
-            for text in ("unsure\nat 99999999\nheld\n", None):
-                time.sleep(2)
-                if text is not None:
-                    os.truncate(orders, 0)
-                    time.sleep(1)
-                with open(orders, "a") as more:
-                    more.write("quit\n" if text is None else text)
-            status = run.wait(30)
+            has_told(" on 9\n") and os.truncate(orders, 0)
+            has_told(" orders truncated\n") and give("unsure\nat 99999999\nheld\n")
+            has_told(" unsure 0\n") and time.sleep(5)
+            give("quit\n")
+            status = run.wait(LIMIT)
         except subprocess.TimeoutExpired:
             run.kill()
             status = "too slow"
         told = [it.split(" ", 1)[1] for it in reports.read_text().splitlines()]
         return differs(
-            b"orders truncated, ok unsure, unsure 0, ok quit, exit 0",
+            b"refused K1 NoLink on 9, orders truncated, ok unsure, unsure 0, ok quit, exit 0",
             ", ".join([*(it for it in told if not is_of_run(it)), f"exit {status}"]).encode(),
         )
 
@@ -193,10 +203,7 @@ class Tied:
 
     def until(self, *wanted):
         """Waits until each end has reports that begin so."""
-        for _wait in range(10 * LIMIT):
-            if all(self.count(at, it) for at, lines in enumerate(wanted) for it in lines):
-                return
-            time.sleep(0.1)
+        until(lambda: all(self.count(at, it) for at, lines in enumerate(wanted) for it in lines))
 
     def order(self, at, *orders):
         with open(self.room / f"orders{at}", "a") as more:
@@ -207,7 +214,7 @@ class Tied:
         for at in (0, 1):
             self.order(at, "quit")
         try:
-            return [it.wait(30) for it in self.ends]
+            return [it.wait(LIMIT) for it in self.ends]
         except subprocess.TimeoutExpired:
             return "too slow"
         finally:

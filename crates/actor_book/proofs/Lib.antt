@@ -1,12 +1,15 @@
 pub mod Beginning
 pub mod Ending
 pub mod Following
+pub mod Histories
 pub mod Leasts
 pub mod Meant
 pub mod Offering
 pub mod Owned
 pub mod Passing
 pub mod Putting
+pub mod Rooming
+pub mod Schedulings
 pub mod Taking
 pub mod Turning
 pub mod Wholes

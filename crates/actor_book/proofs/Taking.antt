@@ -16,6 +16,8 @@ use Rattle.actor_machine.specs.declared.reply.Refusal.{Refusal}
 use Rattle.actor_machine.specs.declared.reply.Reply.TheVariants as reply
 use Rattle.actor_book.specs.Accepted.{refusal_of, Takes}
 use Rattle.actor_book.specs.Inside.{IsBook}
+use Rattle.actor_book.specs.Schedules.{HasHistory}
+use Rattle.actor_book.proofs.Histories.{history_more, history_rebased, history_opened}
 use Rattle.actor_machine.proofs.Ends.{asked_answer as taken_answer, passes_otherwise as none_first}
 use Rattle.actor_machine.proofs.Replays.{asked_book as taken_book, with_event as noted}
 use Rattle.std.proofs.lemmas.Bool.{le-leb as at_least}
@@ -102,6 +104,7 @@ module _ (keeps : KeepsLaw) (b old : Ledger) (view : b ≡ old) (w : Core) (c : 
         state = h ∙ ap (λ (x : Core). after_step b x e) inside.state ∙ sym (state b e takes_too) ∙ ap (λ (x : Ledger). state_of x) (grows b e takes_too);
         kept = kept_more;
         held = omega arith;
+        history = history_more b e (grows b e takes_too) inside.history;
       })
 
 -- ---- free places
@@ -145,6 +148,7 @@ inside_rebased keeps b base w first js c d inside h k l le =
       state = inside.state ∙ same_state b ∙ sym (ap (λ (x : Ledger). state_of x) is);
       kept = subst (λ (x : Ledger). IsKept x) (sym is) (keeps.rebases b inside.kept);
       held = omega arith;
+      history = subst (λ (x : Ledger). ∥ HasHistory x ∥₁) (sym is) (history_rebased b inside.history);
     }
 
 pub is_opened : (d set : Draft) (port env journal limit : ℕ) (w : Core) (js : List Event) → set ≡ d → w ≡ opened d port env → js ≡ [] → limit ≡ journal
@@ -168,6 +172,7 @@ inside_opened keeps d set port env journal limit base w js c valid most h k v l 
       state = v ∙ opened_state d port env journal ∙ sym (ap (λ (x : Ledger). state_of x) is);
       kept = subst (λ (x : Ledger). IsKept x) (sym is) (keeps.opens d port env journal valid most);
       held = le;
+      history = subst (λ (x : Ledger). ∥ HasHistory x ∥₁) (sym is) (history_opened d port env journal);
     }
 
 -- ---- what fits in the link in memory

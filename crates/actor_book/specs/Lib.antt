@@ -4,8 +4,10 @@ pub mod Inside
 pub mod Laws
 pub mod Limits
 pub mod Meant
+pub mod Midway
 pub mod Roomed
 pub mod Running
+pub mod Schedules
 pub mod Shown
 pub mod Turns
 pub mod Whole

@@ -6,6 +6,7 @@ ghost use Rattle.actor_machine.specs.Ledger.{rebased, next, room, state_of};
 ghost use Rattle.actor_machine.specs.Kept.{IsKept, opened_book};
 ghost use Rattle.actor_machine.specs.Refusals.{with_room, needs};
 ghost use Rattle.actor_machine.specs.declared.event.Event.{Event as PlainEvent};
+ghost use Rattle.actor_book.specs.Schedules.{HasHistory};
 ghost use Rattle.plain_laws.specs.Limits.{PAST_PLACES};
 
 use crate::limits::Limits;
@@ -115,6 +116,14 @@ impl Book {
         self.keeps();
         let link = self.state();
         (link.turns() - link.finishes()) as usize
+    }
+
+    /// Every book, wherever it comes from, such as from a lock, came from an opening with its set by a schedule: a list of
+    /// events and rebases of any length. So the laws of schedules hold of its life. Calling it costs nothing.
+    pub fn history(&self)
+        ensures { ∥ HasHistory self.now ∥₁ }
+    {
+        let _ = &self.limit;
     }
 
     /// Every book's invariant, wherever the book comes from, such as from a lock. Its set is valid, and all fits in

@@ -53,7 +53,7 @@ fn run_each(book: &mut Book, events: &[Event], replies: &mut Vec<Reply>)
 }
 
 /// Appends an answer. There must be room.
-fn put(replies: &mut Vec<Reply>, reply: Reply)
+pub(crate) fn put(replies: &mut Vec<Reply>, reply: Reply)
     requires { length replies.old.items < vec_capacity replies.old }
     ensures items { replies.new.items ≡ replies.old.items ++ reply ∷ [] }
     ensures capacity { vec_capacity replies.old ≤ vec_capacity replies.new }

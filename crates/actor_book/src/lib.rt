@@ -13,6 +13,7 @@ mod readers;
 mod refused;
 mod replies;
 mod rooms;
+mod schedule;
 mod steps;
 mod turn;
 mod turns;
@@ -24,7 +25,11 @@ pub use actor_machine::{
 pub use book::Book;
 pub use calls::{Passed, Taken};
 pub use event_runs::run_events;
-pub use laws::{failed_tries_change_nothing, turns_are_of_the_least};
+pub use laws::{
+    failed_tries_change_nothing, lack_of_room_is_exact, schedules_are_by_text,
+    schedules_keep_books, turns_are_of_the_least,
+};
 pub use limits::Limits;
 pub use rooms::RoomRefusal;
+pub use schedule::{Scheduled, run_schedule};
 pub use turn::{REST, Turn, one_turn, rest};

@@ -20,13 +20,15 @@ use crate::steps::{name_in, note, number_in};
 use actor_machine::laws::{fits_law, keeps_law, out_law, set_law, state_law, text_law};
 use actor_machine::{Actor, Event, Given, Refusal, Report, Standing};
 use actor_state::NumberedActor;
+use std::fmt;
+use thiserror::Error;
 use turn_check::Verified;
 use turn_code::laws::effects_law;
 use turn_code::{Place, ProcessNumber};
 use turn_machine::{Ended, Room, TurnHead};
 
 /// Why no turn begins into a room. Then neither the room nor the book changes.
-#[derive(Clone, Copy, PartialEq, Eq, Debug)]
+#[derive(Clone, Copy, PartialEq, Eq, Debug, Error)]
 pub enum RoomRefusal {
     /// The room holds a turn that hasn't ended.
     Taken,
@@ -43,6 +45,14 @@ impl RoomRefusal {
             Self::Taken => "B13 Taken",
             Self::Refused(refusal) => refusal.name(),
         }
+    }
+}
+
+impl fmt::Display for RoomRefusal {
+    ghost output = { λ r. Some (room_refusal_text r) };
+
+    fn fmt<W: fmt::Write>(&self, f: &mut fmt::Formatter<W>) -> fmt::Result {
+        f.write_str(self.name())
     }
 }
 

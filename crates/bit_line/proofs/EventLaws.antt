@@ -9,7 +9,7 @@ use Rattle.bit_line.specs.Stuffing.{taken_out}
 use Rattle.bit_line.specs.Flags.{ends_flag, inside, begins}
 use Rattle.bit_line.specs.Events.{Verdict, Correct, Wrong, Nothing, IsCorrect, IsJudged, Runs, AreEvents, mode_after, reports}
 use Rattle.bit_line.specs.Deframing.{LetsIn, Fits, StandsAt, Stands}
-use Rattle.bit_line.specs.declared.deframer.Deframer.{Deframer}
+use Rattle.bit_line.specs.declared.receiver.Receiver.{Receiver}
 use Rattle.bit_line.specs.declared.events.LineEvent.{LineEvent}
 use Rattle.bit_line.proofs.ContentLaws.{correct_shape, unit_fits}
 use Rattle.su_octets.proofs.BitLists.{low_bits-split, bits_of-append, length-bits_of, bits_of-same}
@@ -59,29 +59,29 @@ pub one_events : (bits : List Bool) (es fs : List LineEvent) → AreEvents bits 
 one_events bits es fs x y = (one_run (reverse bits) x.0 y.0 es fs x.1 y.1).1
 
 -- ---- more bits
-pub stands_events : (bits : List Bool) (d : Deframer) → Stands bits d → (events : List LineEvent) × AreEvents bits events
+pub stands_events : (bits : List Bool) (d : Receiver) → Stands bits d → (events : List LineEvent) × AreEvents bits events
 unfolding Stands StandsAt
 stands_events bits d stands = let mode : Option ℕ = stands.1.0 in (stands.0, (mode, stands.1.1))
 
-pub stands_by : (bits more : List Bool) (given : List LineEvent) (old new : Deframer)
+pub stands_by : (bits more : List Bool) (given : List LineEvent) (old new : Receiver)
     → ((h : List Bool) (events : List LineEvent) → StandsAt h events old → StandsAt (reverse more ++ h) (events ++ given) new) → Stands bits old → Stands (bits ++ more) new
 unfolding Stands
 stands_by bits more given old new step stands =
     let P : List Bool → Type 0 = λ h. StandsAt h (stands.0 ++ given) new in
     (stands.0 ++ given, subst P (sym (reverse-append bits more)) (step (reverse bits) stands.0 stands.1))
 
-at_these : (h : List Bool) (events : List LineEvent) (mode : Option ℕ) (d : Deframer) → Runs h mode events → (es : List LineEvent) → StandsAt h es d → StandsAt h events d
+at_these : (h : List Bool) (events : List LineEvent) (mode : Option ℕ) (d : Receiver) → Runs h mode events → (es : List LineEvent) → StandsAt h es d → StandsAt h events d
 unfolding StandsAt
 at_these h events mode d runs es stands =
     let same : es ≡ events = (one_run h stands.0 mode es events stands.1 runs).1 in
     let P : List LineEvent → Type 0 = λ l. Runs h stands.0 l in
     (stands.0, subst P same stands.1, stands.2)
 
-run_of : (h : List Bool) (events : List LineEvent) (d : Deframer) → StandsAt h events d → (mode : Option ℕ) × Runs h mode events
+run_of : (h : List Bool) (events : List LineEvent) (d : Receiver) → StandsAt h events d → (mode : Option ℕ) × Runs h mode events
 unfolding StandsAt
 run_of h events d stands = (stands.0, stands.1)
 
-pub events_by : (bits more : List Bool) (given events : List LineEvent) (old new : Deframer)
+pub events_by : (bits more : List Bool) (given events : List LineEvent) (old new : Receiver)
     → ((h : List Bool) (es : List LineEvent) → StandsAt h es old → StandsAt (reverse more ++ h) (es ++ given) new)
     → Stands bits old → AreEvents bits events → AreEvents (bits ++ more) (events ++ given)
 unfolding Stands
@@ -99,28 +99,28 @@ octet_more i octet h =
     ∙ ap (λ bs. bs ++ h) (reverse-append (low_bits i octet) (low_bits 1 (octet / 2 ^ i)))
     ∙ ap (λ n. (n == 1) ∷ (reverse (low_bits i octet) ++ h)) (sym (shr_and_one octet i))
 
-pub at_none : (octet : ℕ) (h : List Bool) (events given : List LineEvent) (d : Deframer) → given ≡ [] → StandsAt h events d → StandsAt (reverse (low_bits 0 octet) ++ h) (events ++ given) d
+pub at_none : (octet : ℕ) (h : List Bool) (events given : List LineEvent) (d : Receiver) → given ≡ [] → StandsAt h events d → StandsAt (reverse (low_bits 0 octet) ++ h) (events ++ given) d
 unfolding low_bits
 at_none octet h events given d none stands =
     let P : List LineEvent → Type 0 = λ l. StandsAt h l d in subst P (sym (ap (λ l. events ++ l) none ∙ append-nil events)) stands
 
-pub at_zero : (octet : ℕ) (h : List Bool) (events : List LineEvent) (d : Deframer) → StandsAt h events d → StandsAt (reverse (low_bits 0 octet) ++ h) events d
+pub at_zero : (octet : ℕ) (h : List Bool) (events : List LineEvent) (d : Receiver) → StandsAt h events d → StandsAt (reverse (low_bits 0 octet) ++ h) events d
 unfolding low_bits
 at_zero octet h events d stands = stands
 
-pub at_more : (i octet : ℕ) (h : List Bool) (events old rs new : List LineEvent) (d : Deframer) → new ≡ old ++ rs
+pub at_more : (i octet : ℕ) (h : List Bool) (events old rs new : List LineEvent) (d : Receiver) → new ≡ old ++ rs
     → StandsAt ((bit_and (octet / 2 ^ i) 1 == 1) ∷ (reverse (low_bits i octet) ++ h)) ((events ++ old) ++ rs) d → StandsAt (reverse (low_bits (i + 1) octet) ++ h) (events ++ new) d
 at_more i octet h events old rs new d is stands =
     let P : List Bool → Type 0 = λ l. StandsAt l (events ++ new) d in
     let Q : List LineEvent → Type 0 = λ l. StandsAt ((bit_and (octet / 2 ^ i) 1 == 1) ∷ (reverse (low_bits i octet) ++ h)) l d in
     subst P (sym (octet_more i octet h)) (subst Q (append_assoc events old rs ∙ ap (λ l. events ++ l) (sym is)) stands)
 
-pub at_end : (i octet : ℕ) (h : List Bool) (events : List LineEvent) (d : Deframer) → i ≡ 8 → StandsAt (reverse (low_bits i octet) ++ h) events d
+pub at_end : (i octet : ℕ) (h : List Bool) (events : List LineEvent) (d : Receiver) → i ≡ 8 → StandsAt (reverse (low_bits i octet) ++ h) events d
     → StandsAt (reverse (low_bits 8 octet) ++ h) events d
 at_end i octet h events d eight stands = let P : ℕ → Type 0 = λ n. StandsAt (reverse (low_bits n octet) ++ h) events d in subst P eight stands
 
 -- ---- octets in turn
-pub at_start : (h : List Bool) (events given : List LineEvent) (d : Deframer) → given ≡ [] → StandsAt h events d → StandsAt (reverse (bits_of []) ++ h) (events ++ given) d
+pub at_start : (h : List Bool) (events given : List LineEvent) (d : Receiver) → given ≡ [] → StandsAt h events d → StandsAt (reverse (bits_of []) ++ h) (events ++ given) d
 unfolding bits_of
 at_start h events given d none stands =
     let P : List LineEvent → Type 0 = λ l. StandsAt h l d in subst P (sym (ap (λ l. events ++ l) none ∙ append-nil events)) stands
@@ -135,16 +135,16 @@ next_octet i octets h within =
     ∙ ap (λ l. l ++ h) (reverse-append (bits_of (take i octets)) (low_bits 8 (get_or octets i 0)))
     ∙ append_assoc (reverse (low_bits 8 (get_or octets i 0))) (reverse (bits_of (take i octets))) h
 
-pub at_next : (i : ℕ) (octets : List ℕ) (h : List Bool) (events : List LineEvent) (d : Deframer) → i < length octets
+pub at_next : (i : ℕ) (octets : List ℕ) (h : List Bool) (events : List LineEvent) (d : Receiver) → i < length octets
     → StandsAt (reverse (low_bits 8 (get_or octets i 0)) ++ (reverse (bits_of (take i octets)) ++ h)) events d → StandsAt (reverse (bits_of (take (i + 1) octets)) ++ h) events d
 at_next i octets h events d within stands = let P : List Bool → Type 0 = λ l. StandsAt l events d in subst P (sym (next_octet i octets h within)) stands
 
-pub at_whole : (i : ℕ) (octets : List ℕ) (h : List Bool) (events : List LineEvent) (d : Deframer) → length octets ≤ i
+pub at_whole : (i : ℕ) (octets : List ℕ) (h : List Bool) (events : List LineEvent) (d : Receiver) → length octets ≤ i
     → StandsAt (reverse (bits_of (take i octets)) ++ h) events d → StandsAt (reverse (bits_of octets) ++ h) events d
 at_whole i octets h events d whole stands = let P : List ℕ → Type 0 = λ l. StandsAt (reverse (bits_of l) ++ h) events d in subst P (take_all i octets whole) stands
 
 -- ---- a copy has the state of the original
-pub copy_stands : (h : List Bool) (events : List LineEvent) (old new : Deframer) → new.recent ≡ old.recent → (LetsIn h old.gate → LetsIn h new.gate) → new.counter.count ≡ old.counter.count
+pub copy_stands : (h : List Bool) (events : List LineEvent) (old new : Receiver) → new.recent ≡ old.recent → (LetsIn h old.gate → LetsIn h new.gate) → new.counter.count ≡ old.counter.count
     → StandsAt h events old → StandsAt h events new
 unfolding StandsAt
 copy_stands h events old new recent gate count stands =
@@ -157,6 +157,6 @@ few_more i n octet h =
     sym (append_assoc (reverse (low_bits n (octet / 2 ^ i))) (reverse (low_bits i octet)) h)
     ∙ ap (λ bs. bs ++ h) (sym (ap reverse (low_bits-split i n octet) ∙ reverse-append (low_bits i octet) (low_bits n (octet / 2 ^ i))))
 
-pub at_few : (i n octet : ℕ) (h : List Bool) (events : List LineEvent) (d : Deframer) → StandsAt (reverse (low_bits n (octet / 2 ^ i)) ++ (reverse (low_bits i octet) ++ h)) events d
+pub at_few : (i n octet : ℕ) (h : List Bool) (events : List LineEvent) (d : Receiver) → StandsAt (reverse (low_bits n (octet / 2 ^ i)) ++ (reverse (low_bits i octet) ++ h)) events d
     → StandsAt (reverse (low_bits (i + n) octet) ++ h) events d
 at_few i n octet h events d stands = let P : List Bool → Type 0 = λ l. StandsAt l events d in subst P (few_more i n octet h) stands

@@ -9,7 +9,7 @@ use Rattle.std.proofs.lemmas.List.Elements.{All-nil, All-cons, All-append, All-c
 use Rattle.bit_line.specs.Flags.{ends_flag, since_flag, inside}
 use Rattle.bit_line.specs.Deframing.{StandsAt, Stands, latest}
 use Rattle.bit_line.specs.Events.{Verdict, Correct, Wrong, Nothing, IsCorrect, IsJudged, Runs, AreEvents, UnitsDecode, IsSound, closings, reports, sixteens}
-use Rattle.bit_line.specs.declared.deframer.Deframer.{Deframer}
+use Rattle.bit_line.specs.declared.receiver.Receiver.{Receiver}
 use Rattle.bit_line.specs.declared.events.LineEvent.{LineEvent}
 use Rattle.bit_line.specs.declared.events.LineEvent.TheVariants as events
 use Rattle.bit_line.proofs.FlagLaws.{since_flag-flag, since_flag-other}
@@ -162,7 +162,7 @@ closings_paced bits more before given are after =
     omega (arith, ap closings same, p.pace, length-reverse more)
 
 -- ---- the reports of a deframer for more bits
-run_behind : (bits more : List Bool) (given : List LineEvent) (old new : Deframer)
+run_behind : (bits more : List Bool) (given : List LineEvent) (old new : Receiver)
     → ((h : List Bool) (es : List LineEvent) → StandsAt h es old → StandsAt (reverse more ++ h) (es ++ given) new) → Stands bits old
     → (before : List LineEvent) × AreEvents bits before × AreEvents (bits ++ more) (before ++ given)
 run_behind bits more given old new step stands =
@@ -172,13 +172,13 @@ run_behind bits more given old new step stands =
 back_sound : (xs ys : List LineEvent) → All IsSound (xs ++ ys) → All IsSound ys
 back_sound xs ys all = λ k d within. All-contains IsSound (xs ++ ys) _ all (Contains-append_right xs ys _ (All-contains_itself ys k d within))
 
-pub decode_by : (bits more : List Bool) (given : List LineEvent) (old new : Deframer)
+pub decode_by : (bits more : List Bool) (given : List LineEvent) (old new : Receiver)
     → ((h : List Bool) (es : List LineEvent) → StandsAt h es old → StandsAt (reverse more ++ h) (es ++ given) new) → Stands bits old → UnitsDecode given
 decode_by bits more given old new step stands =
     let run = run_behind bits more given old new step stands in
     back_sound run.0 given (events_decode (bits ++ more) (run.0 ++ given) run.2)
 
-pub closes_by : (bits more : List Bool) (given : List LineEvent) (old new : Deframer)
+pub closes_by : (bits more : List Bool) (given : List LineEvent) (old new : Receiver)
     → ((h : List Bool) (es : List LineEvent) → StandsAt h es old → StandsAt (reverse more ++ h) (es ++ given) new) → Stands bits old → 8 * closings given ≤ length more + 7
 closes_by bits more given old new step stands =
     let run = run_behind bits more given old new step stands in

@@ -14,7 +14,7 @@ use Rattle.bit_line.specs.Flags.{six_ones, ends_flag, since_flag, inside, begins
 use Rattle.bit_line.specs.Events.{Runs}
 use Rattle.bit_line.specs.Counting.{Counts}
 use Rattle.bit_line.specs.Deframing.{LetsIn, Fits, StandsAt, newest, EndsNone}
-use Rattle.bit_line.specs.declared.deframer.Deframer.{Deframer}
+use Rattle.bit_line.specs.declared.receiver.Receiver.{Receiver}
 use Rattle.bit_line.specs.declared.events.LineEvent.{LineEvent}
 use Rattle.bit_line.proofs.StuffLaws.{taken_out-one, taken_out-five, taken_out-other, five_or_other}
 use Rattle.bit_line.proofs.FlagLaws.{since_flag-other, ends_flag-plain, begins-plain}
@@ -179,7 +179,7 @@ pub none_mode : (mode count : Option ℕ) → Counts mode count → count ≡ No
 none_mode None count counts none = refl
 none_mode (Some n) count counts none = absurd (let e : Some (n % 128) ≡ None = sym counts ∙ none in cc)
 
-pub plain_stands : (most bits len late : ℕ) (h : List Bool) (events : List LineEvent) (old new : Deframer) → len ≤ most → old.counter.count ≡ None → new.counter.count ≡ None
+pub plain_stands : (most bits len late : ℕ) (h : List Bool) (events : List LineEvent) (old new : Receiver) → len ≤ most → old.counter.count ≡ None → new.counter.count ≡ None
     → ((l : List Bool) → LetsIn l old.gate → length (taken_out (inside l)) + most ≤ 2224)
     → ((i : ℕ) → i < len → (old.recent + bits * 128) / 2 ^ i % 128 ≡ 126 → ⊥)
     → late ≡ (old.recent + bits * 128) % 2 ^ len → new.recent ≡ (old.recent + bits * 128) / 2 ^ len % 128

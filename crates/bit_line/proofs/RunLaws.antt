@@ -7,17 +7,17 @@ use Rattle.bit_line.specs.Deframing.{Holds, LetsIn, StandsAt, has_six}
 use Rattle.bit_line.specs.Parts.{Packed}
 use Rattle.std.specs.Prelude.{◌≢◌}
 use Rattle.bit_line.specs.Running.{with_run, IsCalm, IsPlainStep}
-use Rattle.bit_line.specs.declared.deframer.Deframer.{Deframer}
+use Rattle.bit_line.specs.declared.receiver.Receiver.{Receiver}
 use Rattle.bit_line.specs.declared.run.Run.{Run}
 use Rattle.bit_line.specs.declared.events.LineEvent.{LineEvent}
 use Rattle.bit_line.proofs.FewLaws.{holds-few, gathers-few, gathers-room}
 use Rattle.bit_line.proofs.PassLaws.{few-late}
 use Rattle.bit_line.proofs.PlainLaws.{plain_stands}
 
-same_ones : (base : Deframer) (run : Run) (octets : List ℕ) (d : List Bool) → Holds d (with_run base run octets).gate.content → run.ones ≡ trailing d
+same_ones : (base : Receiver) (run : Run) (octets : List ℕ) (d : List Bool) → Holds d (with_run base run octets).gate.content → run.ones ≡ trailing d
 same_ones base run octets d holds = omega (arith, run.few_ones, holds.ones)
 
-step_holds : (base : Deframer) (run next : Run) (octet : ℕ) (whole octets : List ℕ) (d : List Bool) → length octets < 277 → IsPlainStep run octet next whole
+step_holds : (base : Receiver) (run next : Run) (octet : ℕ) (whole octets : List ℕ) (d : List Bool) → length octets < 277 → IsPlainStep run octet next whole
     → Holds d (with_run base run octets).gate.content
     → Holds (reverse (low_bits 8 ((run.recent + octet * 128) % 2 ^ 8)) ++ d) (with_run base next (octets ++ whole)).gate.content
 step_holds base run next octet whole octets d room step holds =
@@ -26,13 +26,13 @@ step_holds base run next octet whole octets d room step holds =
     holds-few k step.left d (with_run base run octets).gate.content (with_run base next (octets ++ whole)).gate.content next.few_ones (step.ones d count) refl (step.six d count) (step.data_bits d count)
     (gathers-few step.left (taken_out d) (with_run base run octets).gate.content.data_bits (with_run base next (octets ++ whole)).gate.content.data_bits step.few room run.part.len_fits refl (λ packed. step.packed octets (taken_out d) packed) holds.gathers) holds
 
-calm_room : (base : Deframer) (run : Run) (octets : List ℕ) (l : List Bool) → length octets < 277 → IsCalm base → LetsIn l (with_run base run octets).gate
+calm_room : (base : Receiver) (run : Run) (octets : List ℕ) (l : List Bool) → length octets < 277 → IsCalm base → LetsIn l (with_run base run octets).gate
     → length (taken_out (inside l)) + 8 ≤ 2224
 calm_room base run octets l room calm lets =
     let holds : Holds (inside l) (with_run base run octets).gate.content = lets.content calm.seen calm.wait in
     gathers-room (taken_out (inside l)) (with_run base run octets).gate.content.data_bits calm.over room run.part.len_fits holds.gathers
 
-pub run_step : (base : Deframer) (run next : Run) (octet : ℕ) (whole octets : List ℕ) (h : List Bool) (events : List LineEvent) → length octets < 277 → IsCalm base
+pub run_step : (base : Receiver) (run next : Run) (octet : ℕ) (whole octets : List ℕ) (h : List Bool) (events : List LineEvent) → length octets < 277 → IsCalm base
     → IsPlainStep run octet next whole → StandsAt h events (with_run base run octets)
     → StandsAt (reverse (low_bits 8 octet) ++ h) events (with_run base next (octets ++ whole))
 run_step base run next octet whole octets h events room calm step stands =
@@ -43,18 +43,18 @@ run_step base run next octet whole octets h events room calm step stands =
     (λ d holds. step_holds base run next octet whole octets d room step holds) lets)
     stands
 
-pub run_none : (h : List Bool) (events : List LineEvent) (d : Deframer) (line : List ℕ) → StandsAt h events d → StandsAt (reverse (bits_of (take 0 line)) ++ h) events d
+pub run_none : (h : List Bool) (events : List LineEvent) (d : Receiver) (line : List ℕ) → StandsAt h events d → StandsAt (reverse (bits_of (take 0 line)) ++ h) events d
 unfolding bits_of
 run_none h events d line stands = stands
 
-pub run_pushed : (base : Deframer) (run next : Run) (octet : ℕ) (whole octets pushed : List ℕ) (h : List Bool) (events : List LineEvent) → pushed ≡ octets ++ whole
+pub run_pushed : (base : Receiver) (run next : Run) (octet : ℕ) (whole octets pushed : List ℕ) (h : List Bool) (events : List LineEvent) → pushed ≡ octets ++ whole
     → length octets < 277 → IsCalm base → IsPlainStep run octet next whole → StandsAt h events (with_run base run octets)
     → StandsAt (reverse (low_bits 8 octet) ++ h) events (with_run base next pushed)
 run_pushed base run next octet whole octets pushed h events is room calm step stands =
     let P : List ℕ → Type 0 = λ os. StandsAt (reverse (low_bits 8 octet) ++ h) events (with_run base next os) in
     subst P (sym is) (run_step base run next octet whole octets h events room calm step stands)
 
-pub nothing_run : (h : List Bool) (events : List LineEvent) (d : Deframer) → StandsAt h events d → StandsAt (reverse (bits_of []) ++ h) events d
+pub nothing_run : (h : List Bool) (events : List LineEvent) (d : Receiver) → StandsAt h events d → StandsAt (reverse (bits_of []) ++ h) events d
 unfolding bits_of
 nothing_run h events d stands = stands
 
@@ -80,10 +80,10 @@ plain_step run next octet w whole left is small plain recent few data_bits ones 
       packed = packed;
     }
 
-pub run_zero : (n : ℕ) (h : List Bool) (events : List LineEvent) (d : Deframer) (line : List ℕ) → n ≡ 0 → StandsAt (reverse (bits_of (take n line)) ++ h) events d → StandsAt h events d
+pub run_zero : (n : ℕ) (h : List Bool) (events : List LineEvent) (d : Receiver) (line : List ℕ) → n ≡ 0 → StandsAt (reverse (bits_of (take n line)) ++ h) events d → StandsAt h events d
 unfolding bits_of
 run_zero n h events d line none stands =
     let P : ℕ → Type 0 = λ m. StandsAt (reverse (bits_of (take m line)) ++ h) events d in subst P none stands
 
-pub same_run : (k l h : List Bool) (events : List LineEvent) (d : Deframer) → k ≡ l → StandsAt (reverse k ++ h) events d → StandsAt (reverse l ++ h) events d
+pub same_run : (k l h : List Bool) (events : List LineEvent) (d : Receiver) → k ≡ l → StandsAt (reverse k ++ h) events d → StandsAt (reverse l ++ h) events d
 same_run k l h events d same stands = let P : List Bool → Type 0 = λ x. StandsAt (reverse x ++ h) events d in subst P same stands

@@ -7,8 +7,7 @@ use Rattle.su_octets.specs.Bits.{low_bits, bits_of}
 use Rattle.bit_line.specs.Parts.{Packed, opening}
 use Rattle.bit_line.specs.Stuffing.{trailing, stuffed, stuffing_of}
 use Rattle.bit_line.specs.Sending.{flag, framed, line_of}
-use Rattle.bit_line.specs.Stuffers.{Gave, is_some_unit}
-use Rattle.bit_line.specs.declared.stuffer.Stuffer.{Stuffer}
+use Rattle.bit_line.specs.Stuffers.{PlainStuffer, Gave, is_some_unit}
 use Rattle.bit_line.proofs.StuffLaws.{stuffed-zero, with_zero-five, with_zero-other, trailing-one, trailing-zero}
 use Rattle.su_octets.proofs.BitLists.{low_bits-split, bits_of-append}
 
@@ -118,23 +117,23 @@ some_more : (units : List (List ℕ)) (octets : List ℕ) → true ≡ is_some_u
 some_more [] octets = refl
 some_more (u ∷ us) octets = refl
 
-pub gave_none : (s : Stuffer) → s.started ≡ false → s.part.len ≡ 0 → Gave [] [] s
+pub gave_none : (s : PlainStuffer) → s.started ≡ false → s.part.len ≡ 0 → Gave [] [] s
 unfolding line_of bits_of low_bits
 gave_none s started len = record { bits = rw len refl; started = started }
 
 -- the fields of the stuffer before a unit
-pub packed_of : (given : List ℕ) (units : List (List ℕ)) (s : Stuffer) → Gave given units s → Packed (given ++ []) s.part.bits s.part.len (reverse (line_of units))
+pub packed_of : (given : List ℕ) (units : List (List ℕ)) (s : PlainStuffer) → Gave given units s → Packed (given ++ []) s.part.bits s.part.len (reverse (line_of units))
 unfolding Packed
 packed_of given units s gave =
     ap (λ l. bits_of l ++ low_bits s.part.len s.part.bits) (append-nil given) ∙ gave.bits ∙ sym (reverse-reverse (line_of units))
 
-pub packed_start : (given items : List ℕ) (units : List (List ℕ)) (s : Stuffer) → items ≡ [] → Gave given units s
+pub packed_start : (given items : List ℕ) (units : List (List ℕ)) (s : PlainStuffer) → items ≡ [] → Gave given units s
     → Packed (given ++ items) s.part.bits s.part.len (reverse (line_of units))
 packed_start given items units s none gave =
     let P : List ℕ → Type 0 = λ l. Packed (given ++ l) s.part.bits s.part.len (reverse (line_of units)) in
     subst P (sym none) (packed_of given units s gave)
 
-pub gave_more : (given items octets : List ℕ) (units : List (List ℕ)) (old new : Stuffer) → new.started ≡ true → Gave given units old
+pub gave_more : (given items octets : List ℕ) (units : List (List ℕ)) (old new : PlainStuffer) → new.started ≡ true → Gave given units old
     → Packed (given ++ items) new.part.bits new.part.len
     (reverse (low_bits 8 126) ++ (stuffed (reverse (bits_of octets)) ++ (opening old.started ++ reverse (line_of units))))
     → Gave (given ++ items) (units ++ octets ∷ []) new

@@ -11,7 +11,7 @@ use Rattle.bit_line.specs.Events.{AreUnit, IsCorrect, Correct, Runs, mode_after,
 use Rattle.bit_line.specs.Laws.{unit_events}
 use Rattle.bit_line.specs.Deframing.{LetsIn, Fits, StandsAt, newest, has_six}
 use Rattle.bit_line.specs.declared.gate.Gate.{Gate}
-use Rattle.bit_line.specs.declared.deframer.Deframer.{Deframer}
+use Rattle.bit_line.specs.declared.receiver.Receiver.{Receiver}
 use Rattle.bit_line.specs.declared.events.LineEvent.{LineEvent}
 use Rattle.bit_line.proofs.FewLaws.{joined}
 use Rattle.bit_line.proofs.FrontLaws.{more_bits}
@@ -96,7 +96,7 @@ missing h c g lets some nothing =
     let none : length (drop 7 c) ≡ 0 = ap length (sym (inside-some h c some) ∙ nothing) in
     omega (arith, was, none, length-drop 7 c)
 
-pub unit_stands : (word place : ℕ) (octets : List ℕ) (h : List Bool) (es : List LineEvent) (old new : Deframer) → old.counter.count ≡ None → new.counter.count ≡ None
+pub unit_stands : (word place : ℕ) (octets : List ℕ) (h : List Bool) (es : List LineEvent) (old new : Receiver) → old.counter.count ≡ None → new.counter.count ≡ None
     → old.gate.seen ≡ true → ((l : List Bool) → LetsIn l old.gate → inside l ≡ []) → old.gate.wait ≤ place → place ≤ 55
     → ((m : ℕ) → (m ≡ place → ⊥) → (old.recent + word * 128) / 2 ^ m % 128 ≡ 126 → ⊥) → (old.recent + word * 128) / 2 ^ place % 256 ≡ 126
     → IsCorrect (reverse (low_bits (place - old.gate.wait) ((old.recent + word * 128) % 2 ^ place / 2 ^ old.gate.wait))) octets
@@ -176,7 +176,7 @@ front_bits word n os few long is =
     (front_same (low_bits (8 * n) word) (bits_of (take n os)) (low_bits more (word / 2 ^ (8 * n))) (bits_of rest)
     (omega (arith, length-low_bits (8 * n) word, length-bits_of (take n os), taken)) whole).0
 
-pub behind_flag : (word place r : ℕ) (os : List ℕ) (h : List Bool) (es : List LineEvent) (d : Deframer) → place ≤ 55 → 7 ≤ length os → low_bits 56 word ≡ bits_of (take 7 os)
+pub behind_flag : (word place r : ℕ) (os : List ℕ) (h : List Bool) (es : List LineEvent) (d : Receiver) → place ≤ 55 → 7 ≤ length os → low_bits 56 word ≡ bits_of (take 7 os)
     → r ≡ 7 - place % 8 → StandsAt (reverse (low_bits r (word / 2 ^ place / 2 % 128)) ++ (reverse (low_bits (place + 1) word) ++ h)) es d
     → StandsAt (reverse (bits_of (take (place / 8 + 1) os)) ++ h) es d
 behind_flag word place r os h es d few long is rest stands =

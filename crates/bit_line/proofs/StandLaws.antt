@@ -14,17 +14,17 @@ use Rattle.bit_line.specs.declared.content.Content.{Content}
 use Rattle.bit_line.specs.declared.content.Closed.{Closed}
 use Rattle.bit_line.specs.declared.content.Closed.TheVariants as closed
 use Rattle.bit_line.specs.declared.counter.Given.{Given}
-use Rattle.bit_line.specs.declared.deframer.Deframer.{Deframer}
+use Rattle.bit_line.specs.declared.receiver.Receiver.{Receiver}
 use Rattle.bit_line.specs.declared.events.LineEvent.{LineEvent}
 use Rattle.bit_line.proofs.FlagLaws.{ends_flag-zero, ends_flag-one, ends_flag-plain, begins-seventh, begins-flag, begins-plain}
 use Rattle.bit_line.proofs.Newest.{newest-next, newest-none, newest-flag, newest-seven, oldest, six_when, no_six_when}
 
-pub stands_first : (d : Deframer) → d.recent ≡ 127 → LetsIn [] d.gate → d.counter.count ≡ Some 0 → Stands [] d
+pub stands_first : (d : Receiver) → d.recent ≡ 127 → LetsIn [] d.gate → d.counter.count ≡ Some 0 → Stands [] d
 unfolding Stands StandsAt Runs
 stands_first d recent gate count =
     ([], (Some 0, (refl, refl), record { recent = ap (λ n. low_bits 7 n) recent ∙ newest-none; gate = gate; counting = count }))
 
-pub goes_on : (b : Bool) (h : List Bool) (mode : Option ℕ) (events given : List LineEvent) (verdict : Verdict) (new : Deframer) → Runs h mode events → Closes b h verdict
+pub goes_on : (b : Bool) (h : List Bool) (mode : Option ℕ) (events given : List LineEvent) (verdict : Verdict) (new : Receiver) → Runs h mode events → Closes b h verdict
     → given ≡ reports verdict mode → Fits (b ∷ h) (mode_after verdict (begins (b ∷ h)) mode) new → StandsAt (b ∷ h) (events ++ given) new
 unfolding StandsAt Runs
 goes_on b h mode events given verdict new runs closes is fits = (
@@ -39,7 +39,7 @@ nothing_closes b h none = let P : Bool → Type 0 = λ e. MatchBool e (IsJudged 
 pub flag_closes : (h : List Bool) (verdict : Verdict) → ends_flag (false ∷ h) ≡ true → IsJudged (inside h) verdict → Closes false h verdict
 flag_closes h verdict ends judged = let P : Bool → Type 0 = λ e. MatchBool e (IsJudged (inside h) verdict) (verdict ≡ Nothing) in subst P (sym ends) judged
 
-pub plain-stands : (b late over s : Bool) (h : List Bool) (events : List LineEvent) (content : Content) (old new : Deframer) → (old.recent ≡ 126 → ⊥)
+pub plain-stands : (b late over s : Bool) (h : List Bool) (events : List LineEvent) (content : Content) (old new : Receiver) → (old.recent ≡ 126 → ⊥)
     → new.recent ≡ old.recent / 2 + 64 * cond b 1 0 → late ≡ (old.recent % 2 == 1)
     → ((h2 : List Bool) (b2 : Bool) → ends_flag (b2 ∷ h2) ≡ false → late ≡ seventh h2 → LetsIn h2 old.gate → LetsIn (b2 ∷ h2) new.gate)
     → ((h2 : List Bool) → LetsIn h2 new.gate → over ≡ nat_lt MOST_BITS (length (taken_out (inside h2))))
@@ -63,7 +63,7 @@ plain-stands b late over s h events content old new other next is_late passes is
       counting = subst P begin (counts mode fits.counting);
     })
 
-pub seventh-stands : (s : Bool) (h : List Bool) (events : List LineEvent) (content : Content) (old new : Deframer) → old.recent ≡ 126 → new.recent ≡ 127
+pub seventh-stands : (s : Bool) (h : List Bool) (events : List LineEvent) (content : Content) (old new : Receiver) → old.recent ≡ 126 → new.recent ≡ 127
     → ((h2 : List Bool) (b2 : Bool) → ends_flag (b2 ∷ h2) ≡ false → false ≡ seventh h2 → LetsIn h2 old.gate → LetsIn (b2 ∷ h2) new.gate)
     → ((mode : Option ℕ) → Counts mode old.counter.count → Counts (mode_after Nothing true mode) new.counter.count)
     → ((mode : Option ℕ) → Counts mode old.counter.count → sixteen_of s ≡ reports Nothing mode)
@@ -83,7 +83,7 @@ seventh-stands s h events content old new was next passes counts full stands =
       counting = subst P (sym (begins-seventh h six)) (counts mode fits.counting);
     })
 
-pub flag-stands : (closing : Closed) (given : Given) (h : List Bool) (events : List LineEvent) (content : Content) (old new : Deframer) → old.recent ≡ 126 → new.recent ≡ 63
+pub flag-stands : (closing : Closed) (given : Given) (h : List Bool) (events : List LineEvent) (content : Content) (old new : Receiver) → old.recent ≡ 126 → new.recent ≡ 63
     → ((h2 : List Bool) → LetsIn h2 old.gate → IsJudged (inside h2) (verdict_of closing content))
     → ((h2 : List Bool) → ends_flag (false ∷ h2) ≡ true → LetsIn (false ∷ h2) new.gate)
     → ((mode : Option ℕ) (content2 : Content) → Counts mode old.counter.count → Counts (mode_after (verdict_of closing content2) false mode) new.counter.count)

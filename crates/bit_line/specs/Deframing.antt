@@ -10,7 +10,7 @@ use Rattle.bit_line.specs.Events.{Runs}
 use Rattle.bit_line.specs.declared.data.Data.{Data}
 use Rattle.bit_line.specs.declared.content.Content.{Content}
 use Rattle.bit_line.specs.declared.gate.Gate.{Gate}
-use Rattle.bit_line.specs.declared.deframer.Deframer.{Deframer}
+use Rattle.bit_line.specs.declared.receiver.Receiver.{Receiver}
 use Rattle.bit_line.specs.declared.events.LineEvent.{LineEvent}
 
 -- the data holds these bits, or only the fact that they are more than a unit has
@@ -47,13 +47,13 @@ newest (suc k) [] = true ∷ newest k []
 newest (suc k) (b ∷ h) = b ∷ newest k h
 
 -- the fields of a deframer after this history, in this mode
-pub record Fits (h : List Bool) (mode : Option ℕ) (deframer : Deframer) : Type 0 where
+pub record Fits (h : List Bool) (mode : Option ℕ) (deframer : Receiver) : Type 0 where
   pub recent : low_bits 7 deframer.recent ≡ reverse (newest 7 h)
   pub gate : LetsIn h deframer.gate
   pub counting : Counts mode deframer.counter.count
 
 -- a deframer after a history with these events
-unfoldable pub StandsAt : List Bool → List LineEvent → Deframer → Type 0
+unfoldable pub StandsAt : List Bool → List LineEvent → Receiver → Type 0
 StandsAt h events deframer = (mode : Option ℕ) × Runs h mode events × Fits h mode deframer
 
 -- the bit seven bits before the next one; before the first bit it is taken to be a 1
@@ -67,5 +67,9 @@ EndsNone [] h = Unit {0}
 EndsNone (b ∷ k) h = EndsNone k h × (ends_flag (b ∷ (k ++ h)) ≡ false)
 
 -- a deframer after these line bits, in order of arrival
-unfoldable pub Stands : List Bool → Deframer → Type 0
+unfoldable pub Stands : List Bool → Receiver → Type 0
 Stands bits deframer = (events : List LineEvent) × StandsAt (reverse bits) events deframer
+
+-- some line bits led to this deframer
+abbrev pub HasTaken : Receiver → Type 0
+HasTaken deframer = (bits : List Bool) × Stands bits deframer

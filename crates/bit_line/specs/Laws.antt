@@ -6,7 +6,7 @@ use Rattle.bit_line.specs.Events.{AreEvents, AreUnit, Runs, UnitsDecode, closing
 use Rattle.bit_line.specs.Flags.{ends_flag}
 use Rattle.bit_line.specs.Sending.{line_of}
 use Rattle.bit_line.specs.Deframing.{Stands}
-use Rattle.bit_line.specs.declared.deframer.Deframer.{Deframer}
+use Rattle.bit_line.specs.declared.receiver.Receiver.{Receiver}
 use Rattle.bit_line.specs.declared.events.LineEvent.{LineEvent}
 use Rattle.bit_line.specs.declared.events.LineEvent.TheVariants as events
 
@@ -18,7 +18,7 @@ OneEvents =
 -- line bits that a deframer has taken have events
 abbrev pub StandsHaveEvents : Type 0
 StandsHaveEvents =
-    (bits : List Bool) (deframer : Deframer) → Stands bits deframer
+    (bits : List Bool) (deframer : Receiver) → Stands bits deframer
     → (events : List LineEvent) × AreEvents bits events
 
 -- each unit that is reported for line bits decodes

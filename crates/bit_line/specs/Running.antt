@@ -5,11 +5,11 @@ use Rattle.su_octets.specs.Bits.{low_bits}
 use Rattle.bit_line.specs.Parts.{Packed}
 use Rattle.bit_line.specs.Stuffing.{trailing, taken_out}
 use Rattle.bit_line.specs.Deframing.{has_six}
-use Rattle.bit_line.specs.declared.deframer.Deframer.{Deframer}
+use Rattle.bit_line.specs.declared.receiver.Receiver.{Receiver}
 use Rattle.bit_line.specs.declared.run.Run.{Run}
 
 -- the deframer with these values in place of its own
-abbrev pub with_run : Deframer → Run → List ℕ → Deframer
+abbrev pub with_run : Receiver → Run → List ℕ → Receiver
 with_run base run octets = record {
   recent = run.recent;
   gate = record {
@@ -32,7 +32,7 @@ with_run base run octets = record {
 }
 
 -- a deframer in normal mode that adds each bit to the content
-pub record IsCalm (base : Deframer) : Type 0 where
+pub record IsCalm (base : Receiver) : Type 0 where
   pub normal : base.counter.count ≡ None
   pub seen : base.gate.seen ≡ true
   pub wait : base.gate.wait ≡ 0

@@ -3,7 +3,7 @@ ghost use Rattle.std.specs.Prelude.{◌≡◌, ◌≤◌, ◌<◌, ◌^◌, Bool
 ghost use Rattle.su_octets.specs.Bits.{low_bits, bits_of};
 ghost use Rattle.bit_line.specs.declared.events.LineEvent.{LineEvent};
 
-use crate::deframer::Deframer;
+use crate::receiver::Receiver;
 use crate::window::is_long_plain;
 
 /// The bits of the first five octets, the first one lowest.
@@ -17,7 +17,7 @@ pub fn word_of(octets: &[u8]) -> u64
     u64::from(octets[0]) + middle * 256
 }
 
-impl Deframer {
+impl Receiver {
     ghost use Rattle.bit_line.specs.Deframing.{StandsAt};
 
     /// Whether the mode is normal and fewer than seven bits follow the last flag so far.

@@ -1,6 +1,6 @@
 //! The line of MTP level 2 (ITU-T Q.703): zero insertion, flags, and the events of a receiver.
 //!
-//! A `Stuffer` makes line bits of signal units. A `Deframer` finds the signal units in line bits,
+//! A `Stuffer` makes line bits of signal units. A `Receiver` finds the signal units in line bits,
 //! however they are cut into octets and slices, and counts octets while it finds none. Line bits are
 //! packed into octets with the low bit first.
 #![tactic(auto)]
@@ -15,6 +15,7 @@ mod gate;
 pub mod laws;
 mod long;
 mod part;
+mod receiver;
 mod reports;
 mod run;
 mod short;

@@ -44,7 +44,7 @@ fn put(whole: Option<u8>, octets: &mut ArrayVec<u8, 278>)
 impl Run {
     ghost use Rattle.bit_line.specs.Deframing.{StandsAt};
     ghost use Rattle.bit_line.specs.Running.{IsPlainStep, IsCalm, with_run};
-    ghost use Rattle.bit_line.specs.declared.deframer.Deframer.{Deframer};
+    ghost use Rattle.bit_line.specs.declared.receiver.Receiver.{Receiver};
     ghost use Rattle.bit_line.specs.declared.events.LineEvent.{LineEvent};
 
     /// Takes an octet if no bit follows six 1s and at most one inserted zero enters the content.
@@ -82,7 +82,7 @@ impl Run {
     /// Takes plain octets from the front while there is room. Returns how many, and the changed fields.
     pub fn over(self, octets: &mut ArrayVec<u8, 278>, line: &[u8]) -> (usize, Run)
         ensures most { result.0 ≤ length line.now }
-        ensures stands { (base : Deframer) (h : List Bool) (events : List LineEvent) → IsCalm base → StandsAt h events (with_run base self octets.old.items)
+        ensures stands { (base : Receiver) (h : List Bool) (events : List LineEvent) → IsCalm base → StandsAt h events (with_run base self octets.old.items)
             → StandsAt (reverse (bits_of (take result.0 line.now)) ++ h) events (with_run base result.1 octets.new.items) }
     {
         let mut run = self;

@@ -6,10 +6,10 @@ ghost use Rattle.bit_line.specs.Laws.{unit_events};
 ghost use Rattle.bit_line.specs.declared.events.LineEvent.{LineEvent};
 
 use crate::content::is_unit;
-use crate::deframer::Deframer;
 use crate::events::{LineEvent, NoMemory};
 use crate::front::word_of;
 use crate::long::left_of;
+use crate::receiver::Receiver;
 use crate::window::flag_in;
 use arrayvec::ArrayVec;
 
@@ -62,7 +62,7 @@ fn report(octets: &[u8]) -> LineEvent
     LineEvent::Unit(unit)
 }
 
-impl Deframer {
+impl Receiver {
     ghost use Rattle.bit_line.specs.Deframing.{StandsAt, LetsIn};
     ghost use Rattle.bit_line.specs.Flags.{inside};
 

@@ -11,6 +11,7 @@ ghost use Rattle.std.specs.Option.{option_to_list};
 
 use crate::part::Part;
 use arrayvec::ArrayVec;
+use std::marker::Model;
 use su_octets::{Unit, encode};
 
 /// The bits of a flag, the first one lowest.
@@ -193,8 +194,18 @@ pub struct Stuffer {
     part: Part,
 }
 
+impl Model for Stuffer {
+    ghost use Rattle.bit_line.specs.Stuffers.{PlainStuffer, HasStuffed};
+
+    ghost Value = { PlainStuffer };
+
+    ghost view = { λ s. record { started = s.started; part = s.part } };
+
+    ghost invariant = { λ s. HasStuffed (record { started = s.started; part = s.part }) };
+}
+
 impl Stuffer {
-    ghost use Rattle.bit_line.specs.Stuffers.{Gave};
+    ghost use Rattle.bit_line.specs.Stuffers.{Gave, HasStuffed};
 
     /// A stuffer before the first unit.
     pub fn new() -> Self
@@ -204,6 +215,14 @@ impl Stuffer {
             started: false,
             part: Part::new(),
         }
+    }
+
+    /// The invariant of every stuffer: it has returned the line octets of some units, none or more, except the bits that
+    /// it keeps. Calling it costs nothing.
+    pub fn law(&self)
+        ensures { HasStuffed self.now }
+    {
+        let _inside = self.started;
     }
 
     /// Sends a unit. Returns the line octets that are complete now, at most 336. Up to 7 bits stay for the next call.

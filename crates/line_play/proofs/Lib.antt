@@ -21,6 +21,7 @@ mod SetReading
 mod SetReported
 mod SetRounds
 mod SetSending
+pub mod SetStanding
 mod SetTelling
 mod SetTimes
 mod Turning

@@ -3,6 +3,7 @@ use Rattle.std.proofs.Common.{◌≡◌, ◌∙◌, ℕ, Bool, true, List, [], �
 use Rattle.std.proofs.lemmas.Grind.{flat_map-append}
 use Rattle.line_filter.specs.Orders.{Timed}
 use Rattle.line_filter.specs.Reporting.{ToldLine, Stand}
+use Rattle.line_tending.specs.Standing.{HasTaken, TakenStand}
 use Rattle.line_tending.specs.Tended.{Tended}
 use Rattle.line_play.specs.LineTraffic.{Traffic}
 use Rattle.line_play.specs.SetAnswers.{AreRead, read_attending, read_by_all, read_along}
@@ -18,6 +19,7 @@ use Rattle.line_play.proofs.SetAnswered.{answered_along}
 use Rattle.line_play.proofs.SetKeeping.{kept_along}
 use Rattle.line_play.proofs.SetReading.{all_read}
 use Rattle.line_play.proofs.SetReported.{reported_along}
+use Rattle.line_play.proofs.SetStanding.{runs_stand}
 
 -- ---- the messages of the orders that were read
 
@@ -52,10 +54,10 @@ sends_along ahead p _ _ _ _ (round {bytes} {traffic} {q} {r} more others on befo
 
 -- ---- from the beginning
 
-promised_by : (ahead : ℕ) (tender : Tended) (left left_after : Option (List Timed)) (before after : Stand) (first last : SetPlace) (lines : List ToldLine) (traffic : List Traffic) (on : Bool)
+promised_by : TakenStand → (ahead : ℕ) (tender : Tended) (left left_after : Option (List Timed)) (before after : Stand) (first last : SetPlace) (lines : List ToldLine) (traffic : List Traffic) (on : Bool)
     → Rounds ahead first lines traffic on last → tender.reports ≡ [] → first.left ≡ left → first.reports ≡ before → first.stood.tender ≡ tender → first.waiting ≡ []
     → last.left ≡ left_after → last.reports ≡ after → IsPromised tender left left_after before after
-promised_by ahead tender left left_after before after first last lines traffic on run none_left left_is before_is set none_wait left_later after_is =
+promised_by law ahead tender left left_after before after first last lines traffic on run none_left left_is before_is set none_wait left_later after_is =
     let none : first.stood.tender.reports ≡ [] = ap (λ (t : Tended). t.reports) set ∙ none_left in
     let told : AreReported first.stood.tender last.stood.tender (sent_along run) first.reports last.reports lines = reported_along ahead first last lines traffic on run none in
     record {
@@ -70,15 +72,16 @@ promised_by ahead tender left left_after before after first last lines traffic o
       in_order = λ s.
           subst (λ (l : List (List ℕ)). InOrder (of_selection s (map octets_of (sent_along run))) (of_selection s l)) (sym (sends_along ahead first last lines traffic on run))
           (kept_along ahead first last lines traffic on run none_wait s);
+      stand = λ earlier brought. runs_stand law ahead first last lines traffic on run earlier (subst (λ (t : Tended). HasTaken t earlier) (sym set) brought);
       reported = subst (λ (t : Tended). AreReported t last.stood.tender (sent_along run) before after lines) set
           (subst (λ (a : Stand). AreReported first.stood.tender last.stood.tender (sent_along run) a after lines) before_is
           (subst (λ (b : Stand). AreReported first.stood.tender last.stood.tender (sent_along run) first.reports b lines) after_is told));
     }
 
-pub promised : (ahead : ℕ) (tender : Tended) (left left_after : Option (List Timed)) (before after : Stand) (given_before given : Option (List Traffic))
+pub promised : TakenStand → (ahead : ℕ) (tender : Tended) (left left_after : Option (List Timed)) (before after : Stand) (given_before given : Option (List Traffic))
     → RanFrom ahead tender left left_after before after given_before given → tender.reports ≡ [] → IsPromised tender left left_after before after
-promised ahead tender left left_after before after given_before given ran none_left =
+promised law ahead tender left left_after before after given_before given ran none_left =
     let made = ran.made in
     let are : Ran ahead ran.first made.bytes made.traffic ran.last = made.are in
-    promised_by ahead tender left left_after before after ran.first ran.last made.bytes made.traffic are.goes_on are.rounds none_left ran.left_is ran.reports_are ran.set ran.none_wait
+    promised_by law ahead tender left left_after before after ran.first ran.last made.bytes made.traffic are.goes_on are.rounds none_left ran.left_is ran.reports_are ran.set ran.none_wait
     ran.left_later ran.reports_later

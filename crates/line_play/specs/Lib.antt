@@ -24,5 +24,7 @@ pub mod SetRounds
 pub mod SetSaying
 pub mod SetSeries
 pub mod SetShowing
+pub mod SetStanding
 pub mod Told
+pub use Rattle.line_tending.specs.Standing
 pub use Rattle.line_tending.specs.Tended

@@ -14,7 +14,7 @@ pub use set::desk::SetDesk;
 pub use set::given::{Given, Said, Whom};
 pub use set::laws::{
     a_run_is_a_life_of_its_set, a_run_keeps_its_promises, each_message_is_reported_or_waits,
-    each_message_is_told_once, each_order_is_answered_once,
+    each_message_is_told_once, each_order_is_answered_once, messages_of_a_run_stand,
     messages_of_a_selection_keep_their_order, orders_are_read_in_order,
 };
 pub use set::lines::{LineNews, Lines};

@@ -10,3 +10,4 @@ mod Passing
 mod Printing
 mod Reading
 mod Speaking
+mod Standing

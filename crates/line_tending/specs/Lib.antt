@@ -9,6 +9,7 @@ pub mod Orders
 pub mod Readers
 pub mod Rounds
 pub mod Sending
+pub mod Standing
 pub mod Telling
 pub mod Tended
 pub mod Texts

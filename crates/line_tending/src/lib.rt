@@ -25,7 +25,7 @@ mod told;
 
 pub use ends::Ends;
 pub use group_changeover::{Label, SendError, label_of};
-pub use laws::{a_life_is_by_calls, each_report_is_told_once};
+pub use laws::{a_life_is_by_calls, each_report_is_told_once, messages_taken_in_a_life_stand};
 pub use link_group::{CommandError, DivertError, Group, Sif};
 pub use link_line::{LineChange, LinkLine, miss_line};
 pub use link_processes::Command;

@@ -1,3 +1,4 @@
+mod Aligning
 mod Along
 pub mod Below
 mod Between
@@ -6,6 +7,7 @@ mod Calling
 mod Calls
 pub mod Commands
 mod Counting
+mod Deaf
 pub mod Diversions
 mod Diverting
 mod Each
@@ -20,7 +22,9 @@ mod Hands
 mod Heeding
 mod Joined
 mod Leaving
+mod Listing
 mod Live
+mod Meeting
 mod Messages
 mod Near
 mod Numbered
@@ -36,6 +40,7 @@ mod Sounding
 mod Staying
 mod Telling
 mod Terminals
+mod Together
 pub mod Turning
 mod Units
 mod Within

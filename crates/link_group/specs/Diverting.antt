@@ -1,7 +1,10 @@
 -- Diversion (Q.704): a link's retrieved messages go to the other links.
 use Rattle.std.specs.Prelude.{ℕ, if◌then◌else◌, List, length, map, Option, Some, None, slice_get}
+use Rattle.std.specs.Prelude.{◌++◌, codes}
+use Rattle.std.specs.Fmt.{decimal}
 use Rattle.resend_store.specs.declared.messages.Msu.{Msu}
 use Rattle.group_changeover.specs.Sharing.{selections, link_of}
+use Rattle.group_changeover.specs.Printed.{divert_fault_text}
 use Rattle.group_changeover.specs.declared.errors.DivertFault.{DivertFault}
 use Rattle.link_group.specs.declared.link.Link.{Link}
 use Rattle.link_group.specs.Links.{change}
@@ -65,3 +68,10 @@ divert_fault_by c l (Some k) =
 -- K1 without the link, K2 if its messages aren't retrieved, else why some remain
 unfoldable pub divert_fault : LinkSet → ℕ → Option DivertError
 divert_fault c l = divert_fault_by c l (slice_get c.links l)
+
+-- the printed text of why some messages aren't diverted
+abbrev pub divert_error_text : DivertError → List ℕ
+divert_error_text error.NoLink = codes "K1 NoLink"
+divert_error_text error.Waiting = codes "K2 Waiting"
+divert_error_text (error.Left fault left) =
+    divert_fault_text fault ++ codes " left " ++ decimal left

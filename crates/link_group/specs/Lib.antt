@@ -6,11 +6,13 @@ pub mod Doing
 pub mod Encodable
 pub mod Ends
 pub mod Failing
+pub mod Gone
 pub mod Joined
 pub mod Laws
 pub mod Limits
 pub mod Lines
 pub mod Links
+pub mod Meeting
 pub mod Moving
 pub mod New
 pub mod OneLink

@@ -3,7 +3,7 @@ ghost use Rattle.std.specs.Prelude.{◌≡◌, ◌≤◌, All, length, ◌<◌, 
 ghost use Rattle.resend_store.specs.Messages.{IsMessage};
 ghost use Rattle.link_group.specs.Limits.{MOST_LINKS};
 ghost use Rattle.link_group.specs.OneLink.{fault_of};
-ghost use Rattle.link_group.specs.Diverting.{diverted, settled, left_fault, divert_fault, after_divert};
+ghost use Rattle.link_group.specs.Diverting.{diverted, settled, left_fault, divert_fault, after_divert, divert_error_text};
 ghost use Rattle.group_changeover.specs.Sharing.{selections, link_of, pick};
 ghost use Rattle.link_group.specs.Links.{change};
 ghost use Rattle.link_group.specs.Moving.{is_out_at, hand_by, hand_count, without_hand, ends_on, ends_at, keeps_at};
@@ -16,9 +16,11 @@ use crate::open::{holds_at, takers};
 use group_changeover::{DivertFault, Table, counts_of, pick};
 use resend_store::Msu;
 use std::collections::VecDeque;
+use std::fmt;
+use thiserror::Error;
 
 /// Why a link's messages weren't diverted, or not all of them.
-#[derive(Clone, Copy, Debug, PartialEq, Eq)]
+#[derive(Clone, Copy, Debug, PartialEq, Eq, Error)]
 pub enum DivertError {
     /// There is no such link.
     NoLink,
@@ -31,6 +33,18 @@ pub enum DivertError {
         /// How many messages remain.
         left: usize,
     },
+}
+
+impl fmt::Display for DivertError {
+    ghost output = { λ e. Some (divert_error_text e) };
+
+    fn fmt<W: fmt::Write>(&self, f: &mut fmt::Formatter<W>) -> fmt::Result {
+        match self {
+            Self::NoLink => f.write_str("K1 NoLink"),
+            Self::Waiting => f.write_str("K2 Waiting"),
+            Self::Left { fault, left } => write!(f, "{fault} left {left}"),
+        }
+    }
 }
 
 /// Diverts messages taken from a link's hand; the rest go back. If none is left, its changeover ends.
@@ -79,6 +93,8 @@ impl Group {
     pub fn divert(&mut self, link: usize) -> Result<(), DivertError>
         ensures fault { fault_of result ≡ divert_fault self.old link }
         ensures set { self.new ≡ after_divert self.old link }
+        ensures accepted { self.new.accepted ≡ self.old.accepted }
+        ensures gone { self.new.gone ≡ self.old.gone }
     {
         if link >= self.links.len() {
             return Err(DivertError::NoLink);

@@ -3,6 +3,7 @@ ghost use Rattle.link_group.specs.Along.{TerminalsFare};
 ghost use Rattle.link_group.specs.Ends.{EndsComplete, EndsHeed};
 ghost use Rattle.link_group.specs.Joined.{SetsComplete};
 ghost use Rattle.link_group.specs.Laws.{EachInOnePlace, UnsureAreCounted};
+ghost use Rattle.link_group.specs.Meeting.{AlignmentMatches, SetsMeet};
 
 use group_changeover::steps_keep_places;
 use link_processes::unacknowledged_messages_stay;
@@ -49,4 +50,17 @@ pub fn terminals_fare_so()
 /// their order. Units that don't go through the stores are free: LSSUs, and all units while none are taken.
 pub fn sets_complete_each_life()
     ensures { SetsComplete }
+{}
+
+/// As `sets_complete_each_life`, for ends that begin their life at different moments, in either order, while units of
+/// earlier lives are under way: if each unit that goes through the stores of an end in this life was sent in this life
+/// of the other end, and none of this life does so in an earlier one.
+pub fn sets_complete_whenever_they_begin()
+    ensures { SetsMeet }
+{}
+
+/// The lines keep their order, and an end that began takes and sends FISUs and MSUs only after it heard a unit that the
+/// other end sent in this life, as Q.703's alignment has it. Then each end hears only units of the matching life.
+pub fn alignment_matches_lives()
+    ensures { AlignmentMatches }
 {}

@@ -5,6 +5,7 @@
 mod commanding;
 mod doing;
 mod ending;
+mod gone;
 mod group;
 mod hand;
 mod laws;
@@ -24,10 +25,13 @@ mod ticks;
 
 pub use commanding::{CommandError, is_start};
 pub use ending::DivertError;
+pub use gone::Gone;
 pub use group::{Group, Sif};
+pub use group_changeover::{Label, label_of};
 pub use laws::{
-    each_message_stands_in_one_place, ends_heed_all_else, retrieval_completes_each_life,
-    sets_complete_each_life, terminals_fare_so, unsure_messages_are_counted,
+    alignment_matches_lives, each_message_stands_in_one_place, ends_heed_all_else,
+    retrieval_completes_each_life, sets_complete_each_life, sets_complete_whenever_they_begin,
+    terminals_fare_so, unsure_messages_are_counted,
 };
 pub use link_processes::Command;
 pub use link_term::CallError;

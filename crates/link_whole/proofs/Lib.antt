@@ -1,3 +1,6 @@
+mod Consuming
 mod Ending
+mod Events
+mod InputsAndSaves
 mod Refusing
 mod Whole

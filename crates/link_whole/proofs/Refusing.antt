@@ -4,12 +4,12 @@ use Rattle.sdl_lex.specs.declared.lexemes.Token.{Token}
 use Rattle.sdl_ast.specs.Plain.{PlainBlock}
 use Rattle.turn_code.specs.declared.draft.Draft.{Draft}
 use Rattle.turn_verify.specs.Loaded.{Gives, IsLoaded, IsRead, IsRefused, IsSoundText}
-use Rattle.turn_verify.specs.Meant.{IsSetOf}
+use Rattle.turn_verify.specs.Meant.{IsSetOfBlock}
 use Rattle.turn_verify.specs.declared.loading.LoadFault.{LoadFault}
 use Rattle.turn_verify.specs.declared.loading.LoadFault.TheVariants.{Lex, Parse, Rule, NoMemory}
 use Rattle.actor_book.specs.Limits.{LimitNumbers}
 use Rattle.actor_machine.specs.Ledger.{Ledger}
-use Rattle.actor_machine.specs.declared.event.Event.{Event}
+use Rattle.actor_book.specs.declared.schedule.Scheduled.{Scheduled}
 use Rattle.actor_machine.specs.declared.reply.Reply.{Reply}
 use Rattle.link_whole.specs.Headline.{IsFault, IsRun, RunsAsRead}
 
@@ -20,10 +20,10 @@ refused_so text (Parse fault line) P refused exact = (refused, λ s. exact s.tok
 refused_so text (Rule fault line) P refused exact = (refused, λ s. exact s.tokens s.block s.is_so)
 refused_so text NoMemory P refused exact = tt
 
-pub run_so : (text : List ℕ) (d : Draft) (l : LimitNumbers) (es : List Event) (book : Ledger) (replies : List Reply) → IsLoaded text d
-    → ((ts : List Token) (b : PlainBlock) → IsRead text ts b → IsSetOf b d) → ((b : PlainBlock) → IsSetOf b d → RunsAsRead b d l es book replies)
-    → IsRun text l es book replies
-run_so text d l es book replies loaded every runs = record {
+pub run_so : (text : List ℕ) (d : Draft) (l : LimitNumbers) (ss : List Scheduled) (book : Ledger) (replies : List Reply) → IsLoaded text d
+    → ((ts : List Token) (b : PlainBlock) → IsRead text ts b → IsSetOfBlock b d) → ((b : PlainBlock) → IsSetOfBlock b d → RunsAsRead b d l ss book replies)
+    → IsRun text l ss book replies
+run_so text d l ss book replies loaded every runs = record {
   sound = record { tokens = loaded.tokens; block = loaded.block; is_so = loaded.sound };
   set = d;
   every = λ ts b read. runs b (every ts b read);

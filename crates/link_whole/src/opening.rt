@@ -1,6 +1,6 @@
-//! A new terminal over the program's own set.
+//! A new terminal over a set of the program.
 ghost use Rattle.std.specs.Prelude.{IfOk, IfErr};
-ghost use Rattle.link_whole.specs.Opening.{IsNew, IsRefusedNew};
+ghost use Rattle.link_whole.specs.Opening.{IsNew, IsRefusedNew, IsNewStandard, IsRefusedStandard};
 
 use link_term::{OpenError, Terminal};
 use mtp2_text::{STANDARD, standard};
@@ -48,5 +48,37 @@ pub fn new_terminal(alloc: Global, mode: Mode) -> Result<Terminal, NewError>
             Err(error) => Err(NewError::Open(error)),
         },
         Err(fault) => Err(NewError::Load(fault)),
+    }
+}
+
+/// What is made in a mode of error correction, over a set of the program.
+pub trait NewInMode: Sized {
+    ghost use Rattle.resend_store.specs.declared.messages.Mode.{Mode as AnyMode};
+    ghost use Rattle.link_whole.specs.declared.opening.NewError.{NewError as AnyError};
+
+    // what a new one is
+    ghost is_new: { AnyMode → Self → Type 0 };
+
+    // why there is none
+    ghost is_refused: { AnyError → Type 0 };
+
+    /// A new one in this mode.
+    ///
+    /// # Errors
+    ///
+    /// The fault that `load` returns for the set's text, or that memory ran out.
+    fn new(alloc: Global, mode: Mode) -> Result<Self, NewError>
+        ensures ok { IfOk result (is_new mode) }
+        ensures err { IfErr result is_refused };
+}
+
+/// [`new_terminal`] as `Terminal::new`.
+impl NewInMode for Terminal {
+    ghost is_new = { IsNewStandard };
+
+    ghost is_refused = { IsRefusedStandard };
+
+    fn new(alloc: Global, mode: Mode) -> Result<Terminal, NewError> {
+        new_terminal(alloc, mode)
     }
 }

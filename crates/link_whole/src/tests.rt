@@ -1,6 +1,6 @@
-//! Tests that a text is loaded and run in one call if there is memory.
+//! Tests that a text is loaded and run in one call if there is memory, with rebases between its events.
 use crate::running::run_text;
-use actor_book::Limits;
+use actor_book::{Limits, Scheduled};
 use actor_machine::{Event, Offer, Refusal, Reply};
 use arrayvec::ArrayVec;
 use std::alloc::Global;
@@ -17,26 +17,29 @@ ENDSTATE Run; ENDPROCESS P; ENDBLOCK B;
 ";
 
 /// The environment sends the counter a 7.
-fn seven() -> Event {
+fn seven() -> Scheduled {
     let mut values = ArrayVec::new();
     values.push(Value::Int(7));
-    Event::Offer(Offer {
+    Scheduled::Event(Event::Offer(Offer {
         actor: 0,
         signal: SignalNumber(0),
         values,
-    })
+    }))
 }
 
-/// START, two 7s although the port has room for only one, a turn, and taking a signal that nobody sent.
-fn events() -> [Event; 7] {
+/// START, two 7s although the port has room for only one, a turn with a rebase before and within it, and taking a signal
+/// that nobody sent.
+fn steps() -> [Scheduled; 9] {
     [
-        Event::Begin(0),
-        Event::Finish(0),
+        Scheduled::Event(Event::Begin(0)),
+        Scheduled::Event(Event::Finish(0)),
         seven(),
         seven(),
-        Event::Begin(0),
-        Event::Finish(0),
-        Event::TakeEnv,
+        Scheduled::Rebase,
+        Scheduled::Event(Event::Begin(0)),
+        Scheduled::Rebase,
+        Scheduled::Event(Event::Finish(0)),
+        Scheduled::Event(Event::TakeEnv),
     ]
 }
 
@@ -56,7 +59,7 @@ fn told(reply: &Reply) -> u32 {
 /// The result of a text: the number of each answer; or that of the layer that refuses it: 1 for its tokens, 2 for its
 /// tree, 3 for its rules, and 4 if memory runs out.
 fn run(alloc: Global, text: &str) -> Option<Result<[u32; 7], u32>> {
-    match run_text(alloc, text, Limits::new(1, 1, 16)?, &events()) {
+    match run_text(alloc, text, Limits::new(1, 1, 16)?, &steps()) {
         Ok(ran) => {
             let mut all = [0; 7];
             for (one, reply) in all.iter_mut().zip(ran.replies.iter()) {

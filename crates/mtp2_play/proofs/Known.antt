@@ -15,9 +15,11 @@ use Rattle.line_streams.specs.declared.opening.OrderStream.{OrderStream}
 use Rattle.line_play.specs.LineTraffic.{Traffic}
 use Rattle.line_play.specs.SetDesks.{RanFrom}
 use Rattle.line_play.specs.SetOpening.{IsNewTenderOver}
+use Rattle.line_play.specs.SetStanding.{RunsStand}
 use Rattle.line_play.specs.Tended.{Tended}
 use Rattle.line_play.specs.declared.link.opening.ChosenLimits.{ChosenLimits}
 use Rattle.line_play.specs.declared.set.opening.SetPlan.{SetPlan}
+use Rattle.line_play.proofs.SetStanding.{new_stands}
 use Rattle.resend_store.specs.declared.messages.Mode.{Mode}
 use Rattle.mtp2_play.specs.SetRuns.{RanOn, RanOver, RanWhole, plan_of}
 use Rattle.mtp2_play.specs.Spoken.{chosen_by, SpokeOver, BegunOver}
@@ -85,10 +87,20 @@ over_or_failed status (inl done) = inl done
 over_or_failed status (inr four) = inr (inr four)
 
 -- the run ended, or couldn't begin
-pub set_over : (name : List ℕ) (known : Option (List ℕ)) (plan : SetPlan) (end : SetEnd) (status : ℕ) (tender : Tended) → IsGiven known (IsNewTenderOver plan tender)
+ran_over : RunsStand → (plan : SetPlan) (end : SetEnd) (tender : Tended) (bytes : List ℕ) → IsNewTenderOver plan tender bytes → RanOn end tender → RanOver plan end bytes
+ran_over law plan end tender bytes new on =
+    let whole : RanWhole end.ahead tender (left_of on.orders) on.before = on.ran in
+    record {
+      tender = tender;
+      new = new;
+      ran = on;
+      stands = new_stands law plan bytes end.ahead tender (left_of on.orders) whole.left_after on.before whole.after whole.given_before whole.given new whole.ran;
+    }
+
+pub set_over : RunsStand → (name : List ℕ) (known : Option (List ℕ)) (plan : SetPlan) (end : SetEnd) (status : ℕ) (tender : Tended) → IsGiven known (IsNewTenderOver plan tender)
     → (status ≡ 0 → RanOn end tender) → (status ≡ 0) ⊎ (status ≡ 4) → IsSetRun name known plan end status
-set_over name known plan end status tender new ran ends = record {
-  ran = λ done. record { bytes = new.bytes; are_known = new.are_known; holds = record { tender = tender; new = new.holds; ran = ran done } };
+set_over law name known plan end status tender new ran ends = record {
+  ran = λ done. record { bytes = new.bytes; are_known = new.are_known; holds = ran_over law plan end tender new.bytes new.holds (ran done) };
   refused = λ two. absurd (not_two status ends two);
   ends = over_or_failed status ends;
 }
@@ -135,26 +147,26 @@ turned_down known old new g = some_bytes known (IsTurnedDown old new) g
 pub played : (echo : Bool) (set script old new : Option (List ℕ)) → IsOnSet set script (λ l. IsPlayed l echo old new)
     → IsOnSet set None (λ l. IsPlayed l echo old new)
 played echo set script old new s =
-    record { found = s.found; is_set = s.is_set; of_script = some_bytes script (IsPlayed s.found.limits echo old new s.found.set) s.of_script }
+    record { found = s.found; is_set = s.is_set; turns = s.turns; of_script = some_bytes script (IsPlayed s.found.limits echo old new s.found.set) s.of_script }
 
 pub in_part : (echo : Bool) (set script old new : Option (List ℕ)) → IsOnSet set script (λ l. IsPlayedInPart l echo old new)
     → IsOnSet set None (λ l. IsPlayedInPart l echo old new)
 in_part echo set script old new s =
-    record { found = s.found; is_set = s.is_set; of_script = some_bytes script (IsPlayedInPart s.found.limits echo old new s.found.set) s.of_script }
+    record { found = s.found; is_set = s.is_set; turns = s.turns; of_script = some_bytes script (IsPlayedInPart s.found.limits echo old new s.found.set) s.of_script }
 
 -- with the requested view in a file
 pub seen : (sight : Wanted) (set script old new begun now : Option (List ℕ)) → IsOnSet set script (λ l. IsPlaySeen l sight old new begun now)
     → IsOnSet set None (λ l. IsPlaySeen l sight old new begun now)
 seen sight set script old new begun now s =
-    record { found = s.found; is_set = s.is_set; of_script = some_bytes script (IsPlaySeen s.found.limits sight old new begun now s.found.set) s.of_script }
+    record { found = s.found; is_set = s.is_set; turns = s.turns; of_script = some_bytes script (IsPlaySeen s.found.limits sight old new begun now s.found.set) s.of_script }
 
 pub seen_in_part : (sight : Wanted) (set script old new begun now : Option (List ℕ)) → IsOnSet set script (λ l. IsPlaySeenInPart l sight old new begun now)
     → IsOnSet set None (λ l. IsPlaySeenInPart l sight old new begun now)
 seen_in_part sight set script old new begun now s =
-    record { found = s.found; is_set = s.is_set; of_script = some_bytes script (IsPlaySeenInPart s.found.limits sight old new begun now s.found.set) s.of_script }
+    record { found = s.found; is_set = s.is_set; turns = s.turns; of_script = some_bytes script (IsPlaySeenInPart s.found.limits sight old new begun now s.found.set) s.of_script }
 
 not_run_in : (set script old new : Option (List ℕ)) → IsOnSet set script (λ l. IsNotRun l old new) → IsOnSet set None (λ l. IsNotRun l old new)
-not_run_in set script old new s = record { found = s.found; is_set = s.is_set; of_script = some_bytes script (IsNotRun s.found.limits old new s.found.set) s.of_script }
+not_run_in set script old new s = record { found = s.found; is_set = s.is_set; turns = s.turns; of_script = some_bytes script (IsNotRun s.found.limits old new s.found.set) s.of_script }
 
 pub not_run : (set script old new : Option (List ℕ)) → IsRefused set script old new → IsRefused set None old new
 not_run set script old new (set_refused g) = set_refused g
@@ -164,14 +176,14 @@ not_run set script old new (script_refused s) = script_refused (not_run_in set s
 
 pub watched_on_some : (echo : Bool) (wanted : Wanted) (set old new : Option (List ℕ)) (begun now : Option (Option (List ℕ)))
     → IsOnSet set None (λ l. IsWatched l echo wanted old new begun now) → IsOnSet None None (λ l. IsWatched l echo wanted old new begun now)
-watched_on_some echo wanted set old new begun now s = record { found = s.found; is_set = some_bytes set _ s.is_set; of_script = s.of_script }
+watched_on_some echo wanted set old new begun now s = record { found = s.found; is_set = some_bytes set _ s.is_set; turns = s.turns; of_script = s.of_script }
 
 pub in_part_on_some : (echo : Bool) (wanted : Wanted) (set old new : Option (List ℕ)) (begun now : Option (Option (List ℕ)))
     → IsOnSet set None (λ l. IsWatchedInPart l echo wanted old new begun now) → IsOnSet None None (λ l. IsWatchedInPart l echo wanted old new begun now)
-in_part_on_some echo wanted set old new begun now s = record { found = s.found; is_set = some_bytes set _ s.is_set; of_script = s.of_script }
+in_part_on_some echo wanted set old new begun now s = record { found = s.found; is_set = some_bytes set _ s.is_set; turns = s.turns; of_script = s.of_script }
 
 not_run_on : (set old new : Option (List ℕ)) → IsOnSet set None (λ l. IsNotRun l old new) → IsOnSet None None (λ l. IsNotRun l old new)
-not_run_on set old new s = record { found = s.found; is_set = some_bytes set _ s.is_set; of_script = s.of_script }
+not_run_on set old new s = record { found = s.found; is_set = some_bytes set _ s.is_set; turns = s.turns; of_script = s.of_script }
 
 pub not_run_on_some : (set old new : Option (List ℕ)) → IsRefused set None old new → IsRefused None None old new
 not_run_on_some set old new (set_refused g) = set_refused (some_bytes set (PrintsRefusal old new) g)

@@ -11,12 +11,14 @@ use Rattle.plain_laws.proofs.Pairwise.{zip_push}
 use Rattle.sdl_tables.proofs.Growing.{taken_more}
 use Rattle.sdl_lex.specs.Lexed.{Answers}
 use Rattle.sdl_lex.specs.declared.lexemes.Token.{Token}
+use Rattle.sdl_tree.specs.Syntax.{Reads}
 use Rattle.sdl_tables.specs.Plain.{PlainBlock}
+use Rattle.turn_verify.specs.Meanings.{meaning_of}
 use Rattle.script_point.specs.Pointed.{IsPointed, IsHead, IsBegin, IsEnd}
 use Rattle.script_point.specs.Pointing.{token_end}
 use Rattle.script_point.specs.declared.notes.Notes.{Notes}
 use Rattle.sdl_warnings.specs.Printed.{kind_name, kind_text}
-use Rattle.sdl_warnings.specs.Warned.{AreWarnings, block_warnings}
+use Rattle.sdl_warnings.specs.Warned.{AreWarnings, text_warnings}
 use Rattle.sdl_warnings.specs.declared.warning.Warning.{Warning}
 use Rattle.mtp2_words.specs.declared.requests.Warned.{Warned}
 use Rattle.mtp2_words.specs.declared.requests.Warned.TheVariants.{Unsaid, Told, Counted}
@@ -87,14 +89,12 @@ by_all (Ok v) bytes text tokens w place same at short h =
 pub none_told : (name text : List ℕ) (tokens : List Token) (old : List ℕ) → AreTold name text tokens [] old old
 none_told name text tokens old = record { each = []; point = tt; all = sym (append-nil old) }
 
-pub one_told : (name text : List ℕ) (tokens : List Token) (w : Warning) (lines named shown old mid new : List ℕ) → IsWarning text tokens w lines → named ≡ name → mid ≡ old ++ named
-    → shown ≡ lines → new ≡ mid ++ shown → AreTold name text tokens (w ∷ []) old new
-one_told name text tokens w lines named shown old mid new is called first same then_lines = record {
+pub one_told : (name text : List ℕ) (tokens : List Token) (w : Warning) (lines whole old new : List ℕ) → IsWarning text tokens w lines → whole ≡ name ++ lines → new ≡ old ++ whole
+    → AreTold name text tokens (w ∷ []) old new
+one_told name text tokens w lines whole old new is called then_whole = record {
   each = lines ∷ [];
   point = (is, tt);
-  all =
-      then_lines ∙ (ap (λ l. mid ++ l) same ∙ (ap (λ l. l ++ lines) (first ∙ ap (λ l. old ++ l) called)
-      ∙ (append_assoc old name lines ∙ ap (λ l. old ++ l) (sym (append-nil (name ++ lines))))));
+  all = then_whole ∙ ap (λ l. old ++ l) (called ∙ sym (append-nil (name ++ lines)));
 }
 
 one_more : (name text : List ℕ) (tokens : List Token) (ws : List Warning) (w : Warning) (start now new : List ℕ) → AreTold name text tokens ws start now
@@ -124,7 +124,7 @@ pub all_told : (name text : List ℕ) (tokens : List Token) (ws : List Warning) 
 all_told name text tokens ws i start now past told =
     let P : List Warning → Type 0 = λ l. AreTold name text tokens l start now in subst P (take_all i ws past) told
 
--- ---- the warnings of a block
+-- ---- the warnings of a text
 
 not_zero : (n : ℕ) → not (n == 0) ≡ nat_lt 0 n
 not_zero n = elim (cases_eq n 0) [
@@ -132,13 +132,13 @@ not_zero n = elim (cases_eq n 0) [
   | inr other ↦ ap not (ne_eqb n 0 other) ∙ sym (lt-ltb 0 n (omega (arith, other)))
 ]
 
-pub block_warned : (name text : List ℕ) (tokens : List Token) (block : PlainBlock) (found shown seen : List Warning) (old new : List ℕ) (none : Bool) → Answers text (Ok tokens)
-    → IsMeant tokens block → AreWarnings block found → shown ≡ found → seen ≡ found → AreTold name text tokens shown old new → none ≡ (length seen == 0) → WarnsOf name text old new (not none)
-block_warned name text tokens block found shown seen old new none lexed meant are same sees told empty = record {
+pub text_warned : (name text : List ℕ) (tokens : List Token) (written block : PlainBlock) (found shown seen : List Warning) (old new : List ℕ) (none : Bool) → Answers text (Ok tokens)
+    → Reads tokens written → block ≡ meaning_of written → AreWarnings written block found → shown ≡ found → seen ≡ found → AreTold name text tokens shown old new → none ≡ (length seen == 0) → WarnsOf name text old new (not none)
+text_warned name text tokens written block found shown seen old new none lexed reads means are same sees told empty = record {
   tokens = tokens;
   lexed = lexed;
   block = block;
-  meant = meant;
+  meant = record { written = written; reads = reads; means = means };
   found = found;
   are = are;
   told = let P : List Warning → Type 0 = λ l. AreTold name text tokens l old new in subst P same told;
@@ -155,7 +155,7 @@ warned_by_one name text old new w = record {
   meant = w.meant;
   some = λ none.
       let many = ltb-true 0 (length w.found) (sym w.is_some) in
-      let count = length_permutation (block_warnings w.block) w.found w.are.all in
+      let count = length_permutation (text_warnings w.meant.written w.block) w.found w.are.all in
       let few = ap length none in
       (let bad : ⊥ = omega (arith, many, count, few) in bad);
 }
@@ -168,8 +168,8 @@ unwarned_by_none name text old new w = record {
   meant = w.meant;
   none =
       let few = ltb-false 0 (length w.found) (sym w.is_some) in
-      let count = length_permutation (block_warnings w.block) w.found w.are.all in
-      nil_from_length (block_warnings w.block) (omega (arith, few, count));
+      let count = length_permutation (text_warnings w.meant.written w.block) w.found w.are.all in
+      nil_from_length (text_warnings w.meant.written w.block) (omega (arith, few, count));
 }
 
 pub counted_by : (name text old new : List ℕ) (warned : Warned) (some : Bool) (status : ℕ) → WarnsOf name text old new some → status ≡ warned_status warned some → status ≡ 1 → IsWarned text

@@ -3,27 +3,27 @@ use Rattle.std.specs.Prelude.{◌≡◌, ◌⊎◌, ℕ, Bool, if◌then◌else�
 use Rattle.sdl_lex.specs.Lexed.{Answers}
 use Rattle.sdl_lex.specs.declared.lexemes.Token.{Token}
 use Rattle.sdl_tables.specs.Plain.{PlainBlock}
-use Rattle.sdl_warnings.specs.Warned.{block_warnings}
+use Rattle.sdl_warnings.specs.Warned.{text_warnings}
 use Rattle.script_check.specs.Checked.{IsGiven, PrintsCosts, PrintsRefusal}
 use Rattle.mtp2_play.specs.Warned.{IsMeant}
 use Rattle.mtp2_words.specs.declared.requests.Warned.{Warned}
 use Rattle.mtp2_words.specs.declared.requests.Warned.TheVariants.{Unsaid, Told, Counted}
 
--- the text means a block with some warning
+-- the text has a warning
 pub record IsWarned (text : List ℕ) : Type 0 where
   pub tokens : List Token
   pub lexed : Answers text (Ok tokens)
   pub block : PlainBlock
   pub meant : IsMeant tokens block
-  pub some : block_warnings block ≡ [] → ⊥
+  pub some : text_warnings meant.written block ≡ [] → ⊥
 
--- the text means a block with none
+-- the text has none
 pub record IsUnwarned (text : List ℕ) : Type 0 where
   pub tokens : List Token
   pub lexed : Answers text (Ok tokens)
   pub block : PlainBlock
   pub meant : IsMeant tokens block
-  pub none : block_warnings block ≡ []
+  pub none : text_warnings meant.written block ≡ []
 
 -- the exit status for an accepted text, by whether it has a warning
 abbrev pub warned_status : Warned → Bool → ℕ

@@ -7,6 +7,8 @@ use Rattle.line_streams.specs.declared.opening.OrderStream.{OrderStream}
 use Rattle.line_play.specs.LineTraffic.{Traffic}
 use Rattle.line_play.specs.SetDesks.{RanFrom}
 use Rattle.line_play.specs.SetOpening.{IsNewTenderOver}
+use Rattle.line_play.specs.SetStanding.{set_after, taken_in}
+use Rattle.line_play.specs.Standing.{AllStandIn}
 use Rattle.line_play.specs.declared.set.opening.SetPlan.{SetPlan}
 use Rattle.line_play.specs.Tended.{Tended}
 use Rattle.line_play.specs.declared.link.opening.ChosenLimits.{ChosenLimits}
@@ -42,8 +44,11 @@ pub record RanOn (end : SetEnd) (tender : Tended) : Type 0 where
   pub before : Stand
   pub ran : RanWhole end.ahead tender (left_of orders) before
 
--- a new link set, as planned, ran with the processes of these bytes
+-- A new link set, as planned, ran with the processes of these bytes. It took exactly the messages
+-- of the orders that were answered `ok`. At its end each of them is in one place, or has left,
+-- acknowledged or unsure: in order for each selection, and the unsure ones counted.
 pub record RanOver (plan : SetPlan) (end : SetEnd) (bytes : List ℕ) : Type 0 where
   pub tender : Tended
   pub new : IsNewTenderOver plan tender bytes
   pub ran : RanOn end tender
+  pub stands : AllStandIn (set_after ran.ran.ran) (taken_in ran.ran.ran)

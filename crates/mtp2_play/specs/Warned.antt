@@ -76,6 +76,6 @@ pub record WarnsOf (name text old new : List ℕ) (some : Bool) : Type 0 where
   pub block : PlainBlock
   pub meant : IsMeant tokens block
   pub found : List Warning
-  pub are : AreWarnings block found
+  pub are : AreWarnings meant.written block found
   pub told : AreTold name text tokens found old new
   pub is_some : some ≡ nat_lt 0 (length found)

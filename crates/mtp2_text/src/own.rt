@@ -4,7 +4,7 @@ ghost use Rattle.std.specs.Prelude.{◌≡◌, List, IfOk, IfErr, IfSome, IsNone
 ghost use Rattle.sdl_lex.specs.declared.lexemes.Token as lexeme;
 ghost use Rattle.sdl_ast.specs.Plain.{PlainBlock};
 ghost use Rattle.turn_verify.specs.Blocks.{MatchesBlock};
-ghost use Rattle.turn_verify.specs.Meant.{IsSetOf};
+ghost use Rattle.turn_verify.specs.Meant.{IsSetOfBlock};
 ghost use Rattle.turn_verify.specs.Loaded.{IsLoaded, IsRead, IsSoundText, Gives, IsRefused};
 ghost use Rattle.mtp2_text.specs.Own.{text_of, word_of, NamesNone};
 
@@ -19,7 +19,7 @@ fn set_of(alloc: Global, text: &str) -> Result<Verified, LoadFault>
     ensures utf8 { IsUtf8 text.now }
     ensures accepted { IfOk result (IsLoaded text.now) }
     ensures exact { (ts : List lexeme.Token) (b : PlainBlock) → IsSoundText text.now ts b → Gives result (MatchesBlock b) }
-    ensures every { (ts : List lexeme.Token) (b : PlainBlock) → IsRead text.now ts b → IfOk result (IsSetOf b) }
+    ensures every { (ts : List lexeme.Token) (b : PlainBlock) → IsRead text.now ts b → IfOk result (IsSetOfBlock b) }
     ensures refused { IfErr result (IsRefused text.now) }
 {
     load(alloc, text)
@@ -82,7 +82,7 @@ impl OwnSet {
         ensures utf8 { IsUtf8 (text_of self) }
         ensures accepted { IfOk result (IsLoaded (text_of self)) }
         ensures exact { (ts : List lexeme.Token) (b : PlainBlock) → IsSoundText (text_of self) ts b → Gives result (MatchesBlock b) }
-        ensures every { (ts : List lexeme.Token) (b : PlainBlock) → IsRead (text_of self) ts b → IfOk result (IsSetOf b) }
+        ensures every { (ts : List lexeme.Token) (b : PlainBlock) → IsRead (text_of self) ts b → IfOk result (IsSetOfBlock b) }
         ensures refused { IfErr result (IsRefused (text_of self)) }
     {
         set_of(alloc, self.text())

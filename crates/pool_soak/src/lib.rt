@@ -12,4 +12,4 @@ pub use client::Open;
 pub use findings::agree;
 pub use script::{Soak, Step, soak_script};
 pub use soak_faults::soak_line_fault;
-pub use soaking::{soak, soaked};
+pub use soaking::{soak, soak_telling, soaked};

@@ -28,6 +28,23 @@ use std::thread::Threads;
 use turn_check::Verified;
 use turn_pool::{Closed, Receipt, serve};
 
+/// As [`soak_telling`], but says nowhere why a line of the script is bad.
+pub fn soak<R: Threads + Wait + Sync, S: Read + Drop, W: Write>(
+    rt: &R,
+    alloc: Global,
+    script: S,
+    workers: usize,
+    writer: &mut W,
+) -> u8
+    ensures held { result ≡ 0 → IsGiven (S.remaining script) (IsSoaked (W.contents writer.old) (W.contents writer.new)) }
+    ensures differs { result ≡ 1 → IsGiven (S.remaining script) (IsSoakedInVain (W.contents writer.old) (W.contents writer.new)) }
+    ensures refused { result ≡ 2 → IsGiven (S.remaining script) (IsTurnedDown (W.contents writer.old) (W.contents writer.new)) }
+    ensures served { (result ≡ 0) ⊎ (result ≡ 1) → (LEAST_WORKERS ≤ workers) × (workers ≤ MOST_WORKERS) }
+    ensures status { (result ≡ 0) ⊎ (result ≡ 1) ⊎ (result ≡ 2) ⊎ (result ≡ 4) }
+{
+    soak_telling(rt, alloc, script, workers, writer, &mut io::sink())
+}
+
 /// Lets threads serve links that run the process set `standard`, carries out a script on them, and prints two lines.
 /// The first is `seats agree`: the counts match the journals (`seats differ` is checked for, but never occurs). The
 /// second is `audit yes` if there is a receipt for each event that the script made, and each receipt's event is at its
@@ -40,7 +57,7 @@ use turn_pool::{Closed, Receipt, serve};
 /// only `refused F1 NotText` was written if it is no text, else `refused X1 BadLine line N` with its first bad line. 4:
 /// out of memory, a read or a write failed, the number of workers isn't 1 to 16, or no thread can be made. Nothing is
 /// written after a write that failed. The reason why a line is bad is written to `errors` (only tests show that).
-pub fn soak<R: Threads + Wait + Sync, S: Read + Drop, W: Write, E: Write>(
+pub fn soak_telling<R: Threads + Wait + Sync, S: Read + Drop, W: Write, E: Write>(
     rt: &R,
     alloc: Global,
     mut script: S,

@@ -1,4 +1,5 @@
 mod Floods
+pub mod Growing
 mod Runs
 mod Saids
 mod Texts

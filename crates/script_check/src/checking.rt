@@ -11,6 +11,17 @@ use script_point::LimitName;
 use std::alloc::Global;
 use std::io::{self, Read, Write};
 
+/// As [`check_telling`], but says nowhere which place of a refused text is at fault.
+pub fn check<R: Read + Drop, W: Write>(alloc: Global, set: SetWord<R>, writer: &mut W) -> u8
+    ensures held { result ≡ 0 → IfSome (given R.remaining set) IsAccepted }
+    ensures refused { result ≡ 2 → IfSome (given R.remaining set) IsNotAccepted }
+    ensures costs { result ≡ 0 → IsGiven (given R.remaining set) (PrintsCosts (W.contents writer.old) (W.contents writer.new)) }
+    ensures refusal { result ≡ 2 → IsGiven (given R.remaining set) (PrintsRefusal (W.contents writer.old) (W.contents writer.new)) }
+    ensures status { (result ≡ 0) ⊎ (result ≡ 2) ⊎ (result ≡ 4) }
+{
+    check_telling(alloc, set, "", writer, &mut io::sink())
+}
+
 /// Prints the cost of each transition, then `accepted`. Each process has a line `PROCESS START budget B depth D effects
 /// E`, then a line `PROCESS STATE/INPUT ..` for each input of its states, in the order of the text. The whole text is
 /// read before any output; each line is one write. If the text is refused, its name and the lines that point at the
@@ -18,7 +29,7 @@ use std::io::{self, Read, Write};
 ///
 /// Returns the exit status: 0 if every line was written; 2 after only a line `refused CODE Name ..`, with ` line N` if
 /// the fault has a place; 4 if memory runs out or a read or write fails. Nothing is written after a failed write.
-pub fn check<R: Read + Drop, W: Write, E: Write>(
+pub fn check_telling<R: Read + Drop, W: Write, E: Write>(
     alloc: Global,
     set: SetWord<R>,
     name: &str,

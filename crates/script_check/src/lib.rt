@@ -15,6 +15,6 @@ mod sorts;
 mod synonym_sorts;
 mod telling;
 
-pub use checking::{check, refuse_limit, refuse_set, tell_refusal, write_refusal};
+pub use checking::{check, check_telling, refuse_limit, refuse_set, tell_refusal, write_refusal};
 pub use script_point::in_front;
 pub use sets::{FoundSet, Refusal, SetFault, SetWord, find_set, load_set};

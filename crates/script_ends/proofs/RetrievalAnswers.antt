@@ -2,13 +2,13 @@
 use Rattle.std.proofs.Common.{◌≡◌, ℕ, List, length, Option, None, Err, sym, ap, subst, ◌∙◌}
 use Rattle.link_group.specs.Set.{LinkSet}
 use Rattle.link_group.specs.Changing.{retrieve_fault_at, after_retrieve, messages_for, abandon_fault_at, after_abandon, unsent_at}
-use Rattle.link_group.specs.Diverting.{divert_fault, after_divert}
+use Rattle.link_group.specs.Diverting.{divert_fault, after_divert, divert_error_text}
 use Rattle.link_group.specs.OneLink.{but_memory, abandon_refusal}
 use Rattle.link_group.specs.declared.ending.DivertError.{DivertError}
 use Rattle.group_changeover.specs.declared.errors.RetrieveError.{RetrieveError}
 use Rattle.group_changeover.specs.declared.errors.AbandonError.{AbandonError}
 use Rattle.group_changeover.specs.declared.errors.AbandonError.TheVariants as abandoning
-use Rattle.script_ends.specs.GroupAnswers.{count_line, Retrieves, Abandons, divert_line, Diverts, IsRetrieveLine, IsAbandonLine}
+use Rattle.script_ends.specs.GroupAnswers.{count_line, Retrieves, Abandons, said_by, Diverts, IsRetrieveLine, IsAbandonLine}
 use Rattle.script_ends.specs.GroupAnswers as answers
 
 -- ---- retrieved
@@ -47,5 +47,5 @@ unabandoned l c d abandoning.NoMemory text line fault makes = absurd line
 
 -- ---- diverted
 
-pub diverted : (l : ℕ) (c d : LinkSet) (o : Option DivertError) (text : List ℕ) → text ≡ divert_line o → o ≡ divert_fault c l → d ≡ after_divert c l → Diverts l c text d
-diverted l c d o text is fault makes = record { says = is ∙ ap divert_line fault; makes = makes }
+pub diverted : (l : ℕ) (c d : LinkSet) (o : Option DivertError) (text : List ℕ) → text ≡ said_by divert_error_text o → o ≡ divert_fault c l → d ≡ after_divert c l → Diverts l c text d
+diverted l c d o text is fault makes = record { says = is ∙ ap (said_by divert_error_text) fault; makes = makes }

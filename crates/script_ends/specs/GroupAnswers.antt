@@ -19,13 +19,11 @@ use Rattle.group_changeover.specs.declared.errors.FailError.{FailError}
 use Rattle.group_changeover.specs.declared.errors.RetrieveError.{RetrieveError}
 use Rattle.group_changeover.specs.declared.errors.AbandonError.{AbandonError}
 use Rattle.group_changeover.specs.declared.errors.AbandonError.TheVariants as abandoning
-use Rattle.link_group.specs.declared.ending.DivertError.{DivertError}
-use Rattle.link_group.specs.declared.ending.DivertError.TheVariants as diverting
 use Rattle.link_group.specs.Set.{LinkSet, send_fault, sent, bind_fault_at, bound_at}
 use Rattle.link_group.specs.Changing.{fail_fault, after_failure, order_at, IsRead, after_message}
 use Rattle.link_group.specs.Changing.{reply_to, retrieve_fault_at, after_retrieve, messages_for}
 use Rattle.link_group.specs.Changing.{abandon_fault_at, after_abandon, unsent_at}
-use Rattle.link_group.specs.Diverting.{divert_fault, after_divert}
+use Rattle.link_group.specs.Diverting.{divert_fault, after_divert, divert_error_text}
 use Rattle.link_group.specs.Placing.{rebalance_fault, rebalanced}
 use Rattle.link_group.specs.Lines.{ByLink, ByCommand, Alone, after_admission}
 use Rattle.link_group.specs.Doing.{Listened, Sent, Reported}
@@ -229,16 +227,9 @@ pub data Abandons (l : ℕ) (c : LinkSet) : List ℕ → LinkSet → Type 0 wher
       → Abandons l c (count_line (length (unsent_at c l))) (after_abandon c l)
 
 -- The line of a diversion.
-abbrev pub divert_line : Option DivertError → List ℕ
-divert_line None = codes "ok"
-divert_line (Some diverting.NoLink) = NO_LINK
-divert_line (Some diverting.Waiting) = codes "refused K2 Waiting"
-divert_line (Some (diverting.Left e n)) =
-    codes "refused " ++ divert_fault_text e ++ codes " left " ++ decimal n
-
 -- The messages retrieved from a link are diverted, or as many as possible.
 pub record Diverts (l : ℕ) (c : LinkSet) (text : List ℕ) (d : LinkSet) : Type 0 where
-  pub says : text ≡ divert_line (divert_fault c l)
+  pub says : text ≡ said_by divert_error_text (divert_fault c l)
   pub makes : d ≡ after_divert c l
 
 -- A link that exists is admitted, or no longer.

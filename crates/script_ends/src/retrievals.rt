@@ -1,11 +1,10 @@
 //! Messages that are retrieved and diverted.
 ghost use Rattle.std.specs.Prelude.{◌≡◌, Some, IfOk};
-ghost use Rattle.script_ends.specs.GroupAnswers.{Retrieves, Abandons, Diverts, IsRetrieveLine, IsAbandonLine, divert_line};
+ghost use Rattle.script_ends.specs.GroupAnswers.{Retrieves, Abandons, Diverts, IsRetrieveLine, IsAbandonLine};
 
-use crate::saying::{count_line, done, no_link, refused};
+use crate::saying::{count_line, done, refused};
 use group_changeover::{AbandonError, RetrieveError};
-use link_group::{DivertError, Group};
-use script_book::text_line;
+use link_group::Group;
 use std::alloc::{AllocError, Global};
 
 /// The line of a refused retrieval; an error if memory ran out.
@@ -50,25 +49,12 @@ pub(crate) fn abandon(alloc: Global, group: &mut Group, link: usize) -> Result<V
     }
 }
 
-/// The line of a `divert` that didn't divert all messages.
-fn undiverted(alloc: Global, error: DivertError) -> Result<Vec<u8>, AllocError>
-    ensures { IfOk result (λ v. v.items ≡ divert_line (Some error)) }
-{
-    match error {
-        DivertError::NoLink => no_link(alloc),
-        DivertError::Waiting => Vec::from_slice(alloc, b"refused K2 Waiting"),
-        DivertError::Left { fault, left } => {
-            text_line(alloc, &format_args!("refused {fault} left {left}"))
-        }
-    }
-}
-
 /// Obeys `divert`.
 pub(crate) fn divert(alloc: Global, group: &mut Group, link: usize) -> Result<Vec<u8>, AllocError>
     ensures { IfOk result (λ v. Diverts link group.old v.items group.new) }
 {
     match group.divert(link) {
         Ok(()) => done(alloc),
-        Err(error) => undiverted(alloc, error),
+        Err(error) => refused(alloc, &error),
     }
 }

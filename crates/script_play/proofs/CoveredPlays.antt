@@ -66,6 +66,7 @@ pub covered_as : (name : List ℕ) (known : Option (List ℕ)) (bytes : List ℕ
 covered_as name known bytes script old new from to is s = record {
   found = s.found;
   is_set = given_as known bytes (λ all. IsFound all s.found) is s.is_set;
+  turns = s.turns;
   of_script = record {
     bytes = s.of_script.bytes;
     are_known = s.of_script.are_known;
@@ -83,6 +84,7 @@ pub covered_in_part_as : (name : List ℕ) (known : Option (List ℕ)) (bytes : 
 covered_in_part_as name known bytes script old new from to is s = record {
   found = s.found;
   is_set = given_as known bytes (λ all. IsFound all s.found) is s.is_set;
+  turns = s.turns;
   of_script = record {
     bytes = s.of_script.bytes;
     are_known = s.of_script.are_known;
@@ -109,6 +111,7 @@ pub some_covered : (name : List ℕ) (known : Option (List ℕ)) (wanted : Wante
 some_covered name known wanted set script old new from to is s = record {
   found = s.found;
   is_set = s.is_set;
+  turns = s.turns;
   of_script =
       let P : Wanted → Type 0 = λ w. IsPlaySeen s.found.limits w old new from to s.found.set s.of_script.bytes in
       record {
@@ -123,6 +126,7 @@ pub some_covered_in_part : (name : List ℕ) (known : Option (List ℕ)) (wanted
 some_covered_in_part name known wanted set script old new from to is s = record {
   found = s.found;
   is_set = s.is_set;
+  turns = s.turns;
   of_script =
       let P : Wanted → Type 0 = λ w. IsPlaySeenInPart s.found.limits w old new from to s.found.set s.of_script.bytes in
       record {
@@ -136,7 +140,12 @@ pub refused_as : (known : Option (List ℕ)) (bytes : List ℕ) (script old new 
     → IsRefused known script old new
 refused_as known bytes script old new is (set_refused g) = set_refused (given_as known bytes (PrintsRefusal old new) is g)
 refused_as known bytes script old new is (script_refused s) =
-    script_refused (record { found = s.found; is_set = given_as known bytes (λ all. IsFound all s.found) is s.is_set; of_script = s.of_script })
+    script_refused (record {
+      found = s.found;
+      is_set = given_as known bytes (λ all. IsFound all s.found) is s.is_set;
+      turns = s.turns;
+      of_script = s.of_script;
+    })
 
 -- for the bytes of a text
 pub of_bytes : (usual : TextLimits) (old new from to : Option (List ℕ)) (name text bytes : List ℕ) (d : Draft) (said : List ℕ) → text ≡ bytes

@@ -1,3 +1,4 @@
+mod BookTurns
 mod Refusals
 mod Texts
 mod Throwing

@@ -12,6 +12,7 @@ pub with_lines : (echo : Bool) (wanted : Wanted) (set script old new : Option (L
 with_lines echo wanted set script old new begun now echoed s = record {
   found = s.found;
   is_set = s.is_set;
+  turns = s.turns;
   of_script = record { bytes = s.of_script.bytes; are_known = s.of_script.are_known; holds = has_lines echoed s.of_script.holds };
 }
 
@@ -20,6 +21,7 @@ pub with_neither : (echo : Bool) (wanted : Wanted) (set script old new : Option 
 with_neither echo wanted set script old new begun now unlined none s = record {
   found = s.found;
   is_set = s.is_set;
+  turns = s.turns;
   of_script = record { bytes = s.of_script.bytes; are_known = s.of_script.are_known; holds = has_neither unlined none s.of_script.holds };
 }
 
@@ -29,6 +31,7 @@ pub with_file : (echo : Bool) (wanted : Wanted) (set script old new was has : Op
 with_file echo wanted set script old new was has begun now unlined first last s = record {
   found = s.found;
   is_set = s.is_set;
+  turns = s.turns;
   of_script = record { bytes = s.of_script.bytes; are_known = s.of_script.are_known; holds = has_file was has unlined first last s.of_script.holds };
 }
 
@@ -52,6 +55,7 @@ pub was_played : (echo : Bool) (wanted : Wanted) (set script old new : Option (L
 was_played echo wanted set script old new begun now s = record {
   found = s.found;
   is_set = s.is_set;
+  turns = s.turns;
   of_script = record {
     bytes = s.of_script.bytes;
     are_known = s.of_script.are_known;
@@ -66,6 +70,7 @@ pub with_lines_in_part : (echo : Bool) (wanted : Wanted) (set script old new : O
 with_lines_in_part echo wanted set script old new begun now echoed s = record {
   found = s.found;
   is_set = s.is_set;
+  turns = s.turns;
   of_script = record { bytes = s.of_script.bytes; are_known = s.of_script.are_known; holds = has_lines_in_part echoed s.of_script.holds };
 }
 
@@ -74,6 +79,7 @@ pub with_neither_in_part : (echo : Bool) (wanted : Wanted) (set script old new :
 with_neither_in_part echo wanted set script old new begun now unlined none s = record {
   found = s.found;
   is_set = s.is_set;
+  turns = s.turns;
   of_script = record { bytes = s.of_script.bytes; are_known = s.of_script.are_known; holds = has_neither_in_part unlined none s.of_script.holds };
 }
 
@@ -83,6 +89,7 @@ pub with_file_in_part : (echo : Bool) (wanted : Wanted) (set script old new was 
 with_file_in_part echo wanted set script old new was has begun now unlined first last s = record {
   found = s.found;
   is_set = s.is_set;
+  turns = s.turns;
   of_script = record { bytes = s.of_script.bytes; are_known = s.of_script.are_known; holds = has_file_in_part was has unlined first last s.of_script.holds };
 }
 
@@ -106,6 +113,7 @@ pub was_played_in_part : (echo : Bool) (wanted : Wanted) (set script old new : O
 was_played_in_part echo wanted set script old new begun now s = record {
   found = s.found;
   is_set = s.is_set;
+  turns = s.turns;
   of_script = record {
     bytes = s.of_script.bytes;
     are_known = s.of_script.are_known;

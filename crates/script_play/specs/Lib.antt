@@ -5,6 +5,7 @@ pub mod Played
 pub mod Seen
 pub mod Thrown
 pub mod Traced
+pub mod Turns
 pub use Rattle.script_lines.specs.Words
 pub use Rattle.script_seen.specs.TracedActs
 pub use Rattle.script_seen.specs.declared as script_seen_types

@@ -16,6 +16,7 @@ use Rattle.script_check.specs.declared.sets.FoundSet.{FoundSet}
 use Rattle.mtp2_text.specs.declared.limits.TextLimits.{TextLimits}
 use Rattle.mtp2_text.specs.declared.limits.LimitName.{LimitName}
 use Rattle.script_play.specs.Limits.{usual_over, wrong_for}
+use Rattle.script_play.specs.Turns.{HasTurns}
 use Rattle.plain_text.specs.Lines.{line_of}
 use Rattle.script_seen.specs.TermRuns.{IsOfNew, IsTermWritten, IsTermFailed, LacksName}
 use Rattle.script_lines.specs.Lines.{PlainLine, lines_of}
@@ -173,12 +174,13 @@ PrintsFault (BadLine line) old new =
     Appends old new (line_of (codes "refused X1 BadLine line " ++ decimal line))
 PrintsFault NoMemory old new = ⊥
 
--- the bytes of the set are accepted, and P holds of their limits, of their set and of the bytes of
--- the script
+-- The bytes of the set are accepted, and P holds of their limits, of their set and of the bytes of
+-- the script. Each event of a book's script on that set is as the text of the set says.
 pub record IsOnSet (set script : Option (List ℕ)) (P : TextLimits → Draft → List ℕ → Type 0) :
     Type 0 where
   pub found : FoundSet
   pub is_set : IsGiven set (λ bytes. IsFound bytes found)
+  pub turns : HasTurns found.set
   pub of_script : IsGiven script (P found.limits found.set)
 
 -- why nothing ran: the set is refused, whatever the script is; or the set is accepted, and the

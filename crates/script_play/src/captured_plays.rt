@@ -11,6 +11,7 @@ use crate::captured_groups::capture_group;
 use crate::captured_terminals::capture_terminal;
 use crate::limits::usual_over;
 use crate::playing::{explain, explain_length, refuse_script};
+use crate::turns::turns_are_as_read;
 use mtp2_text::TextLimits;
 use plain_text::{FAILED, TextRead, line_at_limit, read_text, refuse, write_line};
 use resend_store::RoundLimits;
@@ -161,16 +162,19 @@ pub(crate) fn play_captured<S: Read + Drop, R: Read + Drop, W: Write, T: Write, 
     let read = read_text(alloc, &mut script);
     match set {
         Ok(found) => match read {
-            Ok(read) => capture_text(
-                alloc,
-                &found.set,
-                found.limits,
-                &read,
-                every,
-                out,
-                writer,
-                errors,
-            ),
+            Ok(read) => {
+                turns_are_as_read(&found.set);
+                capture_text(
+                    alloc,
+                    &found.set,
+                    found.limits,
+                    &read,
+                    every,
+                    out,
+                    writer,
+                    errors,
+                )
+            }
             Err(_) => FAILED,
         },
         Err(refusal) => refuse_set(alloc, name, &refusal, writer, errors),

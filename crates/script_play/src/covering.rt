@@ -7,6 +7,7 @@ ghost use Rattle.script_covered.specs.Texts.{IsTextOf};
 ghost use Rattle.script_play.specs.Played.{IsNotRun, IsOnSet, IsRefused};
 ghost use Rattle.script_play.specs.Seen.{IsPlayTold, IsPlayToldInPart, IsCoveredBy, IsTextCovered, IsTextCoveredInPart};
 
+use crate::turns::turns_are_as_read;
 use crate::watching::{tell, watch_text};
 use actor_machine::ActorName;
 use mtp2_text::TextLimits;
@@ -199,17 +200,20 @@ fn cover_bytes<R: Read + Drop, T: Write, W: Write, E: Write>(
     let read = read_text(alloc, &mut script);
     match set {
         Ok(found) => match read {
-            Ok(read) => cover_set(
-                alloc,
-                &found.set,
-                bytes,
-                name,
-                found.limits,
-                &read,
-                out,
-                writer,
-                errors,
-            ),
+            Ok(read) => {
+                turns_are_as_read(&found.set);
+                cover_set(
+                    alloc,
+                    &found.set,
+                    bytes,
+                    name,
+                    found.limits,
+                    &read,
+                    out,
+                    writer,
+                    errors,
+                )
+            }
             Err(_) => FAILED,
         },
         Err(refusal) => refuse_set(alloc, name, &refusal, writer, errors),

@@ -1,6 +1,7 @@
 //! The command `play`: runs a script on a process set, on a terminal or on a link set.
 #![tactic(auto)]
 
+mod brief;
 mod captured_groups;
 mod captured_plays;
 mod captured_terminals;
@@ -14,10 +15,12 @@ mod playing;
 mod seeing;
 mod thrown;
 mod tracing;
+mod turns;
 mod watching;
 
+pub use brief::play;
 pub use charts::Cut;
-pub use playing::play;
+pub use playing::play_telling;
 pub use script_lines::words_in;
 pub use script_seen::{Tracer, front_of, open_tracer};
 pub use seeing::{Wanted, play_seen};

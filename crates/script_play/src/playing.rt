@@ -8,6 +8,7 @@ ghost use Rattle.script_lines.specs.Lines.{lines_of};
 ghost use Rattle.script_play.specs.Played.{IsOtherShown, IsOtherShownMissed, AreShown, AreShownMissed, IsObeyedAs, IsMissedAs, IsOtherObeyed, IsObeyed, IsPlayed, IsOtherMissed, IsMissedIn, IsPlayedInPart, HasNoOther, HasNoTerminal, IsNotRun, PrintsFault, IsOnSet, IsRefused};
 
 use crate::limits::usual_over;
+use crate::turns::turns_are_as_read;
 use mtp2_text::TextLimits;
 use plain_text::{FAILED, MOST_BYTES, TextRead, line_at_limit, read_text, refuse, write_line};
 use resend_store::RoundLimits;
@@ -40,7 +41,7 @@ use turn_check::Verified;
 /// 2: the set or the script was refused (only `refused CODE Name ..`). 4: out of memory, or a read or a write failed.
 /// Nothing is written after a write that failed. `errors` gets a line for each reason why a line is bad (X1) or a
 /// signal is refused (B3); only tests show that. For a refused set it gets what `check` writes there.
-pub fn play<S: Read + Drop, R: Read + Drop, W: Write, E: Write>(
+pub fn play_telling<S: Read + Drop, R: Read + Drop, W: Write, E: Write>(
     alloc: Global,
     set: SetWord<S>,
     name: &str,
@@ -62,7 +63,10 @@ pub fn play<S: Read + Drop, R: Read + Drop, W: Write, E: Write>(
     let read = read_text(alloc, &mut script);
     match set {
         Ok(found) => match read {
-            Ok(read) => play_text(alloc, &found.set, found.limits, &read, echo, writer, errors),
+            Ok(read) => {
+                turns_are_as_read(&found.set);
+                play_text(alloc, &found.set, found.limits, &read, echo, writer, errors)
+            }
             Err(_) => FAILED,
         },
         Err(refusal) => refuse_set(alloc, name, &refusal, writer, errors),

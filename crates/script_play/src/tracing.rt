@@ -10,6 +10,7 @@ ghost use Rattle.script_play.specs.Traced.{IsOtherTraced, AreTraced, IsPlayTrace
 
 use crate::limits::usual_over;
 use crate::playing::{explain, explain_length, refuse_script};
+use crate::turns::turns_are_as_read;
 use mtp2_text::TextLimits;
 use plain_text::{FAILED, TextRead, line_at_limit, read_text, refuse};
 use resend_store::RoundLimits;
@@ -162,16 +163,19 @@ pub(crate) fn play_traced<S: Read + Drop, R: Read + Drop, W: Write, T: Write, E:
     let read = read_text(alloc, &mut script);
     match set {
         Ok(found) => match read {
-            Ok(read) => trace_text(
-                alloc,
-                &found.set,
-                found.limits,
-                &read,
-                every,
-                trace,
-                writer,
-                errors,
-            ),
+            Ok(read) => {
+                turns_are_as_read(&found.set);
+                trace_text(
+                    alloc,
+                    &found.set,
+                    found.limits,
+                    &read,
+                    every,
+                    trace,
+                    writer,
+                    errors,
+                )
+            }
             Err(_) => FAILED,
         },
         Err(refusal) => refuse_set(alloc, name, &refusal, writer, errors),

@@ -13,6 +13,7 @@ use crate::charts::{Chart, Cut};
 use crate::limits::usual_over;
 use crate::playing::{explain, explain_length, refuse_script};
 use crate::thrown::Thrown;
+use crate::turns::turns_are_as_read;
 use mtp2_text::TextLimits;
 use plain_text::{DONE, FAILED, TextRead, line_at_limit, read_text, refuse, write_line};
 use resend_store::RoundLimits;
@@ -252,16 +253,19 @@ pub(crate) fn play_told<S: Read + Drop, R: Read + Drop, T: Write, W: Write, E: W
     let read = read_text(alloc, &mut script);
     match set {
         Ok(found) => match read {
-            Ok(read) => tell_run(
-                alloc,
-                &found.set,
-                found.limits,
-                &read,
-                told,
-                out,
-                writer,
-                errors,
-            ),
+            Ok(read) => {
+                turns_are_as_read(&found.set);
+                tell_run(
+                    alloc,
+                    &found.set,
+                    found.limits,
+                    &read,
+                    told,
+                    out,
+                    writer,
+                    errors,
+                )
+            }
             Err(_) => FAILED,
         },
         Err(refusal) => refuse_set(alloc, name, &refusal, writer, errors),

@@ -21,7 +21,7 @@ use Rattle.sdl_meaning.specs.Act.{scope_of}
 use Rattle.sdl_compile.specs.Drafts.{MatchesProcess, MatchesInputs, MatchesInput}
 use Rattle.sdl_compile.specs.Blocks.{MatchesBlock}
 use Rattle.sdl_compile.specs.Meaning.{input_of_state, IsMeant, RunsAsMeant}
-use Rattle.sdl_compile.specs.Meant.{meant_by, meant_in, meaning_of, IsCertifiedBy, IsSetOf}
+use Rattle.sdl_compile.specs.Meant.{meant_by, meant_in, meaning_of, IsCertifiedBy, IsSetOfBlock}
 use Rattle.sdl_compile.proofs.Meaning.{paired, runs_as_meant}
 
 as_function : (b : PlainBlock) (n : ℕ) (s : Place) (i : ℕ) (x : code_input.Input) (r : Ran) → IsMeant b n s i x r → meaning_of b n s i x ≡ result_in r
@@ -76,7 +76,7 @@ module _ (b : PlainBlock) (d : Draft) (matches : MatchesBlock b d) where
           let r = paired (MatchesProcess b) (processes_of b) d.processes n dp matches.processes f in
           place_certified n s i t r.item dp r.there r.related e
 
-pub set_of_block : (b : PlainBlock) (d : Draft) → Sound b → MatchesBlock b d → IsSetOf b d
+pub set_of_block : (b : PlainBlock) (d : Draft) → Sound b → MatchesBlock b d → IsSetOfBlock b d
 set_of_block b d sound matches =
     let runs : RunsAsMeant b d = runs_as_meant b d sound matches in
     record {

@@ -14,7 +14,7 @@ use Rattle.sdl_sound.specs.Longest.{Piece, piece_size}
 use Rattle.sdl_meaning.specs.Outcomes.{Scope}
 use Rattle.sdl_meaning.specs.Code.{text_at, ArePlaced}
 use Rattle.sdl_meaning.specs.Named.{AnswersSenders, AnswersAll}
-use Rattle.sdl_compile.specs.Drafts.{Means}
+use Rattle.sdl_compile.specs.Drafts.{MeansPiece}
 use Rattle.sdl_compile.specs.Made.{IsPieceOf}
 use Rattle.sdl_compile.specs.Settings.{IsReadyPiece}
 use Rattle.sdl_meaning.proofs.Acts.{run_is_act}
@@ -48,7 +48,7 @@ module _ (c : Scope) (q : Piece) (ps : List Sort) (entry : VariableSet) (ready :
           (kept_there (λ (k : PlainConnection). reaches c.process q.text k.name.name) c.process.connections n k e
           (placed_reached c ready.named.connections q.text ready.named.text.text ns placed n k h e))
 
-  pub means : (d : DraftPiece) → IsPieceOf c ps entry q d → length d.code ≡ piece_size c.process q → (from : Option Identifier) → AnswersAll c from q.text → Means c from q d
+  pub means : (d : DraftPiece) → IsPieceOf c ps entry q d → length d.code ≡ piece_size c.process q → (from : Option Identifier) → AnswersAll c from q.text → MeansPiece c from q d
   means d made size from answers = record {
     run_is_act = λ x is_sent. run_is_act c from q made.code.numbers d.code x made.code.placed made.code.code ready.named is_sent answers.text (others_answer made.code.numbers made.code.placed from answers) ready.small.budget;
     code = made.code;

@@ -31,7 +31,8 @@ use Rattle.sdl_meaning.specs.Declarations.{drafted_variables, trigger_of, trigge
 -- way. In the code of an Integer DECISION the body of ELSE comes before those of the answers.
 -- Connections come after all else, each only once. The certificate names the longest path, and the
 -- code has as many instructions as the text counts.
-pub record Means (c : Scope) (from : Option Identifier) (q : Piece) (d : DraftPiece) : Type 0 where
+pub record MeansPiece (c : Scope) (from : Option Identifier) (q : Piece) (d : DraftPiece) :
+    Type 0 where
   pub run_is_act : (x : code_input.Input) → IsSentTo c from x.sender → run d.code x ≡ Act c q x
   pub code : IsCodeOf c q d.code
   pub certificate : IsLongestOf c q d.certificate
@@ -40,7 +41,7 @@ pub record Means (c : Scope) (from : Option Identifier) (q : Piece) (d : DraftPi
 -- An input waits for its signal or timer, and its piece means its transition.
 pub record MatchesInput (c : Scope) (i : Input) (d : DraftInput) : Type 0 where
   pub trigger : d.trigger ≡ trigger_of c i.stimulus.name
-  pub means : Means c (Some i.stimulus.name) (input_piece i) d.piece
+  pub means : MeansPiece c (Some i.stimulus.name) (input_piece i) d.piece
 
 abbrev pub MatchesInputs : Scope → List Input → DraftState → Type 0
 MatchesInputs c is d = AllZip (MatchesInput c) is d.inputs
@@ -59,7 +60,7 @@ pub record MatchesProcess (b : PlainBlock) (p : PlainProcess) (d : DraftProcess)
   pub instances : d.instances ≡ p.instances
   pub variables : d.variables ≡ drafted_variables p
   pub timers : d.timers ≡ map (λ id. id.name) (timers_of p)
-  pub start : Means (scope_of b p) None (start_piece p) d.start
+  pub start : MeansPiece (scope_of b p) None (start_piece p) d.start
   pub states : AllZip IsNamedAs (states_of p) d.states
   pub saves : AllZip (SavesAll (scope_of b p)) (saves_by_state p) d.states
   pub inputs : AllZip (MatchesInputs (scope_of b p)) (inputs_by_state p) d.states

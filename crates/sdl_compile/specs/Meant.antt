@@ -48,7 +48,7 @@ pub record IsCertifiedAs (b : PlainBlock) (d : Draft) : Type 0 where
 -- The draft is that of the block. It has its names and numbers. On each input that fits, the run of
 -- each transition has the result that the transition at the same place of the block means. Each
 -- certificate names the longest path.
-pub record IsSetOf (b : PlainBlock) (d : Draft) : Type 0 where
+pub record IsSetOfBlock (b : PlainBlock) (d : Draft) : Type 0 where
   pub matches : MatchesBlock b d
   pub runs : RunsAsMeant b d
   pub means : Means (meaning_of b) d
@@ -56,4 +56,4 @@ pub record IsSetOf (b : PlainBlock) (d : Draft) : Type 0 where
 
 -- A draft that matches a sound block is its draft in each way.
 abbrev pub SetLaw : Type 0
-SetLaw = (b : PlainBlock) (d : Draft) → Sound b → MatchesBlock b d → IsSetOf b d
+SetLaw = (b : PlainBlock) (d : Draft) → Sound b → MatchesBlock b d → IsSetOfBlock b d

@@ -6,7 +6,7 @@ ghost use Rattle.sdl_emit.specs.Bodies.{IsBody};
 ghost use Rattle.sdl_emit.specs.Scopes.{scope_in, piece_in};
 ghost use Rattle.sdl_meaning.specs.Named.{AnswersAll};
 ghost use Rattle.sdl_sound.specs.Longest.{places_cost};
-ghost use Rattle.sdl_compile.specs.Drafts.{Means};
+ghost use Rattle.sdl_compile.specs.Drafts.{MeansPiece};
 ghost use Rattle.sdl_compile.specs.Made.{IsPieceOf};
 ghost use Rattle.sdl_compile.specs.Settings.{IsSetting, IsReadyPiece, count_from, effects_from};
 ghost use Rattle.plain_laws.specs.Limits.{MOST_PARAMETERS};
@@ -116,7 +116,7 @@ pub fn compile_transition(
     requires body { IsBody body.now }
     requires setting { IsSetting setting.now }
     requires ready { IsReadyPiece (scope_in setting.now.names.now) (piece_in places.now body.now.whole.now) setting.now.parameters.now }
-    ensures means { IfOk result (λ d. (from : Option tree_identifier.Identifier) → AnswersAll (scope_in setting.now.names.now) from (text_of body.now.whole.now) → Means (scope_in setting.now.names.now) from (piece_in places.now body.now.whole.now) d) }
+    ensures means { IfOk result (λ d. (from : Option tree_identifier.Identifier) → AnswersAll (scope_in setting.now.names.now) from (text_of body.now.whole.now) → MeansPiece (scope_in setting.now.names.now) from (piece_in places.now body.now.whole.now) d) }
     ensures made { IfOk result (λ d. IsPieceOf (scope_in setting.now.names.now) setting.now.parameters.now setting.now.entry (piece_in places.now body.now.whole.now) d) }
 {
     let piece = make_piece(alloc, setting, places, body)?;

@@ -14,7 +14,7 @@ ghost use Rattle.sdl_meaning.specs.Declarations.{drafted_signals};
 ghost use Rattle.turn_code.specs.Sets.{initial_set};
 ghost use Rattle.sdl_sound.specs.Longest.{start_piece};
 ghost use Rattle.sdl_compile.specs.Made.{IsPieceOf};
-ghost use Rattle.sdl_compile.specs.Drafts.{IsReadyProcess, Means, MatchesProcess, IsProcessOf, AllReady, AllTriggers, IsNamedAs, SavesAll, AreInputsOf, sets_of};
+ghost use Rattle.sdl_compile.specs.Drafts.{IsReadyProcess, MeansPiece, MatchesProcess, IsProcessOf, AllReady, AllTriggers, IsNamedAs, SavesAll, AreInputsOf, sets_of};
 ghost use Rattle.plain_laws.specs.Limits.{MOST_PROCESSES};
 
 use crate::piece::compile_transition;
@@ -43,7 +43,7 @@ fn compile_timers(alloc: Global, table: &NameTable) -> Result<Vec<Name>, AllocEr
 fn compile_start(alloc: Global, context: &Context) -> Result<DraftPiece, AllocError>
     requires ready { IsReadyProcess (scope_in context.now.names.now) }
     requires context { IsContext context.now }
-    ensures means { IfOk result (λ d. Means (scope_in context.now.names.now) None (start_piece (process_of context.now.names.now.process.now)) d) }
+    ensures means { IfOk result (λ d. MeansPiece (scope_in context.now.names.now) None (start_piece (process_of context.now.names.now.process.now)) d) }
     ensures made { IfOk result (λ d. IsPieceOf (scope_in context.now.names.now) [] (initial_set context.now.variables.now) (start_piece (process_of context.now.names.now.process.now)) d) }
 {
     let process = context.names.process.process();

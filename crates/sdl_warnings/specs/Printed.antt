@@ -6,7 +6,8 @@ use Rattle.sdl_warnings.specs.declared.warning.Kind.TheVariants.{UntakenTimer, U
 use Rattle.sdl_warnings.specs.declared.warning.Kind.TheVariants.{UnusedVariable, AssignedVariable}
 use Rattle.sdl_warnings.specs.declared.warning.Kind.TheVariants.{UnroutedSignal, UntakenSignal}
 use Rattle.sdl_warnings.specs.declared.warning.Kind.TheVariants.{VainSave, SpentAnswer}
-use Rattle.sdl_warnings.specs.declared.warning.Kind.TheVariants.{FixedDecision, UnreachedConnection}
+use Rattle.sdl_warnings.specs.declared.warning.Kind.TheVariants.{FixedDecision, UnusedSynonym}
+use Rattle.sdl_warnings.specs.declared.warning.Kind.TheVariants.{UnreachedConnection}
 
 -- the code and the name of a kind
 abbrev pub kind_name : Kind → List ℕ
@@ -21,6 +22,7 @@ kind_name (UntakenSignal signal process) = codes "A5 StraySignal"
 kind_name (VainSave signal state) = codes "A6 VainSave"
 kind_name SpentAnswer = codes "A7 SpentAnswer"
 kind_name FixedDecision = codes "A8 FixedDecision"
+kind_name (UnusedSynonym synonym) = codes "A9 UnusedSynonym"
 kind_name (UnreachedConnection connection) = codes "A10 UnreachedConnection"
 
 -- the sentence
@@ -37,5 +39,6 @@ kind_text (VainSave signal state) =
     codes "no way from " ++ state ++ codes " leads to a state that takes " ++ signal
 kind_text SpentAnswer = codes "earlier answers take each of its values"
 kind_text FixedDecision = codes "the question is a constant"
+kind_text (UnusedSynonym synonym) = codes "nothing uses " ++ synonym
 kind_text (UnreachedConnection connection) =
     codes "no JOIN of a transition leads to " ++ connection

@@ -1,30 +1,36 @@
 -- The warnings of a text: for each kind a list, with a warning for each place where its condition
 -- holds.
 use Rattle.std.specs.Prelude.{ℕ, Bool, true, false, not, ◌&&◌, ◌||◌, List, [], ◌∷◌, ◌++◌}
-use Rattle.std.specs.Prelude.{Option, None, Some, if◌then◌else◌, find, slice_get}
+use Rattle.std.specs.Prelude.{Option, None, Some, if◌then◌else◌, find, slice_get, codes}
 use Rattle.std.specs.List.{list_any, flat_map}
 use Rattle.std.specs.List.Sorted.{IsPermutation, IsNonDecreasingBy}
-use Rattle.std.specs.Option.{option_map_or}
+use Rattle.std.specs.Option.{option_map_or, option_to_list}
 use Rattle.sdl_ast.specs.declared.expression.Identifier.{Identifier}
 use Rattle.sdl_ast.specs.declared.tree.Party.{Party}
 use Rattle.sdl_ast.specs.declared.tree.Party.TheVariants.{Environment, Process}
 use Rattle.sdl_ast.specs.declared.tree.Destination.{Destination}
 use Rattle.sdl_ast.specs.declared.tree.Destination.TheVariants as address
+use Rattle.sdl_ast.specs.declared.tree.Constant.{Constant}
 use Rattle.sdl_ast.specs.declared.tree.Range.{Range}
+use Rattle.sdl_ast.specs.declared.tree.Range.TheVariants.{Value, Compared, Between}
 use Rattle.sdl_ast.specs.declared.tree.Join.{Join}
 use Rattle.sdl_ast.specs.Plain.{Tree, number, truth, variable, unary, binary}
 use Rattle.sdl_ast.specs.Plain.{PlainSending, PlainAction, task, output, set_timer, reset_timer}
 use Rattle.sdl_ast.specs.Plain.{Choice, nothing_else, otherwise, answer, PlainConnection}
 use Rattle.sdl_ast.specs.Plain.{PlainStimulus, PlainInput, PlainState, PlainProcess, PlainPath}
-use Rattle.sdl_ast.specs.Plain.{PlainSignal, PlainClause, PlainDeclaration, PlainBlock}
+use Rattle.sdl_ast.specs.Plain.{PlainSignal, PlainClause, PlainSynonym, PlainDeclaration}
+use Rattle.sdl_ast.specs.Plain.{PlainEntity, PlainBlock}
 use Rattle.sdl_tables.specs.Names.{same_name, is_in, number_of, signals_of, processes_of}
-use Rattle.sdl_tables.specs.Names.{variable_names, timers_of, states_of, input_parts, Input}
+use Rattle.sdl_tables.specs.Names.{Variable, variables_of, variable_names, timers_of, states_of}
+use Rattle.sdl_tables.specs.Names.{input_parts, Input}
 use Rattle.sdl_tables.specs.Names.{inputs_of, stimulus_of, clause_saves, part_triggers}
 use Rattle.sdl_tables.specs.Names.{timers_in}
 use Rattle.sdl_sound.specs.Names.{tree_names, place_names}
 use Rattle.sdl_sound.specs.Receivers.{party_of, paths_of, carries}
 use Rattle.sdl_sound.specs.Statements.{Statement, acts, asks, covers, finishes, joins_of}
 use Rattle.sdl_sound.specs.Joins.{comes}
+use Rattle.sdl_rules.specs.Expansion.{synonyms_in, synonyms_of, own_synonyms_in, own_synonyms_of}
+use Rattle.sdl_rules.specs.Expansion.{hiding_names}
 use Rattle.sdl_warnings.specs.Stated.{process_statements}
 use Rattle.sdl_warnings.specs.Ways.{state_numbers, is_entered, is_way}
 use Rattle.sdl_warnings.specs.Values.{is_spent}
@@ -35,7 +41,8 @@ use Rattle.sdl_warnings.specs.declared.warning.Kind.TheVariants.{UntakenTimer, U
 use Rattle.sdl_warnings.specs.declared.warning.Kind.TheVariants.{UnusedVariable, AssignedVariable}
 use Rattle.sdl_warnings.specs.declared.warning.Kind.TheVariants.{UnroutedSignal, UntakenSignal}
 use Rattle.sdl_warnings.specs.declared.warning.Kind.TheVariants.{VainSave, SpentAnswer}
-use Rattle.sdl_warnings.specs.declared.warning.Kind.TheVariants.{FixedDecision, UnreachedConnection}
+use Rattle.sdl_warnings.specs.declared.warning.Kind.TheVariants.{FixedDecision, UnusedSynonym}
+use Rattle.sdl_warnings.specs.declared.warning.Kind.TheVariants.{UnreachedConnection}
 
 -- a warning at a place
 abbrev pub warned : ℕ → Kind → List Warning
@@ -274,6 +281,74 @@ statement_warnings (finishes e) = []
 abbrev pub decision_warnings : PlainProcess → List Warning
 decision_warnings p = flat_map statement_warnings (process_statements p)
 
+-- ---- A9: a synonym that nothing uses. Values of synonyms, initial values, expressions and answers
+-- use names. In a process a name is that of its own variable or synonym if it declares one, else
+-- that of a synonym of the block. (Z.100, visibility.)
+
+-- a constant is the synonym with a name
+abbrev pub is_named : List ℕ → Constant → Bool
+is_named x c = is_in (option_to_list c.synonym) x
+
+abbrev pub range_names : List ℕ → Range → Bool
+range_names x (Value c) = is_named x c
+range_names x (Compared at r c) = is_named x c
+range_names x (Between low high) = is_named x low || is_named x high
+
+-- a value of an answer is it
+abbrev pub answers_name : List ℕ → Statement → Bool
+answers_name x (acts a) = false
+answers_name x (asks at q c) = false
+answers_name x (covers q ranges) = list_any (range_names x) ranges
+answers_name x (finishes e) = false
+
+-- it is the initial value of a variable
+abbrev pub is_initial : List ℕ → Variable → Bool
+is_initial x v = option_map_or (is_named x) v.initial false
+
+-- the value of a synonym names it
+abbrev pub value_names : List ℕ → PlainSynonym → Bool
+value_names x d = reads_in x d.value
+
+-- a process has a use of a name
+abbrev pub has_use : PlainProcess → List ℕ → Bool
+has_use p x =
+    (list_any (value_names x) (own_synonyms_of p) || list_any (is_initial x) (variables_of p))
+    || (is_read p x || list_any (answers_name x) (process_statements p))
+
+-- a process uses the synonym of its block with a name
+abbrev pub uses_outer : List ℕ → PlainProcess → Bool
+uses_outer x p = not (is_in (hiding_names p) x) && has_use p x
+
+abbrev pub is_used : PlainBlock → List ℕ → Bool
+is_used b x =
+    list_any (value_names x) (synonyms_of b) || list_any (uses_outer x) (processes_of b)
+
+-- N1 and N2 of a block are limits of the terminal, without a use in the text (Q.703, 6.4)
+abbrev pub is_limit : List ℕ → Bool
+is_limit x = same_name x (codes "N1") || same_name x (codes "N2")
+
+abbrev pub unused_synonym : PlainBlock → PlainSynonym → List Warning
+unused_synonym b d =
+    unless (is_limit d.name.name || is_used b d.name.name)
+    (warned d.name.at (UnusedSynonym d.name.name))
+
+abbrev pub unused_in_entity : PlainBlock → PlainEntity → List Warning
+unused_in_entity b e = flat_map (unused_synonym b) (synonyms_in e)
+
+abbrev pub unused_own : PlainProcess → PlainSynonym → List Warning
+unused_own p d = unless (has_use p d.name.name) (warned d.name.at (UnusedSynonym d.name.name))
+
+abbrev pub unused_in_declaration : PlainProcess → PlainDeclaration → List Warning
+unused_in_declaration p d = flat_map (unused_own p) (own_synonyms_in d)
+
+abbrev pub unused_in_process : PlainProcess → List Warning
+unused_in_process p = flat_map (unused_in_declaration p) p.declarations
+
+-- the synonyms of a block as it is written
+abbrev pub unused_synonyms : PlainBlock → List Warning
+unused_synonyms b =
+    flat_map (unused_in_entity b) b.entities ++ flat_map unused_in_process (processes_of b)
+
 -- ---- A10: a connection to which no JOIN leads from START or an INPUT, through others too
 
 abbrev pub outer_joins : PlainProcess → List Join
@@ -301,7 +376,12 @@ block_warnings b =
     unrouted_signals b
     ++ (untaken_signals b ++ flat_map (process_warnings b) (processes_of b))
 
--- these are the warnings of a block, each once, in the order of the text
-pub record AreWarnings (b : PlainBlock) (found : List Warning) : Type 0 where
-  pub all : IsPermutation (block_warnings b) found
+-- the warnings of a text that reads as a block and means another one, with values in place of its
+-- synonyms
+abbrev pub text_warnings : PlainBlock → PlainBlock → List Warning
+text_warnings written meant = block_warnings meant ++ unused_synonyms written
+
+-- these are the warnings of such a text, each once, in the order of the text
+pub record AreWarnings (written meant : PlainBlock) (found : List Warning) : Type 0 where
+  pub all : IsPermutation (text_warnings written meant) found
   pub ordered : IsNonDecreasingBy (λ (w : Warning). w.at) found

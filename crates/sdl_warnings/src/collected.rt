@@ -3,7 +3,7 @@ ghost use Rattle.std.specs.Prelude.{◌≡◌, ◌++◌, map, IfOk, OnOk};
 ghost use Rattle.std.specs.List.{flat_map};
 ghost use Rattle.sdl_ast.specs.Views.{process_of, block_of};
 ghost use Rattle.sdl_tables.specs.Names.{processes_of};
-ghost use Rattle.sdl_warnings.specs.Warned.{unreached_states, vain_saves, unsent_inputs, idle_timers, unread_variables, decision_warnings, unreached_connections, process_warnings, block_warnings, AreWarnings};
+ghost use Rattle.sdl_warnings.specs.Warned.{unreached_states, vain_saves, unsent_inputs, idle_timers, unread_variables, decision_warnings, unreached_connections, process_warnings, block_warnings, unused_synonyms, text_warnings, AreWarnings};
 
 use crate::connections::push_connections;
 use crate::decisions::push_decisions;
@@ -11,6 +11,7 @@ use crate::saves::{Standing, push_saves};
 use crate::sendings::push_inputs;
 use crate::signals::{push_routes, push_signals};
 use crate::states::push_states;
+use crate::synonyms::push_synonyms;
 use crate::timers::push_timers;
 use crate::told::{Told, tell_all};
 use crate::variables::push_variables;
@@ -99,27 +100,56 @@ fn push_processes(
     Ok(())
 }
 
-/// The warnings of a block, kind by kind.
-fn collect(alloc: Global, block: &BlockTable) -> Result<Vec<Warning>, AllocError>
-    ensures { IfOk result (λ v. v.items ≡ block_warnings (block_of block.now)) }
+/// Appends the warnings of a block, kind by kind.
+fn push_block(alloc: Global, found: &mut Vec<Warning>, block: &BlockTable) -> Result<(), AllocError>
+    ensures { OnOk result (found.new.items ≡ found.old.items ++ block_warnings (block_of block.now)) }
+{
+    let all = tell_all(alloc, block)?;
+    push_signals(found, block, block.rows())?;
+    push_routes(found, block, block.routes())?;
+    push_processes(alloc, found, block, &all)
+}
+
+/// Appends the warnings of the synonyms of a block as it is written.
+fn push_unused(
+    alloc: Global,
+    found: &mut Vec<Warning>,
+    written: &BlockTable,
+) -> Result<(), AllocError>
+    ensures { OnOk result (found.new.items ≡ found.old.items ++ unused_synonyms (block_of written.now)) }
+{
+    let all = tell_all(alloc, written)?;
+    push_synonyms(found, written, &all)
+}
+
+/// The warnings of a text that reads as a block and means another one.
+fn collect(
+    alloc: Global,
+    written: &BlockTable,
+    meant: &BlockTable,
+) -> Result<Vec<Warning>, AllocError>
+    ensures { IfOk result (λ v. v.items ≡ text_warnings (block_of written.now) (block_of meant.now)) }
 {
     let mut found = Vec::new(alloc);
-    let all = tell_all(alloc, block)?;
-    push_signals(&mut found, block, block.rows())?;
-    push_routes(&mut found, block, block.routes())?;
-    push_processes(alloc, &mut found, block, &all)?;
+    push_block(alloc, &mut found, meant)?;
+    push_unused(alloc, &mut found, written)?;
     Ok(found)
 }
 
-/// The warnings of a block, each once, in the order of the text. The block need not be sound.
+/// The warnings of a text that reads as a block and means another one, with values in place of its synonyms: each once,
+/// in the order of the text. The blocks need not be sound.
 ///
 /// # Errors
 ///
 /// When memory runs out.
-pub fn warnings(alloc: Global, block: &BlockTable) -> Result<Vec<Warning>, AllocError>
-    ensures { IfOk result (λ v. AreWarnings (block_of block.now) v.items) }
+pub fn warnings(
+    alloc: Global,
+    written: &BlockTable,
+    meant: &BlockTable,
+) -> Result<Vec<Warning>, AllocError>
+    ensures { IfOk result (λ v. AreWarnings (block_of written.now) (block_of meant.now) v.items) }
 {
-    let mut found = collect(alloc, block)?;
+    let mut found = collect(alloc, written, meant)?;
     found.sort_by_key(|warning| warning.at)?;
     Ok(found)
 }

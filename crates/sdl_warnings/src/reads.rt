@@ -17,8 +17,8 @@ pub(crate) fn same_name(one: Name, other: Name) -> bool
     one.folded() == other.folded()
 }
 
-/// Whether an expression has this variable.
-fn reads_in(expression: &Expression, name: Name) -> bool
+/// Whether an expression has this variable or synonym.
+pub(crate) fn reads_in(expression: &Expression, name: Name) -> bool
     ensures { result ≡ reads_in name (tree_of expression.now) }
 {
     match expression {

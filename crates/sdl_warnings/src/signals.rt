@@ -15,7 +15,7 @@ use sdl_tables::{BlockTable, ProcessTable};
 use std::alloc::AllocError;
 
 /// Whether a name is one of these.
-fn has_name(ids: &[Identifier], name: Name) -> bool
+pub(crate) fn has_name(ids: &[Identifier], name: Name) -> bool
     ensures { result ≡ is_in ids.now name }
 {
     let mut any = false;

@@ -32,6 +32,8 @@ pub enum Kind {
     SpentAnswer,
     /// A8: the question has no variable.
     FixedDecision,
+    /// A9: nothing uses this synonym.
+    UnusedSynonym(Name),
     /// A10: no JOIN leads from START or an INPUT to this connection.
     UnreachedConnection(Name),
 }
@@ -75,6 +77,7 @@ impl Kind {
             Kind::VainSave(_, _) => "A6 VainSave",
             Kind::SpentAnswer => "A7 SpentAnswer",
             Kind::FixedDecision => "A8 FixedDecision",
+            Kind::UnusedSynonym(_) => "A9 UnusedSynonym",
             Kind::UnreachedConnection(_) => "A10 UnreachedConnection",
         }
     }
@@ -108,6 +111,7 @@ impl fmt::Display for Kind {
             }
             Kind::SpentAnswer => f.write_str("earlier answers take each of its values"),
             Kind::FixedDecision => f.write_str("the question is a constant"),
+            Kind::UnusedSynonym(synonym) => write!(f, "nothing uses {synonym}"),
             Kind::UnreachedConnection(connection) => {
                 write!(f, "no JOIN of a transition leads to {connection}")
             }

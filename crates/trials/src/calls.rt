@@ -3,7 +3,7 @@ ghost use Rattle.std.specs.Prelude.{◌≤◌, length};
 
 use link_processes::Command;
 use link_transceiver::Report;
-use link_whole::{CallError, NewError, OpenError, Terminal, new_terminal};
+use link_whole::{CallError, NewError, NewInMode, OpenError, Terminal};
 use resend_store::{Mode, Msu};
 use std::alloc::{AllocError, Global};
 
@@ -36,7 +36,7 @@ fn why_stopped(error: CallError) -> Stopped {
 
 /// A new terminal.
 pub fn terminal(alloc: Global, mode: Mode) -> Result<Terminal, Stopped> {
-    match new_terminal(alloc, mode) {
+    match Terminal::new(alloc, mode) {
         Ok(terminal) => Ok(terminal),
         Err(error) => Err(why_not_made(&error)),
     }

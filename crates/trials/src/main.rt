@@ -26,8 +26,8 @@
 //!   the client's steps, and for a long trial a number of minutes in place of the steps. Then comes the text of a set,
 //!   or `standard`. Shows whether the seats agree with the journals; with minutes also the calls and the refusals.
 //!   `bench/soak` uses that.
-//! - `events`: events on a link of a text ([`events`]), through `run_text` of `link_whole`; after a line `rebase`
-//!   its book goes on. Shows the answer to each.
+//! - `events`: events and rebases on a link of a text ([`events`]), through `run_text` of `link_whole`. Shows the answer
+//!   to each event.
 //! - `ports`: a port in each line ([`ports`]), compared with a plain one, a vector, through many calls by a seeded
 //!   generator. Shows how often there was no room, how often an item was taken after saved ones, and in how many calls
 //!   the two differed.

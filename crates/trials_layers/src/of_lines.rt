@@ -39,6 +39,28 @@ fn known_stuffing(rt: HostRuntime) {
     assert_eq!(rt; stuffed(), Some((0, true, 6)));
 }
 
+/// The index of the first octet of a fresh stuffer that isn't as wanted, and the bits that stay with it.
+fn first_other_stuffed() -> Option<(Option<usize>, (u8, u8))> {
+    let mut stuffer = Stuffer::new();
+    let unit = first_fisu();
+    if !unit.whole() {
+        return None;
+    }
+    let line = stuffer.put(&unit);
+    for (place, octet) in STUFFED.iter().enumerate() {
+        if line.as_slice().get(place) != Some(octet) {
+            return Some((Some(place), stuffer.rest()));
+        }
+    }
+    Some((None, stuffer.rest()))
+}
+
+/// The six bits that stay are the last ones of the closing flag: five 1s and a 0.
+#[test]
+fn a_fresh_stuffer_octet_by_octet(rt: HostRuntime) {
+    assert_eq!(rt; first_other_stuffed(), Some((None, (0x1f, 6))));
+}
+
 /// An event: the FISU, an errored unit, or 16 octets in counting mode.
 #[derive(Clone, Copy, PartialEq, Eq, Debug)]
 enum Told {
@@ -124,8 +146,26 @@ fn first_other_octet() -> Option<usize> {
 }
 
 #[test]
-fn known_events_by_octet(rt: HostRuntime) {
+fn a_fresh_deframer_octet_by_octet(rt: HostRuntime) {
     assert_eq!(rt; first_other_octet(), None);
+}
+
+/// The index of the first octet before which a fresh deframer doesn't count octets though no unit came, or does though
+/// one came.
+fn first_other_mode() -> Option<usize> {
+    let mut deframer = Deframer::new();
+    for (place, octet) in LINE.iter().enumerate() {
+        if deframer.is_counting() != (place < 8) {
+            return Some(place);
+        }
+        let _events = deframer.feed_byte(*octet);
+    }
+    None
+}
+
+#[test]
+fn a_fresh_deframer_counts_octets_until_its_first_unit(rt: HostRuntime) {
+    assert_eq!(rt; first_other_mode(), None);
 }
 
 /// The events for these octets at the start of a line.

@@ -100,6 +100,13 @@ const APART: [Step; 7] = [
     Step::Looked(3),
 ];
 
+/// After the most ticks of a call, it still waits.
+const FARTHEST: [Step; 3] = [
+    Step::Set((0, 0), 2_147_483_647),
+    Step::Passes(65_535, &[], 65_535),
+    Step::Waits((0, 0), Some(2_147_483_647)),
+];
+
 /// Ordered by deadline, then process, then number.
 const IN_ORDER: [Step; 8] = [
     Step::Set((2, 1), 9),
@@ -167,10 +174,26 @@ fn first_other_of_new(alloc: Global, steps: &[Step]) -> Option<usize> {
     }
 }
 
+/// Deadlines 256 and 512: nothing is due after 255 ticks, the first after one more, the second after 256 more.
+#[test]
+fn deadlines_in_one_slot_are_each_due_once(rt: HostRuntime) {
+    assert_eq!(rt; first_other_of_new(rt.alloc(), &ONCE), None);
+}
+
+/// Deadlines 1 and 257.
+#[test]
+fn a_turn_apart_only_the_first_is_due(rt: HostRuntime) {
+    assert_eq!(rt; first_other_of_new(rt.alloc(), &APART), None);
+}
+
+/// Deadline 2,147,483,647, the greatest that a text can ask for at clock 0.
+#[test]
+fn the_farthest_deadline_is_not_due_after_the_longest_wait(rt: HostRuntime) {
+    assert_eq!(rt; first_other_of_new(rt.alloc(), &FARTHEST), None);
+}
+
 #[test]
 fn timers_are_due_in_order(rt: HostRuntime) {
-    assert_eq!(rt; first_other_of_new(rt.alloc(), &ONCE), None);
-    assert_eq!(rt; first_other_of_new(rt.alloc(), &APART), None);
     assert_eq!(rt; first_other_of_new(rt.alloc(), &IN_ORDER), None);
     assert_eq!(rt; first_other_of_new(rt.alloc(), &AGAIN), None);
 }

@@ -66,13 +66,7 @@ fn tells<R: Read + Drop>(alloc: Global, reader: R, failing: u32, told: Told) -> 
         calls: 0,
         failing,
     };
-    let status = check(
-        alloc,
-        SetWord::Text(reader),
-        "text",
-        &mut paper,
-        &mut io::sink(),
-    );
+    let status = check(alloc, SetWord::Text(reader), &mut paper);
     paper.text.as_slice() == told.0 && status == told.1
 }
 
@@ -115,13 +109,7 @@ fn tells_in_room(alloc: Global, text: &[u8], room: usize, told: Told) -> bool {
         text: Vec::new(alloc),
         room,
     };
-    let status = check(
-        alloc,
-        SetWord::Text(text),
-        "text",
-        &mut scrap,
-        &mut io::sink(),
-    );
+    let status = check(alloc, SetWord::Text(text), &mut scrap);
     told.0.get(..room) == Some(scrap.text.as_slice()) && status == told.1
 }
 
@@ -155,13 +143,7 @@ fn ends_early(alloc: Global, text: &[u8]) -> bool {
         calls: 0,
         failing: 0,
     };
-    let status = check(
-        alloc,
-        SetWord::Text(text),
-        "text",
-        &mut paper,
-        &mut io::sink(),
-    );
+    let status = check(alloc, SetWord::Text(text), &mut paper);
     paper.text.starts_with(b"refused P1 Unexpected line ") && status == 2
 }
 

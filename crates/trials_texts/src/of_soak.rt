@@ -6,8 +6,7 @@ use pool_soak::{Open, Soak, soak, soak_script, soaked};
 use std::alloc::{AllocError, Global};
 use std::sync::Wait;
 use std::sync::ledger::Ledger;
-use std::thread::Threads;
-use std::{io, thread};
+use std::thread::{self, Threads};
 use turn_check::Verified;
 use turn_code::{Place, ProcessNumber, SignalNumber, Value};
 use turn_pool::{Client, Closed, Pool, Receipt, Seat, serve};
@@ -81,7 +80,7 @@ fn is_as_wanted<R: Threads + Wait + Sync>(
     row: (&[u8], usize, u8, &[u8]),
 ) -> bool {
     let mut paper = Vec::new(alloc);
-    let status = soak(rt, alloc, row.0, row.1, &mut paper, &mut io::sink());
+    let status = soak(rt, alloc, row.0, row.1, &mut paper);
     status == row.2 && paper.as_slice() == row.3
 }
 

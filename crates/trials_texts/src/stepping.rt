@@ -35,11 +35,8 @@ pub fn step_words(
                 return None;
             }
             let sorts = set.sorts(process);
-            let piece = Piece {
-                code: transition.piece.code.as_slice(),
-                sender: input.sender,
-                sorts: &sorts,
-            };
+            let _few = input.parameters.as_slice();
+            let piece = Piece::new(transition.piece.code.as_slice(), input.sender, &sorts);
             let mut words = words_with(input, values);
             let after = step_bare(&piece, place, &mut words);
             Some(Stepped { after, words })

@@ -217,3 +217,34 @@ HasWords (Set t) b = Takes 1 b
 HasWords (Reset t) b = Unit {0}
 HasWords (Next q) b = Unit {0}
 HasWords Stop b = Unit {0}
+
+-- ---- the part of these that speaks of operands
+abbrev pub HasOperandsFor : Instruction → Bare → Type 0
+HasOperandsFor (PutInt z) b = HasRoom b
+HasOperandsFor (PutBool t) b = HasRoom b
+HasOperandsFor (Load v) b = HasRoom b
+HasOperandsFor (Store v) b = Takes 1 b
+HasOperandsFor (Param j) b = HasRoom b
+HasOperandsFor Add b = Takes 2 b
+HasOperandsFor Sub b = Takes 2 b
+HasOperandsFor Mul b = Takes 2 b
+HasOperandsFor (Div z) b = Takes 1 b
+HasOperandsFor (Mod z) b = Takes 1 b
+HasOperandsFor (Rem z) b = Takes 1 b
+HasOperandsFor Neg b = Takes 1 b
+HasOperandsFor Not b = Takes 1 b
+HasOperandsFor And b = Takes 2 b
+HasOperandsFor Or b = Takes 2 b
+HasOperandsFor Xor b = Takes 2 b
+HasOperandsFor Same b = Takes 2 b
+HasOperandsFor (Compare r) b = Takes 2 b
+HasOperandsFor (Case r z p) b = Takes 1 b
+HasOperandsFor (CaseWithin p x y) b = Takes 1 b
+HasOperandsFor (Pick p q) b = Takes 1 b
+HasOperandsFor Drop b = Takes 1 b
+HasOperandsFor (Jump p) b = Unit {0}
+HasOperandsFor (Output n r c) b = Takes c b
+HasOperandsFor (Set t) b = Takes 1 b
+HasOperandsFor (Reset t) b = Unit {0}
+HasOperandsFor (Next q) b = Unit {0}
+HasOperandsFor Stop b = Unit {0}

@@ -9,6 +9,7 @@ pub mod Meant
 pub mod Operation
 pub mod Outcome
 pub mod Paths
+pub mod Pieces
 pub mod Routes
 pub mod Rules
 pub mod Run

@@ -19,11 +19,12 @@ use Rattle.turn_code.specs.declared.machine.End.{End}
 use Rattle.turn_code.specs.declared.draft.Cert.{Cert}
 use Rattle.turn_code.specs.declared.draft.Draft.{Draft}
 use Rattle.turn_code.specs.declared.draft.DraftSignal.{DraftSignal}
-use Rattle.turn_code.proofs.Lists.{zip_length}
+use Rattle.turn_code.proofs.Lists.{zip_length, map_length}
+use Rattle.turn_code.proofs.Stepping.{ready}
 use Rattle.turn_code.proofs.SafeRuns.{code_at, stands_at_start}
 use Rattle.turn_code.proofs.RightEffects.{EffectsAre, act_keeps, adds}
 use Rattle.turn_code.proofs.Ran.{step_count}
-use Rattle.turn_code.specs.declared.piece.Piece.{Piece}
+use Rattle.turn_code.specs.Pieces.{PlainPiece, IsOfTransition, CanStep}
 use Rattle.turn_code.specs.declared.sorts.Sorts.{Sorts}
 use Rattle.turn_code.specs.declared.words.Words.{Words}
 use Rattle.turn_code.specs.declared.after.BareAfter.{BareAfter}
@@ -33,7 +34,7 @@ use Rattle.turn_code.specs.declared.after.Next.TheVariants.{Goes, Ends}
 use Rattle.turn_code.specs.Bare.{bare_of}
 use Rattle.turn_code.specs.Meant.{AreWordsOf, IsEffectOf, Grow}
 use Rattle.turn_code.specs.Sorts.{AreSortsOf, IsOfSorts, HasReceiver, sort_bits}
-use Rattle.turn_code.specs.Steps.{StandAt, Follows, IsStep}
+use Rattle.turn_code.specs.Steps.{Follows, IsStep}
 use Rattle.turn_machine.specs.Growing.{IsGrown, CanGrow}
 use Rattle.turn_machine.specs.Safety.{IsSafeWithin, IsUnderWay, HasEnded}
 use Rattle.turn_machine.proofs.Worded.{variables_told}
@@ -56,14 +57,14 @@ of_sorts d t s (effect.Output m) sorts right =
 of_sorts d t s (effect.Set n z) sorts right = tt
 of_sorts d t s (effect.Reset n) sorts right = tt
 
-grown : (d : Draft) (t : Transition) (p : Piece) (o : Option BareEffect) (old new : List Effect) → AreSortsOf d.signals t.process.variables p.sorts.now
+grown : (d : Draft) (t : Transition) (p : PlainPiece) (o : Option BareEffect) (old new : List Effect) → AreSortsOf d.signals t.process.variables p.sorts
     → AreRightEffects d t new → length new ≤ 32 → Grow p.sender o old new → IsGrown p o old new
 grown d t p None old new sorts right few g = g
 grown d t p (Some given) old new sorts right few g =
     let right' : AreRightEffects d t (old ++ g.0 ∷ []) = subst (λ (u : List Effect). AreRightEffects d t u) g.2 right in
     let long : length new ≡ length old + 1 = ap length g.2 ∙ length-append old (g.0 ∷ []) in
     let room : length old < 32 = omega arith in
-    (g.0, g.1, of_sorts d t p.sorts.now g.0 sorts (last_right d t old g.0 right'), room, g.2)
+    (g.0, g.1, of_sorts d t p.sorts g.0 sorts (last_right d t old g.0 right'), room, g.2)
 
 -- an effect in words has a receiver, if it represents an effect
 received : (from : Option Address) (given : BareEffect) (e : Effect) → IsEffectOf from given e → HasReceiver given from
@@ -73,28 +74,45 @@ received from (gives.Output n r c ws) (effect.Reset t) h = absurd h
 received from (gives.Set n z) e h = tt
 received from (gives.Reset n) e h = tt
 
-pub can_give : (p : Piece) (o : Option BareEffect) (given : BareEffect) (old : List Effect) → o ≡ Some given → CanGrow p o old → HasReceiver given p.sender
+pub can_give : (p : PlainPiece) (o : Option BareEffect) (given : BareEffect) (old : List Effect) → o ≡ Some given → CanGrow p o old → HasReceiver given p.sender
 can_give p o given old is can =
     let own : CanGrow p (Some given) old = subst (λ (u : Option BareEffect). CanGrow p u old) is can in
     received p.sender given own.1.0 own.1.1
 
-pub has_room : (p : Piece) (o : Option BareEffect) (given : BareEffect) (old : List Effect) → o ≡ Some given → CanGrow p o old → length old < 32
+pub has_room : (p : PlainPiece) (o : Option BareEffect) (given : BareEffect) (old : List Effect) → o ≡ Some given → CanGrow p o old → length old < 32
 has_room p o given old is can =
     let own : CanGrow p (Some given) old = subst (λ (u : Option BareEffect). CanGrow p u old) is can in
     own.1.3
 
-pub gave_one : (p : Piece) (o : Option BareEffect) (given : BareEffect) (old new es : List Effect) (r : Effect) → o ≡ Some given
-    → ((e : Effect) → IsEffectOf p.sender given e → IsOfSorts p.sorts.now e → r ≡ e) → new ≡ old ++ r ∷ [] → IsGrown p o old es → new ≡ es
+pub gave_one : (p : PlainPiece) (o : Option BareEffect) (given : BareEffect) (old new es : List Effect) (r : Effect) → o ≡ Some given
+    → ((e : Effect) → IsEffectOf p.sender given e → IsOfSorts p.sorts e → r ≡ e) → new ≡ old ++ r ∷ [] → IsGrown p o old es → new ≡ es
 gave_one p o given old new es r is one more h =
     let own : IsGrown p (Some given) old es = subst (λ (u : Option BareEffect). IsGrown p u old es) is h in
     more ∙ ap (λ (u : Effect). old ++ u ∷ []) (one own.0 own.1 own.2) ∙ sym own.4
+
+-- ---- the code that is run
+pub of_transition : (code : List Instruction) (x : Input) (s : Sorts) (c : Cert) → IsSafeWithin code x s c → length x.parameters.items ≤ 4
+    → IsOfTransition (record { code = code; sender = x.sender; sorts = s })
+of_transition code x s c h few =
+    let long : length x.parameters.items ≡ length h.transition.parameters = sym (map_length sort_of x.parameters.items) ∙ ap length h.fits.parameters in
+    record {
+      draft = h.draft;
+      transition = h.transition;
+      limits = h.limits;
+      variables = h.few;
+      parameters = omega arith;
+      valid = h.valid;
+      code = h.code_is;
+      sorts = h.sorts;
+      brought = h.fits.brought;
+    }
 
 -- ---- the whole run, from its beginning
 whole_is : (code : List Instruction) (x : Input) → exec code x 512 0 [] (begun x) ≡ run code x
 unfolding run
 whole_is code x = refl
 
-pub begun_so : (p : Piece) (x : Input) (c : Cert) (w : Words) (es : List Effect) → IsSafeWithin p.code.now x p.sorts.now c → p.sender ≡ x.sender
+pub begun_so : (p : PlainPiece) (x : Input) (c : Cert) (w : Words) (es : List Effect) → IsSafeWithin p.code x p.sorts c → p.sender ≡ x.sender
     → AreWordsOf (bare_of w) [] x.variables.items x.parameters.items → es ≡ [] → IsUnderWay p x c 0 0 w es
 begun_so p x c w es h from words none =
     let budget : h.transition.piece.certificate.budget ≡ c.budget = ap (λ (c : Cert). c.budget) h.certificate_is in
@@ -131,7 +149,7 @@ begun_so p x c w es h from words none =
 
 -- ---- after one instruction
 -- what is known after it
-pub record HasGone (p : Piece) (x : Input) (c : Cert) (taken : ℕ) (w : Words) (a : BareAfter) (es : List Effect) : Type 0 where
+pub record HasGone (p : PlainPiece) (x : Input) (c : Cert) (taken : ℕ) (w : Words) (a : BareAfter) (es : List Effect) : Type 0 where
   pub new : List Effect
   pub grows : IsGrown p a.effect es new
   pub onward : (j : ℕ) → a.next ≡ Goes j → IsUnderWay p x c (taken + 1) j w new
@@ -141,13 +159,13 @@ safe_few : (t : Transition) (x : Input) (left k : ℕ) (os : List Value) (s : Pr
 safe_few t x zero k os s h = absurd h
 safe_few t x (suc left) k os s h = h.1
 
-grown_here : (d : Draft) (t : Transition) (p : Piece) (x : Input) (o : Option BareEffect) (old new es : List Effect) → AreSortsOf d.signals t.process.variables p.sorts.now
+grown_here : (d : Draft) (t : Transition) (p : PlainPiece) (x : Input) (o : Option BareEffect) (old new es : List Effect) → AreSortsOf d.signals t.process.variables p.sorts
     → x.sender ≡ p.sender → AreRightEffects d t new → length new ≤ 32 → es ≡ old → Grow x.sender o old new → IsGrown p o es new
 grown_here d t p x o old new es sorts from right few same g =
     subst (λ (u : List Effect). IsGrown p o u new) (sym same) (
     grown d t p o old new sorts right few (subst (λ (u : Option Address). Grow u o old new) from g))
 
-module _ (p : Piece) (x : Input) (c : Cert) (taken k : ℕ) (w : Words) (es : List Effect) (h : IsUnderWay p x c taken k w es) where
+module _ (p : PlainPiece) (x : Input) (c : Cert) (taken k : ℕ) (w : Words) (es : List Effect) (h : IsUnderWay p x c taken k w es) where
   most_effects : h.transition.piece.certificate.effects ≤ 32
   most_effects = ((h.stand.valid.limit 0).piece refl).effects
 
@@ -202,7 +220,7 @@ module _ (p : Piece) (x : Input) (c : Cert) (taken k : ℕ) (w : Words) (es : Li
         count = omega arith;
         within = omega arith;
         few = omega arith;
-        variables = variables_told (bare_of w') h.transition.process.variables s.variables p.sorts.now.variables f.2.1.variables safe.variables h.stand.sorts.variables;
+        variables = variables_told (bare_of w') h.transition.process.variables s.variables p.sorts.variables f.2.1.variables safe.variables h.stand.sorts.variables;
         long = omega arith;
       } in
       record {
@@ -233,16 +251,9 @@ module _ (p : Piece) (x : Input) (c : Cert) (taken k : ℕ) (w : Words) (es : Li
   pub gone : (w' : Words) (a : BareAfter) → IsStep p k w a w' → HasGone p x c taken w' a es
   gone w' a is = gone_at w' a h.left h.fuel h.budget_is h.fuel_is h.less is h.safe h.same
 
-  -- the words represent values there
-  pub stands : StandAt p k w
-  stands = record {
-    draft = h.draft;
-    transition = h.transition;
-    input = x;
-    operands = h.operands;
-    progress = h.progress;
-    stand = h.stand;
-  }
+  -- the words have the operands for the instruction there
+  pub is_ready : CanStep p k w
+  is_ready = ready h.draft h.transition p k w x h.operands h.progress h.stand
 
   -- the effects can grow
   pub can_grow : (w' : Words) (a : BareAfter) → IsStep p k w a w' → CanGrow p a.effect es
@@ -261,7 +272,7 @@ module _ (p : Piece) (x : Input) (c : Cert) (taken k : ℕ) (w : Words) (es : Li
       subst (λ (u : List Effect). HasEnded p x c e w' u (taken + 1)) (sym (one g.new g.grows)) (g.over e next)
 
 -- a run that took its whole budget is over
-pub not_over : (p : Piece) (x : Input) (c : Cert) (k : ℕ) (w : Words) (es : List Effect) → IsUnderWay p x c c.budget k w es → ⊥
+pub not_over : (p : PlainPiece) (x : Input) (c : Cert) (k : ℕ) (w : Words) (es : List Effect) → IsUnderWay p x c c.budget k w es → ⊥
 not_over p x c k w es h = by h.left h.budget_is h.safe
   where
     by : (left : ℕ) → c.budget + left ≡ c.budget → IsSafe h.transition x left k h.operands h.progress → ⊥

@@ -15,7 +15,7 @@ use Rattle.turn_code.specs.declared.instruction.Instruction.{Instruction}
 use Rattle.turn_code.specs.declared.machine.End.{End}
 use Rattle.turn_code.specs.declared.draft.Cert.{Cert}
 use Rattle.turn_code.specs.declared.draft.Draft.{Draft}
-use Rattle.turn_code.specs.declared.piece.Piece.{Piece}
+use Rattle.turn_code.specs.Pieces.{PlainPiece}
 use Rattle.turn_code.specs.declared.sorts.Sorts.{Sorts}
 use Rattle.turn_code.specs.declared.words.Words.{Words}
 use Rattle.turn_code.specs.Bare.{bare_of}
@@ -40,7 +40,7 @@ pub record IsSafeWithin (code : List Instruction) (x : Input) (s : Sorts) (c : C
 
 -- a run at place k after `taken` instructions, whose rest ends as the whole run does: its words and
 -- effects are those of a run on values
-pub record IsUnderWay (p : Piece) (x : Input) (c : Cert) (taken k : ℕ) (w : Words)
+pub record IsUnderWay (p : PlainPiece) (x : Input) (c : Cert) (taken k : ℕ) (w : Words)
     (es : List Effect) : Type 0 where
   pub draft : Draft
   pub transition : Transition
@@ -62,13 +62,13 @@ pub record IsUnderWay (p : Piece) (x : Input) (c : Cert) (taken k : ℕ) (w : Wo
 
 -- a run that has ended with e: its effects and its count are those of the run on values, within the
 -- certificate, and the words represent its variables
-pub record HasEnded (p : Piece) (x : Input) (c : Cert) (e : End) (w : Words) (es : List Effect)
+pub record HasEnded (p : PlainPiece) (x : Input) (c : Cert) (e : End) (w : Words) (es : List Effect)
     (n : ℕ) : Type 0 where
   pub progress : Progress
-  pub ran : run p.code.now x ≡ ended e progress
+  pub ran : run p.code x ≡ ended e progress
   pub effects : es ≡ progress.effects
   pub count : n ≡ progress.count
   pub within : n ≤ c.budget
   pub few : length es ≤ c.effects
-  pub variables : AreVariables (bare_of w) p.sorts.now.variables progress.variables
+  pub variables : AreVariables (bare_of w) p.sorts.variables progress.variables
   pub long : length progress.variables ≡ length x.variables.items

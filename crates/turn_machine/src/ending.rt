@@ -71,11 +71,8 @@ pub(crate) fn run_code(
     ensures few { length machine.new.effects.items ≤ certificate.effects }
 {
     begin(machine);
-    let piece = Piece {
-        code,
-        sender: input.sender,
-        sorts,
-    };
+    let _few = input.parameters.as_slice();
+    let piece = Piece::new(code, input.sender, sorts);
     let mut words = words_of(input);
     let end = execute(&piece, input, certificate, &mut words, machine);
     let count = input.variables.len() as u8;

@@ -43,7 +43,7 @@ fn give(effects: &mut ArrayVec<Effect, 32>, given: Option<BareEffect>, piece: &P
 {
     match given {
         Some(given) => {
-            let effect = piece.sorts.effect(given, piece.sender);
+            let effect = piece.effect(given);
             effects.push(effect);
         }
         None => {}

@@ -20,7 +20,7 @@ use Rattle.sdl_compile.specs.Expansion.{expanded}
 use Rattle.sdl_compile.specs.Texts.{WellDeclared, SoundText, RefusesText}
 use Rattle.sdl_compile.specs.Blocks.{MatchesBlock}
 use Rattle.sdl_compile.specs.Meaning.{RunsAsMeant}
-use Rattle.sdl_compile.specs.Meant.{IsSetOf}
+use Rattle.sdl_compile.specs.Meant.{IsSetOfBlock}
 use Rattle.turn_verify.specs.Loaded.{Gives, IsWritten, IsRead, IsSoundText, IsLoaded, IsRefused}
 use Rattle.turn_verify.specs.declared.loading.LoadFault.{LoadFault}
 use Rattle.turn_verify.specs.declared.loading.LoadFault.TheVariants as loading

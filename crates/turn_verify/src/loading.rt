@@ -9,7 +9,7 @@ ghost use Rattle.sdl_compile.specs.Expansion.{expanded};
 ghost use Rattle.sdl_compile.specs.Texts.{IsExpansion, RefusesText, SoundText};
 ghost use Rattle.sdl_compile.specs.Blocks.{MatchesBlock};
 ghost use Rattle.sdl_compile.specs.Meaning.{RunsAsMeant};
-ghost use Rattle.sdl_compile.specs.Meant.{IsSetOf};
+ghost use Rattle.sdl_compile.specs.Meant.{IsSetOfBlock};
 ghost use Rattle.turn_verify.specs.Printed.{fault_text, place_text};
 ghost use Rattle.turn_verify.specs.Loaded.{IsLoaded, IsSoundText, IsWritten, IsRead, Gives, IsRefused, line_at, token_place, rule_place};
 
@@ -109,7 +109,7 @@ pub fn load(alloc: Global, text: &str) -> Result<Verified, LoadFault>
         → Gives result (MatchesBlock b) }
     // For each block that the text means, the result is the set of that block.
     ensures every { (ts : List lexeme.Token) (b : PlainBlock) → IsRead text.now ts b
-        → IfOk result (λ v. IsSetOf b v) }
+        → IfOk result (λ v. IsSetOfBlock b v) }
     // A refusal names a fault of the text, and its line.
     ensures refused { IfErr result (λ e. IsRefused text.now e) }
 {
@@ -160,7 +160,7 @@ fn set_of(alloc: Global, text: &str, block: &Block) -> Result<Verified, LoadFaul
     ensures sound { IfOk result (λ v. SoundText (block_of block.now)) }
     ensures matches { IfOk result (λ v. MatchesBlock (expanded (block_of block.now)) v) }
     ensures runs { IfOk result (λ v. RunsAsMeant (expanded (block_of block.now)) v) }
-    ensures set { IfOk result (λ v. IsSetOf (expanded (block_of block.now)) v) }
+    ensures set { IfOk result (λ v. IsSetOfBlock (expanded (block_of block.now)) v) }
     ensures exact { SoundText (block_of block.now) → Gives result (MatchesBlock (expanded (block_of block.now))) }
     ensures refused { IfErr result (λ e. (ts : List lexeme.Token) → IsWritten text.now ts (block_of block.now)
         → IsRefused text.now e) }
@@ -176,7 +176,7 @@ fn set_meant(alloc: Global, text: &str, expansion: &Expansion) -> Result<Verifie
     ensures sound { IfOk result (λ v. (b : PlainBlock) → IsExpansion b expansion.now → SoundText b) }
     ensures matches { IfOk result (λ v. (b : PlainBlock) → IsExpansion b expansion.now → MatchesBlock (expanded b) v) }
     ensures runs { IfOk result (λ v. (b : PlainBlock) → IsExpansion b expansion.now → RunsAsMeant (expanded b) v) }
-    ensures set { IfOk result (λ v. (b : PlainBlock) → IsExpansion b expansion.now → IsSetOf (expanded b) v) }
+    ensures set { IfOk result (λ v. (b : PlainBlock) → IsExpansion b expansion.now → IsSetOfBlock (expanded b) v) }
     ensures exact { (b : PlainBlock) → IsExpansion b expansion.now → SoundText b → Gives result (MatchesBlock (expanded b)) }
     ensures refused { IfErr result (λ e. (b : PlainBlock) (ts : List lexeme.Token) → IsExpansion b expansion.now
         → IsWritten text.now ts b → IsRefused text.now e) }
@@ -204,7 +204,7 @@ fn rule_refusal(text: &str, fault: RuleFault) -> LoadFault
 fn verified(alloc: Global, resolved: &Resolved) -> Result<Verified, LoadFault>
     ensures matches { IfOk result (λ v. MatchesBlock (block_of resolved.now) v) }
     ensures runs { IfOk result (λ v. RunsAsMeant (block_of resolved.now) v) }
-    ensures set { IfOk result (λ v. IsSetOf (block_of resolved.now) v) }
+    ensures set { IfOk result (λ v. IsSetOfBlock (block_of resolved.now) v) }
     ensures memory { IsOkUnless result LoadFault.NoMemory }
 {
     set_law();

@@ -13,6 +13,9 @@ ghost use Rattle.line_play.specs.SetMessages.{messages_in, TellMessages};
 ghost use Rattle.line_play.specs.SetPromised.{IsPromised};
 ghost use Rattle.line_play.specs.SetReported.{AreReported, NoneIsLeft};
 ghost use Rattle.line_play.specs.SetRounds.{SetPlace, Rounds};
+ghost use Rattle.line_play.specs.SetStanding.{RunsStand};
+
+use line_tending::messages_taken_in_a_life_stand;
 
 /// Every change of the link set in a run is made by its calls; `send` took the messages of the orders reported as ok,
 /// in order. If no report is left, the messages reported are those that its links handed out for level 3, in order.
@@ -57,9 +60,21 @@ pub fn each_message_is_reported_or_waits()
         → NoneIsLeft p.stood.tender → AreReported p.stood.tender q.stood.tender (sent_along run) p.reports q.reports bytes }
 {}
 
+/// The messages that the set took before a run, then those of the orders answered `ok` along it, and no others, are each
+/// in one place at its end, or have left, acknowledged or unsure: in order for each selection. The set counts the unsure
+/// ones.
+pub fn messages_of_a_run_stand()
+    ensures { RunsStand }
+{
+    messages_taken_in_a_life_stand();
+}
+
 /// All of this of a run from its first round on: how its orders were read and answered, which messages were taken and in
-/// which order, and how the messages that links delivered were reported. Before the run no report was left.
+/// which order and where they are, and how the messages that links delivered were reported. Before the run no report was
+/// left.
 pub fn a_run_keeps_its_promises()
     ensures { (ahead : ℕ) (tender : Tended) (left left_after : Option (List Timed)) (before after : Stand) (given_before given : Option (List Traffic))
         → RanFrom ahead tender left left_after before after given_before given → tender.reports ≡ [] → IsPromised tender left left_after before after }
-{}
+{
+    messages_taken_in_a_life_stand();
+}

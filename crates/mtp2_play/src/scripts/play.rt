@@ -10,7 +10,7 @@ use crate::text::sets::{STDIN, own_set, set_word};
 use mtp2_words::{Named, OwnSet, Seeing, Sight, Source};
 use plain_text::{NamedReader, Teller};
 use script_check::SetWord;
-use script_play::{Cut, RunSummary, Wanted, play, play_seen};
+use script_play::{Cut, RunSummary, Wanted, play_seen, play_telling};
 use std::alloc::Global;
 use std::fs;
 use std::io::{Read, Write};
@@ -49,11 +49,11 @@ fn play_on<H: Eprint, S: Read + Drop, T: Read + Drop, F: Write, W: Write>(
     let (echo, wanted) = (watch.echo, watch.wanted);
     let mut errors = teller.errors();
     if echo {
-        return play(alloc, set, name, script, echo, writer, &mut errors);
+        return play_telling(alloc, set, name, script, echo, writer, &mut errors);
     }
     match &mut watch.out {
         Some(out) => play_seen(alloc, set, name, script, wanted, out, writer, &mut errors),
-        None => play(alloc, set, name, script, echo, writer, &mut errors),
+        None => play_telling(alloc, set, name, script, echo, writer, &mut errors),
     }
 }
 

@@ -7,7 +7,7 @@ ghost use Rattle.mtp2_play.specs.Served.{AsksSoak, ComesTo};
 use crate::text::sets::STDIN;
 use mtp2_words::Source;
 use plain_text::{NamedReader, Teller};
-use pool_soak::soak;
+use pool_soak::soak_telling;
 use std::fs;
 use std::io::{self, Read, Write};
 use std::rt::Runtime;
@@ -26,7 +26,7 @@ fn soak_on<R: Runtime + AllocGlobal + Threads + Wait + Sync, H: Eprint, S: Read 
     ensures printed { IsServed workers result (W.contents writer.old) (W.contents writer.new) }
     ensures status { (result ≡ 0) ⊎ (result ≡ 1) ⊎ (result ≡ 2) ⊎ (result ≡ 4) }
 {
-    soak(
+    soak_telling(
         rt,
         rt.alloc(),
         script,

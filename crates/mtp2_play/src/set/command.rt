@@ -15,7 +15,7 @@ use crate::set::lines::SetLines;
 use crate::set::rounds::{run_on, since_1970};
 use crate::set::tap::SetTap;
 use crate::text::sets::{own_set, set_word};
-use line_play::{ChosenLimits, Ends, SetPlan, TendedSet, open_tender};
+use line_play::{ChosenLimits, Ends, SetPlan, TendedSet, messages_of_a_run_stand, open_tender};
 use line_streams::{
     Begin, OrderStream, ReportStream, keep_apart, open_orders, open_records, open_reports,
 };
@@ -259,6 +259,7 @@ fn run_text<H: Files<File = File> + Threads + Eprint + Clock + AllocGlobal, S: R
         return FAILED;
     };
     let name = set_word(named);
+    messages_of_a_run_stand();
     begin(host, teller, lines, end, &Origin { name, sum }, tender)
 }
 
@@ -281,6 +282,7 @@ fn run_own<H: Files<File = File> + Threads + Eprint + Clock + AllocGlobal>(
         return FAILED;
     };
     let name = set_word(named);
+    messages_of_a_run_stand();
     begin(host, teller, lines, end, &Origin { name, sum }, tender)
 }
 

@@ -10,7 +10,7 @@ use crate::text::sets::{STDIN, own_set, set_word};
 use crate::text::told::run_told;
 use mtp2_words::{Named, OwnSet, Warned};
 use plain_text::{DONE, FAILED, NamedReader, Teller};
-use script_check::{SetWord, check, in_front};
+use script_check::{SetWord, check_telling, in_front};
 use std::alloc::Global;
 use std::fs;
 use std::io::{self, Read, Write};
@@ -27,7 +27,7 @@ fn check_own<H: Eprint, W: Write>(
     ensures refusal { result ≡ 2 → IsGiven (Some (text_of own)) (PrintsRefusal (W.contents writer.old) (W.contents writer.new)) }
     ensures status { (result ≡ 0) ⊎ (result ≡ 2) ⊎ (result ≡ 4) }
 {
-    check(
+    check_telling(
         alloc,
         own_set(own),
         own.word(),
@@ -49,7 +49,7 @@ fn check_text<H: Eprint, S: Read + Drop, W: Write>(
     ensures refusal { result ≡ 2 → IsGiven None (PrintsRefusal (W.contents writer.old) (W.contents writer.new)) }
     ensures status { (result ≡ 0) ⊎ (result ≡ 2) ⊎ (result ≡ 4) }
 {
-    check(
+    check_telling(
         alloc,
         SetWord::Text(text),
         name,

@@ -13,7 +13,7 @@ use mtp2_words::{Named, Warned};
 use plain_text::{
     DONE, FAILED, MOST_BYTES, NamedReader, Teller, TextRead, line_at_limit, read_text,
 };
-use script_check::{Refusal, SetFault, SetWord, check, refuse_set};
+use script_check::{Refusal, SetFault, SetWord, check_telling, refuse_set};
 use script_point::{point_head, point_nowhere};
 use sdl_lex::LexFault;
 use std::alloc::{AllocError, Global};
@@ -63,7 +63,7 @@ fn check_told<H: Eprint, W: Write>(
     ensures { IsCheckedBytes (Some text.now) warned result (W.contents writer.old) (W.contents writer.new) }
 {
     let word = SetWord::Text(text.as_bytes());
-    let status = check(alloc, word, name, writer, &mut teller.errors());
+    let status = check_telling(alloc, word, name, writer, &mut teller.errors());
     if status == DONE {
         add_warnings(alloc, name, text, warned, told)
     } else {

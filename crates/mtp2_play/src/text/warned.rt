@@ -1,10 +1,11 @@
 //! The warnings of an accepted text, as lines that point at it.
-ghost use Rattle.std.specs.Prelude.{◌≡◌, ◌≤◌, ◌∷◌, [], Ok, IfOk, OnOk, IsTrue, IsFalse, length, string_bytes};
+ghost use Rattle.std.specs.Prelude.{◌≡◌, ◌≤◌, ◌++◌, ◌∷◌, [], Ok, IfOk, OnOk, IsTrue, IsFalse, length, string_bytes};
 ghost use Rattle.sdl_lex.specs.Lexed.{Answers};
 ghost use Rattle.sdl_tree.specs.Syntax.{Reads};
 ghost use Rattle.sdl_ast.specs.Views.{block_of};
 ghost use Rattle.script_point.specs.Pointing.{token_end};
-ghost use Rattle.mtp2_play.specs.Warned.{IsMeant, IsLong, IsShort, IsWarning, PointsWhole, AreTold, WarnsOf};
+ghost use Rattle.turn_verify.specs.Meanings.{meaning_of};
+ghost use Rattle.mtp2_play.specs.Warned.{IsLong, IsShort, IsWarning, PointsWhole, AreTold, WarnsOf};
 ghost use Rattle.sdl_warnings.specs.Printed.{kind_text};
 
 use script_point::{Notes, Word, line_begin, line_end, point, point_head};
@@ -83,7 +84,17 @@ fn point_at(
     point_whole(alloc, bytes, tokens, warning, said)
 }
 
-/// Appends a name and the lines that point at a warning.
+/// These lines after a name.
+fn named(alloc: Global, name: &str, lines: &[u8]) -> Result<Vec<u8>, AllocError>
+    ensures { IfOk result (λ v. v.items ≡ name.now ++ lines.now) }
+{
+    let mut all = Vec::new(alloc);
+    all.extend_from_slice(name.as_bytes())?;
+    all.extend_from_slice(lines)?;
+    Ok(all)
+}
+
+/// Appends a name and the lines that point at a warning. When memory runs out it appends nothing.
 fn push_warning(
     alloc: Global,
     told: &mut Vec<u8>,
@@ -95,8 +106,8 @@ fn push_warning(
     ensures { OnOk result (AreTold name.now text.now tokens.now (warning ∷ []) told.old.items told.new.items) }
 {
     let lines = point_at(alloc, text, tokens, warning)?;
-    told.extend_from_slice(name.as_bytes())?;
-    told.extend_from_slice(&lines)?;
+    let all = named(alloc, name, &lines)?;
+    told.extend_from_slice(&all)?;
     Ok(())
 }
 
@@ -118,28 +129,39 @@ fn push_all(
     Ok(())
 }
 
-/// Appends the lines of the warnings of the block that a text with these tokens means. Returns whether there is one.
-#[tactic(auto, using(crate::proofs::Warnings::block_warned))]
-fn push_of_table(
+/// Appends the lines of the warnings of a text with these tokens that reads as a block and means another one. Returns
+/// whether there is one.
+fn push_of_tables(
     alloc: Global,
     told: &mut Vec<u8>,
     name: &str,
     text: &str,
     tokens: &[Token],
-    table: &BlockTable,
+    written: &BlockTable,
+    meant: &BlockTable,
 ) -> Result<bool, AllocError>
     requires lexed { Answers text.now (Ok tokens.now) }
-    requires meant { IsMeant tokens.now (block_of table.now) }
+    requires reads { Reads tokens.now (block_of written.now) }
+    requires means { block_of meant.now ≡ meaning_of (block_of written.now) }
     ensures { IfOk result (λ some. WarnsOf name.now text.now told.old.items told.new.items some) }
 {
-    let found = warnings(alloc, table)?;
+    let found = warnings(alloc, written, meant)?;
     push_all(alloc, told, name, text, tokens, &found)?;
     let none = found.as_slice().is_empty();
     Ok(!none)
 }
 
-/// Appends the lines of the warnings of a text with these tokens that reads as this block: of the block with values in
-/// place of its synonyms. Returns whether there is one.
+/// A block with its tables, or `AllocError` if a name is a duplicate.
+fn table_of<'a>(alloc: Global, block: &'a Block) -> Result<BlockTable<'a>, AllocError>
+    ensures { IfOk result (λ t. t ≡ block.now) }
+{
+    match BlockTable::new(alloc, block) {
+        Ok(table) => Ok(table),
+        Err(_) => Err(AllocError),
+    }
+}
+
+/// Appends the lines of the warnings of a text with these tokens that reads as this block. Returns whether there is one.
 fn push_of_block(
     alloc: Global,
     told: &mut Vec<u8>,
@@ -152,11 +174,10 @@ fn push_of_block(
     requires reads { Reads tokens.now (block_of block.now) }
     ensures { IfOk result (λ some. WarnsOf name.now text.now told.old.items told.new.items some) }
 {
-    let meant = meaning(alloc, block)?;
-    match BlockTable::new(alloc, &meant) {
-        Ok(table) => push_of_table(alloc, told, name, text, tokens, &table),
-        Err(_) => Err(AllocError),
-    }
+    let meaning = meaning(alloc, block)?;
+    let written = table_of(alloc, block)?;
+    let meant = table_of(alloc, &meaning)?;
+    push_of_tables(alloc, told, name, text, tokens, &written, &meant)
 }
 
 /// Appends the lines of the warnings of an accepted text, each after the text's name. Returns whether there is one.

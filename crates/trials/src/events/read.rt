@@ -1,12 +1,12 @@
 //! Events as they are written: `offer ACTOR SIGNAL VALUE ..`, `begin ACTOR`, `skip ACTOR`, `finish ACTOR`, `tick N`,
-//! `env`. Actors and signals are numbers. A number before the word repeats the event. A trial's first line has the
-//! limits: of a port's signals, of the signals that wait for the environment, and of the journal's events.
+//! `env`, and the step `rebase`. Actors and signals are numbers. A number before the word repeats the step. A trial's
+//! first line has the limits: of a port's signals, of the signals that wait for the environment, and of the journal's events.
 
 use crate::calls::Stopped;
 use crate::run::number;
 use actor_book::{Limits, Offer};
 use arrayvec::ArrayVec;
-use link_whole::Event;
+use link_whole::{Event, Scheduled};
 use std::alloc::{AllocError, Global};
 use std::str::SplitWhitespace;
 use turn_code::{SignalNumber, Value};
@@ -89,35 +89,43 @@ fn event_of(word: &str, words: &mut SplitWhitespace<'_>) -> Option<Event> {
     }
 }
 
-/// The number of times that the event of a line happens, and the event.
-fn line_of(line: &str) -> Option<(u32, Event)> {
+/// The step of a word and those after it.
+fn step_of(word: &str, words: &mut SplitWhitespace<'_>) -> Option<Scheduled> {
+    match word {
+        "rebase" => Some(Scheduled::Rebase),
+        _ => Some(Scheduled::Event(event_of(word, words)?)),
+    }
+}
+
+/// The number of times that the step of a line is made, and the step.
+fn line_of(line: &str) -> Option<(u32, Scheduled)> {
     let mut words = line.split_whitespace();
     let word = words.next()?;
     match word.parse::<u32>() {
         Ok(times) => {
             let word = words.next()?;
-            Some((times, event_of(word, &mut words)?))
+            Some((times, step_of(word, &mut words)?))
         }
-        Err(_) => Some((1, event_of(word, &mut words)?)),
+        Err(_) => Some((1, step_of(word, &mut words)?)),
     }
 }
 
-/// Adds an event this many times.
-fn add(events: &mut Vec<Event>, times: u32, event: &Event) -> Result<(), AllocError> {
+/// Adds a step this many times.
+fn add(steps: &mut Vec<Scheduled>, times: u32, step: &Scheduled) -> Result<(), AllocError> {
     for _ in 0..times {
-        events.push(event.copy())?;
+        steps.push(step.copy())?;
     }
     Ok(())
 }
 
-/// The events of all lines.
-pub fn events_of(alloc: Global, lines: &str) -> Result<Vec<Event>, Stopped> {
-    let mut events = Vec::new(alloc);
+/// The steps of all lines.
+pub fn steps_of(alloc: Global, lines: &str) -> Result<Vec<Scheduled>, Stopped> {
+    let mut steps = Vec::new(alloc);
     for line in lines.lines() {
         match line_of(line) {
-            Some((times, event)) => add(&mut events, times, &event)?,
+            Some((times, step)) => add(&mut steps, times, &step)?,
             None => return Err(Stopped::BadLine),
         }
     }
-    Ok(events)
+    Ok(steps)
 }

@@ -1,7 +1,7 @@
-//! The answers to events, one a line; equal answers in a row are counted.
+//! The answers to events, one a line, and the rebases; equal lines in a row are counted.
 
 use actor_book::{Begun, Cause, Emitted, Lost, Report};
-use link_whole::Reply;
+use link_whole::{Reply, Scheduled};
 use std::alloc::{AllocError, Global};
 use turn_code::{End, Place, Trigger, Value};
 
@@ -103,17 +103,41 @@ fn write_times(text: &mut String, line: &str, times: u32) -> Result<(), AllocErr
     }
 }
 
-/// Writes the answers.
-pub fn write_replies(
+/// Writes the line of a step: `rebased`, or the answer to its event. So many answers were told before. Returns how many
+/// are told then.
+fn write_step(
+    line: &mut String,
+    step: &Scheduled,
+    replies: &[Reply],
+    told: usize,
+) -> Result<usize, AllocError> {
+    match step {
+        Scheduled::Rebase => {
+            line.push_str("rebased")?;
+            Ok(told)
+        }
+        Scheduled::Event(_) => {
+            if let Some(reply) = replies.get(told) {
+                write_reply(line, reply)?;
+            }
+            Ok(told.saturating_add(1))
+        }
+    }
+}
+
+/// Writes a line for each step of a schedule: the answers to its events, and its rebases.
+pub fn write_answers(
     alloc: Global,
     text: &mut String,
+    steps: &[Scheduled],
     replies: &[Reply],
 ) -> Result<(), AllocError> {
+    let mut told = 0usize;
     let mut last = String::new(alloc);
     let mut times = 0u32;
-    for reply in replies {
+    for step in steps {
         let mut line = String::new(alloc);
-        write_reply(&mut line, reply)?;
+        told = write_step(&mut line, step, replies, told)?;
         if times > 0 && line.as_str() == last.as_str() {
             times = times.saturating_add(1);
         } else {

@@ -10,5 +10,5 @@ returns-in_err-set c =
 
 pub returns-in-Ok : goal.returns-in-Ok
 returns-in-Ok c =
-    run_so c.args.text.now c.in_ok-set.set c.args.limits c.args.events.now c.in-Ok.run'.book c.in-Ok.run'.replies.items c.in_ok-set.ensures.accepted c.in_ok-set.ensures.every
+    run_so c.args.text.now c.in_ok-set.set c.args.limits c.args.steps.now c.in-Ok.run'.book c.in-Ok.run'.replies.items c.in_ok-set.ensures.accepted c.in_ok-set.ensures.every
     c.in-Ok.ensures

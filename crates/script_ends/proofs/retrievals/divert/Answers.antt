@@ -11,5 +11,5 @@ returns-in-Ok c =
 
 pub returns-in-Err : goal.returns-in-Err
 returns-in-Err c =
-    IfOk-weaker c.undiverted.result _ (λ v. Diverts c.args.link c.args.group.now v.items c.divert.new.self)
-    (λ v is. diverted c.args.link _ _ (Some c.in-Err.error) v.items is c.in-Err.ensures.fault c.in-Err.ensures.set) c.undiverted.ensures
+    IfOk-weaker c.refused.result _ (λ v. Diverts c.args.link c.args.group.now v.items c.divert.new.self)
+    (λ v is. diverted c.args.link _ _ (Some c.in-Err.error) v.items is c.in-Err.ensures.fault c.in-Err.ensures.set) c.refused.ensures

@@ -10,6 +10,7 @@ pub returns-in-Ok-read-clause-held : goal.returns-in-Ok-read-clause-held
 returns-in-Ok-read-clause-held g c zero = record {
   found = c.in-Ok.found;
   is_set = c.in-Ok.ensures.set;
+  turns = c.turns_are_as_read.ensures;
   of_script = record {
     bytes = c.in-Ok-read.ensures.bytes;
     are_known = c.in-Ok-read.ensures.are_known;
@@ -24,6 +25,7 @@ pub returns-in-Ok-read-clause-missed : goal.returns-in-Ok-read-clause-missed
 returns-in-Ok-read-clause-missed g c one = record {
   found = c.in-Ok.found;
   is_set = c.in-Ok.ensures.set;
+  turns = c.turns_are_as_read.ensures;
   of_script = record {
     bytes = c.in-Ok-read.ensures.bytes;
     are_known = c.in-Ok-read.ensures.are_known;
@@ -39,6 +41,7 @@ returns-in-Ok-read-clause-refused g c two =
     script_refused (record {
       found = c.in-Ok.found;
       is_set = c.in-Ok.ensures.set;
+      turns = c.turns_are_as_read.ensures;
       of_script = record {
         bytes = c.in-Ok-read.ensures.bytes;
         are_known = c.in-Ok-read.ensures.are_known;

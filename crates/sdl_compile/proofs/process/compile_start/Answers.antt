@@ -4,7 +4,7 @@ use Rattle.sdl_ast.specs.Views.{process_of, text_of}
 use Rattle.sdl_sound.specs.Longest.{Piece, start_piece}
 use Rattle.sdl_emit.specs.Scopes.{scope_in}
 use Rattle.sdl_meaning.specs.Named.{AnswersAll}
-use Rattle.sdl_compile.specs.Drafts.{Means}
+use Rattle.sdl_compile.specs.Drafts.{MeansPiece}
 use Rattle.sdl_compile.proofs.process.compile_start.Goals as goal
 
 -- The piece of START, from the tree.
@@ -17,4 +17,4 @@ returns-clause-means c =
     let sc = scope_in names in
     let same = c.process-process.ensures.process in
     let answers = subst (AnswersAll sc None) (sym (ap (λ (q : Process). text_of q.start.transition) same)) c.requires.ready.answers in
-    subst (λ (q : Piece). Means sc None q c.in_ok-first.first) (same_piece c.process-process.result.now names.process.now same) (c.in_ok-first.ensures.means None answers)
+    subst (λ (q : Piece). MeansPiece sc None q c.in_ok-first.first) (same_piece c.process-process.result.now names.process.now same) (c.in_ok-first.ensures.means None answers)

@@ -1,9 +1,9 @@
-use Rattle.turn_machine.proofs.UnderWay.{stands, can_grow, goes_on, ends_so}
+use Rattle.turn_machine.proofs.UnderWay.{is_ready, can_grow, goes_on, ends_so}
 use Rattle.turn_machine.proofs.execute.execute.Goals as goal
 
 pub step_bare-after-requires : goal.step_bare-after-requires
 step_bare-after-requires c =
-    stands c.args.piece.now c.args.input.now c.args.certificate c.loop-taken.taken c.loop-taken.place c.loop-taken.words c.loop-taken.machine.effects.items
+    is_ready c.args.piece.now c.args.input.now c.args.certificate c.loop-taken.taken c.loop-taken.place c.loop-taken.words c.loop-taken.machine.effects.items
     c.loop-taken.invariant
 
 pub give-requires : goal.give-requires

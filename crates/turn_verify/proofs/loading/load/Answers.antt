@@ -2,7 +2,7 @@ use Rattle.std.proofs.Common.{◌∙◌, sym}
 use Rattle.std.proofs.lemmas.Result.{IfErr-weaker}
 use Rattle.sdl_ast.specs.Views.{block_of}
 use Rattle.sdl_compile.specs.Blocks.{MatchesBlock}
-use Rattle.sdl_compile.specs.Meant.{IsSetOf}
+use Rattle.sdl_compile.specs.Meant.{IsSetOfBlock}
 use Rattle.turn_verify.proofs.Loads.{loaded, exactly, in_every}
 use Rattle.turn_verify.proofs.loading.load.Goals as goal
 
@@ -17,7 +17,7 @@ returns-clause-exact c = λ ts b s.
 
 pub returns-clause-every : goal.returns-clause-every
 returns-clause-every c = λ ts b s.
-    in_every c.set_of.result IsSetOf c.args.text.now ts c.deref.result.now b (block_of c.in_ok-block.block) s
+    in_every c.set_of.result IsSetOfBlock c.args.text.now ts c.deref.result.now b (block_of c.in_ok-block.block) s
     (c.in_ok-tokens.ensures.exact ts s.is_written.lexed ∙ sym c.deref.ensures.value) c.in_ok-block.ensures.exact c.set_of.ensures.set
 
 pub returns-clause-refused : goal.returns-clause-refused

@@ -4,7 +4,7 @@ use Rattle.sdl_ast.specs.Plain.{PlainBlock}
 use Rattle.sdl_ast.specs.Views.{block_of}
 use Rattle.sdl_compile.specs.Blocks.{MatchesBlock}
 use Rattle.sdl_compile.specs.Meaning.{RunsAsMeant}
-use Rattle.sdl_compile.specs.Meant.{IsSetOf}
+use Rattle.sdl_compile.specs.Meant.{IsSetOfBlock}
 use Rattle.sdl_compile.specs.Expansion.{expanded}
 use Rattle.turn_verify.proofs.Loads.{never_refused, gives_unless, refused_unless, without_memory}
 use Rattle.turn_verify.proofs.loading.set_meant.Goals as goal
@@ -22,7 +22,7 @@ returns-in-Ok-clause-runs c =
 
 pub returns-in-Ok-clause-set : goal.returns-in-Ok-clause-set
 returns-in-Ok-clause-set c =
-    IfOk-weaker c.verified.result _ _ (λ v h b is. subst (λ (x : PlainBlock). IsSetOf x v) (ap block_of c.in-Ok.ensures.block ∙ is.block) h) c.verified.ensures.set
+    IfOk-weaker c.verified.result _ _ (λ v h b is. subst (λ (x : PlainBlock). IsSetOfBlock x v) (ap block_of c.in-Ok.ensures.block ∙ is.block) h) c.verified.ensures.set
 
 pub returns-in-Ok-clause-exact : goal.returns-in-Ok-clause-exact
 returns-in-Ok-clause-exact c = λ b is sound.

@@ -20,4 +20,4 @@ returns-in-Err g c =
 
 pub returns : goal.returns
 returns g c =
-    run_over _ _ c.args.own _ _ _ _ c.own_set.ensures (set_over _ _ _ _ _ c.in-Ok.tender c.in-Ok.ensures.ok c.begin.ensures.ran c.begin.ensures.status)
+    run_over _ _ c.args.own _ _ _ _ c.own_set.ensures (set_over c.messages_of_a_run_stand.ensures _ _ _ _ _ c.in-Ok.tender c.in-Ok.ensures.ok c.begin.ensures.ran c.begin.ensures.status)

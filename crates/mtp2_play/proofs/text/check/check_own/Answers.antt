@@ -11,7 +11,7 @@ over_text : {R : Type 0} (remaining : R → Option (List ℕ)) (own : OwnSet) (s
 over_text remaining own set P is h = to_text remaining own set (λ known. IsGiven known P) is h
 
 pub returns-clause-costs : goal.returns-clause-costs
-returns-clause-costs g c = λ zero. over_text _ c.args.own _ _ c.own_set.ensures (c.check.ensures.costs zero)
+returns-clause-costs g c = λ zero. over_text _ c.args.own _ _ c.own_set.ensures (c.check_telling.ensures.costs zero)
 
 pub returns-clause-refusal : goal.returns-clause-refusal
-returns-clause-refusal g c = λ two. over_text _ c.args.own _ _ c.own_set.ensures (c.check.ensures.refusal two)
+returns-clause-refusal g c = λ two. over_text _ c.args.own _ _ c.own_set.ensures (c.check_telling.ensures.refusal two)

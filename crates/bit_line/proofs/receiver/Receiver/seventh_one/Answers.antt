@@ -1,0 +1,8 @@
+use Rattle.std.proofs.Common.{refl}
+use Rattle.bit_line.proofs.StandLaws as laws
+use Rattle.bit_line.proofs.receiver.Receiver.seventh_one.Goals as goal
+
+pub returns-clause-stands : goal.returns-clause-stands
+returns-clause-stands c h events stands =
+    laws.seventh-stands c.tick.result h events c.pass.new.self.content c.args.self.now _ c.requires refl
+    (λ h2 b2. c.pass.ensures.passed h2 b2) (λ mode. c.tick.ensures.counts mode) (λ mode. c.tick.ensures.full mode) stands

@@ -1,0 +1,19 @@
+use Rattle.std.proofs.Common.{◌≡◌, ◌^◌, ◌<◌, ap, arith, rules}
+use Rattle.actor_machine.specs.Ledger.{next}
+use Rattle.turn_pool.specs.Links.{Link}
+use Rattle.turn_pool.proofs.slot.Slot.finish_in.Goals as goal
+
+pub count-requires : goal.count-requires
+count-requires g c =
+    let within : c.next-place.result < 2 ^ 57 = c.next-place.ensures.in_range in
+    record { part = omega (arith, c.self.invariant.0); amount = omega (arith, c.self.invariant.1, c.next-place.ensures.value, within) }
+
+pub returns : goal.returns
+returns g c =
+    let book : c.self.inside.book ≡ c.args.self.now.book = ap (λ (s : Link). s.book) c.self.view_is in
+    record {
+      finishes = search rules;
+      link = ap (λ (s : Link). s.number) c.self.view_is;
+      seat = omega (arith, c.count.ensures.seat, c.in_ok-report.ensures.next, ap next book);
+      counted = c.count.ensures.seat;
+    }
