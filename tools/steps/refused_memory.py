@@ -146,6 +146,7 @@ def cases(folder):
             (ROOT / "examples" / "standard.sdl").read_bytes(),
         ),
         Case("check of a text that is refused", ["check", "examples/s11_unset.sdl"], status=2),
+        Case("explore", ["explore", "examples/counter.sdl", "--port", "2"]),
         Case("play of a book script", ["play", "examples/scripts/ports.sdl", "stdin"], ROW),
         Case("play of a script with a timer", ["play", "examples/scripts/crossing.sdl", "stdin"], TIMED),
         Case("play of a terminal", ["play", "standard", "stdin"], LINK.format("basic")),

@@ -93,6 +93,7 @@ def streams():
         ("check of standard input", ["check", "stdin"], COUNTER),
         ("check of a file", ["check", "examples/standard.sdl"], b""),
         ("check of a text that is refused", ["check", "examples/s9_divisor.sdl"], b""),
+        ("explore", ["explore", "examples/oven.sdl", "--port", "1"], b""),
         ("play, its script on standard input", ["play", "examples/lamp.sdl", "stdin"], PRESS),
         ("play, its set on standard input", ["play", "stdin", "press.script"], LAMP),
         ("play of two files", ["play", "examples/lamp.sdl", "press.script"], b""),

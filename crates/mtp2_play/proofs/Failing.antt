@@ -4,7 +4,7 @@ use Rattle.line_filter.specs.Filters.{Line as Octets}
 use Rattle.mtp2_words.specs.declared.requests.Named.{Named}
 use Rattle.mtp2_words.specs.declared.requests.Warned.{Warned}
 use Rattle.mtp2_words.specs.declared.requests.Request.{Request}
-use Rattle.mtp2_words.specs.declared.requests.Request.TheVariants.{Check, Play, Soak, Line, Tend, Frame, Draw, Print, Diff}
+use Rattle.mtp2_words.specs.declared.requests.Request.TheVariants.{Check, Play, Soak, Line, Tend, Frame, Draw, Print, Diff, Explore}
 use Rattle.mtp2_play.specs.Compared.{IsCompared}
 use Rattle.mtp2_play.specs.Printed.{AreCheckedAll, IsAnswered}
 use Rattle.mtp2_play.specs.Sets.{own_text_of}
@@ -56,6 +56,7 @@ failed (Frame octets) status old new are = record { held = not_done; refused = n
 failed (Draw set process states) status old new are = inr (inr refl)
 failed (Print set) status old new are = record { held = not_done; ends = inr refl }
 failed (Diff one other) status old new are = diff_failed (own_text_of one) (own_text_of other) old.written new.written
+failed (Explore set values bounds) status old new are = inr (inr (inr refl))
 
 -- the command failed before anything was read or written
 pub not_begun : (request : Request) (there : Octets) → IsAnswered request 4 there there
@@ -79,6 +80,7 @@ not_begun (Frame octets) there = record { held = not_done; refused = not_refused
 not_begun (Draw set process states) there = inr (inr refl)
 not_begun (Print set) there = record { held = not_done; ends = inr refl }
 not_begun (Diff one other) there = diff_failed (own_text_of one) (own_text_of other) there.written there.written
+not_begun (Explore set values bounds) there = inr (inr (inr refl))
 
 pub was_run : (request : Request) (status : ℕ) (old new : Octets) → IsAnswered request status old new → WasAnswered request status
 was_run request status old new are = record { old = old; new = new; answered = are }

@@ -35,6 +35,7 @@ use Rattle.mtp2_words.specs.declared.requests.Warned.{Warned}
 use Rattle.mtp2_words.specs.declared.requests.Request.{Request}
 use Rattle.mtp2_words.specs.declared.requests.Request.TheVariants.{Check, Play, Soak, Line, Frame}
 use Rattle.mtp2_words.specs.declared.requests.Request.TheVariants.{Tend, Draw, Print, Diff}
+use Rattle.mtp2_words.specs.declared.requests.Request.TheVariants.{Explore}
 
 -- the exit statuses: done, an expectation failed or a difference, refused, usage, failed
 abbrev pub IsStatus : ℕ → Type 0
@@ -150,6 +151,10 @@ pub record IsSetRun (name : List ℕ) (known : Option (List ℕ)) (plan : SetPla
   pub refused : status ≡ 2 → IsGiven known (IsNoSet name plan.limits plan.mode None None)
   pub ends : IsDone status
 
+-- the status of `explore`: 1 if there are more states than were kept
+abbrev pub IsTried : ℕ → Type 0
+IsTried status = (status ≡ 0) ⊎ (status ≡ 1) ⊎ (status ≡ 2) ⊎ (status ≡ 4)
+
 -- the output of `text`: the text of a built-in set
 pub record IsPrinted (set : OwnSet) (status : ℕ) (old new : Option (List ℕ)) : Type 0 where
   pub held : status ≡ 0 → Appends old new (text_of set)
@@ -172,3 +177,4 @@ IsAnswered (Draw set process states) status old new = IsDone status
 IsAnswered (Print set) status old new = IsPrinted set status old.written new.written
 IsAnswered (Diff one other) status old new =
     IsCompared (own_text_of one) (own_text_of other) status old.written new.written
+IsAnswered (Explore set values bounds) status old new = IsTried status

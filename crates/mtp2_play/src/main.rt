@@ -1,5 +1,5 @@
-//! `mtp2_play`: the program. It runs one end of a link set, or of a link, on lines; checks, plays, draws and compares
-//! process texts; lets threads serve links; and reads signal units.
+//! `mtp2_play`: the program. It runs one end of a link set, or of a link, on lines; checks, plays, draws, compares
+//! and explores process texts; lets threads serve links; and reads signal units.
 #![tactic(auto)]
 
 ghost use Rattle.std.specs.Prelude.{◌≡◌, ◌≢◌, ◌⊎◌, map, string_bytes};
@@ -23,6 +23,7 @@ use crate::set::command::run_set;
 use crate::text::check::run_checks;
 use crate::text::diff::run_diff;
 use crate::text::draw::{picture_of, run_draw};
+use crate::text::explore::run_explore;
 use crate::text::print::print_own;
 use line_streams::{Plan, open_records, tap};
 use mtp2_frame::frame;
@@ -74,6 +75,11 @@ fn run<
         } => run_draw(rt, teller, *set, &picture_of(*process, *states), writer),
         Request::Print { set } => print_own(*set, writer),
         Request::Diff { old, new } => run_diff(rt, teller, *old, *new, writer),
+        Request::Explore {
+            set,
+            values,
+            bounds,
+        } => run_explore(rt, teller, *set, values.as_slice(), bounds, writer),
     }
 }
 

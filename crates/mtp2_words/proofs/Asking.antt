@@ -8,6 +8,9 @@ use Rattle.clap.specs.declared.parser.matches.ArgMatches.{ArgMatches}
 use Rattle.clap.specs.declared.parser.matches.ArgMatches.TheViews.{out-ArgMatches, out-SubCommand}
 use Rattle.std.specs.declared.alloc.AllocError.{AllocError}
 use Rattle.clap.proofs.WalkLemmas.{first_value-rows, raw_values-rows}
+use Rattle.mtp2_words.specs.Bounds.{IsBoundsOf}
+use Rattle.mtp2_words.specs.declared.bounds.Bounds.{Bounds}
+use Rattle.mtp2_words.specs.declared.bounds.BoundWords.{BoundWords}
 use Rattle.mtp2_words.specs.Ends.{IsEndOf}
 use Rattle.mtp2_words.specs.SetEnds.{IsSetEndOf, are_few}
 use Rattle.mtp2_words.specs.declared.set_ends.SetEnd.{SetEnd}
@@ -18,11 +21,11 @@ use Rattle.mtp2_words.specs.Words.{command_of, workers_of, AreStdin, IsNamed, Is
 use Rattle.mtp2_text.specs.Own.{word_of, NamesNone}
 use Rattle.mtp2_words.specs.Seeing.{IsSeenBy}
 use Rattle.mtp2_words.specs.declared.seeing.Seeing.{Seeing}
-use Rattle.mtp2_words.specs.Asked.{Given, given_by, given_in, AreAllAsked, AreNamed, AreBothStdin, AreUnderIds, AsksEnd, AsksNothing, IsAsked, IsAskedBy, IsNoPlay, IsNoPrint, IsNoSoak, SaysNothing, AsksDiff, AsksDraw, IsNoDiff, AreSetUnderIds, AsksSetEnd, AreLinesOf, AreNoLines, AreSeenUnder, AsksSeen}
+use Rattle.mtp2_words.specs.Asked.{Given, given_by, given_in, AreAllAsked, AreNamed, AreBothStdin, AreUnderIds, AsksEnd, AsksNothing, IsAsked, IsAskedBy, IsNoPlay, IsNoPrint, IsNoSoak, SaysNothing, AsksDiff, AsksDraw, IsNoDiff, AreSetUnderIds, AsksSetEnd, AreLinesOf, AreNoLines, AreSeenUnder, AsksSeen, AreBoundsUnder, AsksBounds, AsksExplore, AreValuesOf}
 use Rattle.mtp2_words.specs.declared.seeing.SeeingWords.{SeeingWords}
 use Rattle.mtp2_words.specs.declared.requests.Named.{Named}
 use Rattle.mtp2_words.specs.declared.requests.Request.{Request}
-use Rattle.mtp2_words.specs.declared.requests.Request.TheVariants.{Check, Play, Soak, Line, Tend, Frame, Draw, Print, Diff}
+use Rattle.mtp2_words.specs.declared.requests.Request.TheVariants.{Check, Play, Soak, Line, Tend, Frame, Draw, Print, Diff, Explore}
 
 -- ---- words by their ids
 
@@ -73,6 +76,7 @@ plays given set_word script_word wanted (Frame octets) e f a h = absurd h
 plays given set_word script_word wanted (Draw set process states) e f a h = absurd h
 plays given set_word script_word wanted (Print set) e f a h = absurd h
 plays given set_word script_word wanted (Diff old new) e f a h = absurd h
+plays given set_word script_word wanted (Explore set values bounds) e f a h = absurd h
 
 pub is_play : (set_word script_word : Text) (wanted : Seeing) (request : Request) → IsPlay set_word script_word wanted request → command_of request ≡ codes "play"
 is_play set_word script_word wanted (Check sets warned) h = absurd h
@@ -84,6 +88,7 @@ is_play set_word script_word wanted (Frame octets) h = absurd h
 is_play set_word script_word wanted (Draw set process states) h = absurd h
 is_play set_word script_word wanted (Print set) h = absurd h
 is_play set_word script_word wanted (Diff old new) h = absurd h
+is_play set_word script_word wanted (Explore set values bounds) h = absurd h
 
 pub play_all : (rows : List Row) (set_word script_word : Text) (wanted : Seeing) (request : Request) → IsPlay set_word script_word wanted request → AreAllAsked rows request
 play_all rows set_word script_word wanted (Check sets warned) h = absurd h
@@ -95,6 +100,7 @@ play_all rows set_word script_word wanted (Frame octets) h = tt
 play_all rows set_word script_word wanted (Draw set process states) h = tt
 play_all rows set_word script_word wanted (Print set) h = tt
 play_all rows set_word script_word wanted (Diff old new) h = tt
+play_all rows set_word script_word wanted (Explore set values bounds) h = absurd h
 
 pub soak_all : (rows : List Row) (script_word workers_word : Text) (request : Request) → IsSoak script_word workers_word request → AreAllAsked rows request
 soak_all rows script_word workers_word (Check sets warned) h = absurd h
@@ -106,6 +112,7 @@ soak_all rows script_word workers_word (Frame octets) h = tt
 soak_all rows script_word workers_word (Draw set process states) h = tt
 soak_all rows script_word workers_word (Print set) h = tt
 soak_all rows script_word workers_word (Diff old new) h = tt
+soak_all rows script_word workers_word (Explore set values bounds) h = absurd h
 
 pub plays_nothing : (given : Given) (set_word script_word : Text) → Some set_word ≡ given (codes "SET")
     → Some script_word ≡ given (codes "SCRIPT") → AreStdin set_word script_word → IsNoPlay given
@@ -128,6 +135,7 @@ soaks given script_word workers_word (Frame octets) e f h = absurd h
 soaks given script_word workers_word (Draw set process states) e f h = absurd h
 soaks given script_word workers_word (Print set) e f h = absurd h
 soaks given script_word workers_word (Diff old new) e f h = absurd h
+soaks given script_word workers_word (Explore set values bounds) e f h = absurd h
 
 pub is_soak : (script_word workers_word : Text) (request : Request) → IsSoak script_word workers_word request → command_of request ≡ codes "soak"
 is_soak script_word workers_word (Check sets warned) h = absurd h
@@ -139,6 +147,7 @@ is_soak script_word workers_word (Frame octets) h = absurd h
 is_soak script_word workers_word (Draw set process states) h = absurd h
 is_soak script_word workers_word (Print set) h = absurd h
 is_soak script_word workers_word (Diff old new) h = absurd h
+is_soak script_word workers_word (Explore set values bounds) h = absurd h
 
 pub soaks_nothing : (given : Given) (workers_word : Text) → Some workers_word ≡ given (codes "workers") → workers_of workers_word ≡ None
     → IsNoSoak given
@@ -178,6 +187,27 @@ pub no_lines : (given : ArgMatches) → None ≡ option_map raw_values (matched_
 no_lines given e =
     let P : Option (List Text) → Type 0 = λ o. AreNoLines o in
     subst P (e ∙ raw_values-rows (found_of given) (codes "link")) tt
+
+-- the values of all --values
+pub all_values : (given : ArgMatches) (words : List (Bor Text)) → Some (map (λ w. w.now) words) ≡ option_map raw_values (matched_of (found_of given) (codes "values"))
+    → AreValuesOf words (all_of (codes "values") (rows_of (found_of given)))
+all_values given words e =
+    let P : Option (List Text) → Type 0 = λ o. AreValuesOf words o in
+    subst P (e ∙ raw_values-rows (found_of given) (codes "values")) refl
+
+pub no_values : (given : ArgMatches) (words : List (Bor Text)) → words ≡ [] → None ≡ option_map raw_values (matched_of (found_of given) (codes "values"))
+    → AreValuesOf words (all_of (codes "values") (rows_of (found_of given)))
+no_values given words none e =
+    let P : Option (List Text) → Type 0 = λ o. AreValuesOf words o in
+    subst P (e ∙ raw_values-rows (found_of given) (codes "values")) none
+
+-- the words state the bounds
+pub bounds : (given : Given) (words : BoundWords) → AreBoundsUnder given words → (o : Option Bounds) → IfSome o (IsBoundsOf words) → IfSome o (AsksBounds given)
+bounds given words under o h = IfSome_then o h (λ found s. record { words = words; under_ids = under; bounds_are = s })
+
+-- `explore`: its set and its bounds
+pub explores : (given : Given) (word : Text) (set : Named) (found : Bounds) → Some word ≡ given (codes "SET") → IsNamed set word → AsksBounds given found → AsksExplore given set found
+explores given word set found e named asked = record { set_is = some_word (given (codes "SET")) word (IsNamed set) e named; asks_bounds = asked }
 
 -- ---- the entered command
 
@@ -262,6 +292,7 @@ prints given word (Frame octets) e h = absurd h
 prints given word (Draw set process states) e h = absurd h
 prints given word (Print set) e h = some_word (given (codes "SET")) word (λ w. w ≡ word_of set) e h
 prints given word (Diff old new) e h = absurd h
+prints given word (Explore set values bounds) e h = absurd h
 
 pub is_print : (word : Text) (request : Request) → IsPrint word request → command_of request ≡ codes "text"
 is_print word (Check sets warned) h = absurd h
@@ -273,6 +304,7 @@ is_print word (Frame octets) h = absurd h
 is_print word (Draw set process states) h = absurd h
 is_print word (Print set) h = refl
 is_print word (Diff old new) h = absurd h
+is_print word (Explore set values bounds) h = absurd h
 
 pub print_all : (rows : List Row) (word : Text) (request : Request) → IsPrint word request → AreAllAsked rows request
 print_all rows word (Check sets warned) h = absurd h
@@ -284,6 +316,7 @@ print_all rows word (Frame octets) h = tt
 print_all rows word (Draw set process states) h = tt
 print_all rows word (Print set) h = tt
 print_all rows word (Diff old new) h = tt
+print_all rows word (Explore set values bounds) h = absurd h
 
 pub prints_nothing : (given : Given) (word : Text) → Some word ≡ given (codes "SET") → NamesNone word → IsNoPrint given
 prints_nothing given word e h = inr (some_word (given (codes "SET")) word NamesNone e h)

@@ -1,11 +1,14 @@
 -- The requests of a command line, by the ids of the words in its matches, and the reasons why a
 -- command line requests nothing.
-use Rattle.std.specs.Prelude.{◌≡◌, ◌⊎◌, ℕ, Bool, true, false, List, Option, Some, None, IsSomeAnd}
-use Rattle.std.specs.Prelude.{option_map, option_and_then, codes, map, length}
+use Rattle.std.specs.Prelude.{◌≡◌, ◌⊎◌, ℕ, Bool, true, false, List, [], Option, Some, None}
+use Rattle.std.specs.Prelude.{IsSomeAnd, option_map, option_and_then, codes, map, length}
 use Rattle.std.specs.Borrow.{Bor}
 use Rattle.std.specs.List.{AllZip}
 use Rattle.clap.specs.Words.{Row, Text, all_of, first_of, first_value, found_of}
 use Rattle.clap.specs.declared.parser.matches.ArgMatches.{ArgMatches}
+use Rattle.mtp2_words.specs.Bounds.{IsBoundsOf, IsNoBounds}
+use Rattle.mtp2_words.specs.declared.bounds.Bounds.{Bounds}
+use Rattle.mtp2_words.specs.declared.bounds.BoundWords.{BoundWords}
 use Rattle.mtp2_words.specs.Ends.{IsEndOf, IsNoEnd}
 use Rattle.mtp2_words.specs.SetEnds.{IsSetEndOf, IsNoSetEnd, are_few}
 use Rattle.mtp2_words.specs.declared.set_ends.SetEnd.{SetEnd}
@@ -24,6 +27,7 @@ use Rattle.mtp2_words.specs.declared.requests.Source.{Source}
 use Rattle.mtp2_words.specs.declared.requests.Request.{Request}
 use Rattle.mtp2_words.specs.declared.requests.Request.TheVariants.{Check, Play, Soak, Line, Frame}
 use Rattle.mtp2_words.specs.declared.requests.Request.TheVariants.{Tend, Draw, Print, Diff}
+use Rattle.mtp2_words.specs.declared.requests.Request.TheVariants.{Explore}
 
 -- the first word under each id, if there is one
 abbrev pub Given : Type 0
@@ -165,6 +169,29 @@ pub record AsksDiff (given : Given) (old new : Named) : Type 0 where
   pub new_is : IsSomeAnd (given (codes "NEW")) (IsNamed new)
   pub one_input : AreTwoStdin given → ⊥
 
+-- each word that bounds an exploration has its own id
+pub record AreBoundsUnder (given : Given) (words : BoundWords) : Type 0 where
+  pub under_way : given (codes "under-way") ≡ option_map (λ w. w.now) words.under_way
+  pub items : given (codes "items") ≡ option_map (λ w. w.now) words.items
+  pub port : given (codes "port") ≡ option_map (λ w. w.now) words.port
+  pub limit : given (codes "limit") ≡ option_map (λ w. w.now) words.limit
+
+-- the bounds that --under-way, --items, --port and --limit state
+pub record AsksBounds (given : Given) (bounds : Bounds) : Type 0 where
+  pub words : BoundWords
+  pub under_ids : AreBoundsUnder given words
+  pub bounds_are : IsBoundsOf words bounds
+
+-- `explore`: the set that SET names, and the bounds
+pub record AsksExplore (given : Given) (set : Named) (bounds : Bounds) : Type 0 where
+  pub set_is : IsSomeAnd (given (codes "SET")) (IsNamed set)
+  pub asks_bounds : AsksBounds given bounds
+
+-- the values are the words of all --values; none if there is no --values
+abbrev pub AreValuesOf : List (Bor Text) → Option (List Text) → Type 0
+AreValuesOf values None = values ≡ []
+AreValuesOf values (Some words) = map (λ w. w.now) values ≡ words
+
 -- the request of a command's words, by the first word of each id; `check` uses all words of SET,
 -- `frame` has the octets of HEX, and `text` the built-in set that SET names
 abbrev pub IsAsked : Given → Request → Type 0
@@ -179,12 +206,14 @@ IsAsked given (Draw set process states) =
     AsksDraw given set (option_map (λ w. w.now) process) states
 IsAsked given (Print set) = IsSomeAnd (given (codes "SET")) (λ word. word ≡ word_of set)
 IsAsked given (Diff old new) = AsksDiff given old new
+IsAsked given (Explore set values bounds) = AsksExplore given set bounds
 
 -- the sets that the words name, one each, in their order
 abbrev pub AreNamed : List Named → List Text → Type 0
 AreNamed sets words = AllZip IsNamed sets words
 
--- `check` has the sets of all words of SET, and `set` the lines of all --link
+-- `check` has the sets of all words of SET, `set` the lines of all --link, and `explore` the values
+-- of all --values
 abbrev pub AreAllAsked : List Row → Request → Type 0
 AreAllAsked rows (Check sets warned) = IsSomeAnd (all_of (codes "SET") rows) (AreNamed sets.items)
 AreAllAsked rows (Play set script seen) = Unit {0}
@@ -196,6 +225,8 @@ AreAllAsked rows (Frame octets) = Unit {0}
 AreAllAsked rows (Draw set process states) = Unit {0}
 AreAllAsked rows (Print set) = Unit {0}
 AreAllAsked rows (Diff old new) = Unit {0}
+AreAllAsked rows (Explore set values bounds) =
+    AreValuesOf values.items (all_of (codes "values") rows)
 
 -- the entered command and its rows: the command is that of the request, and its words request it
 abbrev pub IsAskedBy : Option (Text × List Row) → Request → Type 0
@@ -273,6 +304,16 @@ abbrev pub IsNoDiff : Given → Type 0
 IsNoDiff given =
     (given (codes "OLD") ≡ None) ⊎ ((given (codes "NEW") ≡ None) ⊎ AreTwoStdin given)
 
+-- the words that bound an exploration are there, and one of them is invalid
+pub record SaysNoBounds (given : Given) : Type 0 where
+  pub words : BoundWords
+  pub under_ids : AreBoundsUnder given words
+  pub no_bounds : IsNoBounds words
+
+-- `explore`: no SET, or words that state no bounds
+abbrev pub IsNoExplore : Given → Type 0
+IsNoExplore given = (given (codes "SET") ≡ None) ⊎ SaysNoBounds given
+
 -- the name belongs to no command
 pub record IsNoCommand (name : Text) : Type 0 where
   pub not_check : name ≡ codes "check" → ⊥
@@ -284,6 +325,7 @@ pub record IsNoCommand (name : Text) : Type 0 where
   pub not_draw : name ≡ codes "draw" → ⊥
   pub not_text : name ≡ codes "text" → ⊥
   pub not_diff : name ≡ codes "diff" → ⊥
+  pub not_explore : name ≡ codes "explore" → ⊥
 
 -- the words of a command of this name request nothing
 pub data AsksNothing (name : Text) (given : Given) (rows : List Row) : Type 0 where
@@ -297,6 +339,7 @@ pub data AsksNothing (name : Text) (given : Given) (rows : List Row) : Type 0 wh
   no_draw : name ≡ codes "draw" → IsNoDraw given → AsksNothing name given rows
   no_print : name ≡ codes "text" → IsNoPrint given → AsksNothing name given rows
   no_diff : name ≡ codes "diff" → IsNoDiff given → AsksNothing name given rows
+  no_explore : name ≡ codes "explore" → IsNoExplore given → AsksNothing name given rows
 
 -- no command was entered, or its words request nothing
 abbrev pub SaysNothing : Option (Text × List Row) → Type 0

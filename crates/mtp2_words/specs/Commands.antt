@@ -159,6 +159,29 @@ diff_command =
     with_rule (with_rule (new_app (codes "diff")) (plain_word (codes "OLD")))
     (plain_word (codes "NEW"))
 
+-- an optional `--ID` with two words after it, which may be repeated
+abbrev pub pair_words : Text → Rule
+pair_words id =
+    record (new_rule id) { long = Some id; value_names = 2; action = Some Append }
+
+-- `explore SET`, with --values
+abbrev pub explore_begun : App
+explore_begun =
+    with_rule (with_rule (new_app (codes "explore")) (plain_word (codes "SET")))
+    (pair_words (codes "values"))
+
+-- a command with the options that bound an exploration
+abbrev pub with_bounds : App → App
+with_bounds command =
+    with_rule
+    (with_rule
+    (with_rule (with_rule command (option_word (codes "under-way"))) (option_word (codes "items")))
+    (option_word (codes "port"))) (option_word (codes "limit"))
+
+-- `explore SET`, with all options
+abbrev pub explore_command : App
+explore_command = with_bounds explore_begun
+
 -- the program without its commands, one of which is required; it has a version
 abbrev pub program_begun : App
 program_begun = record (new_app (codes "mtp2_play")) {
@@ -175,9 +198,10 @@ all_commands =
     (with_subcommand
     (with_subcommand
     (with_subcommand
+    (with_subcommand
     (with_subcommand (with_subcommand program_begun set_command.top) line_command.top)
     check_command.top) play_command.top) soak_command.top) frame_command.top) draw_command.top)
-    text_command.top) diff_command.top
+    text_command.top) diff_command.top) explore_command.top
 
 -- whether a word of the command is inherited by its subcommands
 abbrev pub has_globals : Command → Bool

@@ -1,4 +1,5 @@
 pub mod Asked
+pub mod Bounds
 pub mod Commands
 pub mod Ends
 pub mod Limits

@@ -17,6 +17,7 @@ use Rattle.mtp2_words.specs.declared.requests.Warned.TheVariants.{Unsaid, Told, 
 use Rattle.mtp2_words.specs.declared.requests.Request.{Request}
 use Rattle.mtp2_words.specs.declared.requests.Request.TheVariants.{Check, Play, Soak, Line, Frame}
 use Rattle.mtp2_words.specs.declared.requests.Request.TheVariants.{Tend, Draw, Print, Diff}
+use Rattle.mtp2_words.specs.declared.requests.Request.TheVariants.{Explore}
 
 -- a word names a file unless it is one of these
 pub record IsFileName (word : List ℕ) : Type 0 where
@@ -56,6 +57,7 @@ IsPlay set_word script_word wanted (Frame octets) = ⊥
 IsPlay set_word script_word wanted (Draw set process states) = ⊥
 IsPlay set_word script_word wanted (Print set) = ⊥
 IsPlay set_word script_word wanted (Diff old new) = ⊥
+IsPlay set_word script_word wanted (Explore set values bounds) = ⊥
 
 -- a number of workers, if a pool can have as many
 abbrev pub as_many : ℕ → Option ℕ
@@ -77,6 +79,7 @@ IsSoak script_word workers_word (Frame octets) = ⊥
 IsSoak script_word workers_word (Draw set process states) = ⊥
 IsSoak script_word workers_word (Print set) = ⊥
 IsSoak script_word workers_word (Diff old new) = ⊥
+IsSoak script_word workers_word (Explore set values bounds) = ⊥
 
 -- the request of `text`, from a word
 abbrev pub IsPrint : List ℕ → Request → Type 0
@@ -89,6 +92,7 @@ IsPrint word (Frame octets) = ⊥
 IsPrint word (Draw set process states) = ⊥
 IsPrint word (Print set) = word ≡ word_of set
 IsPrint word (Diff old new) = ⊥
+IsPrint word (Explore set values bounds) = ⊥
 
 -- the request of `diff`, from two words; not standard input for both
 pub record IsDiff (old_word new_word : List ℕ) (old new : Named) : Type 0 where
@@ -132,3 +136,4 @@ command_of (Frame octets) = codes "frame"
 command_of (Draw set process states) = codes "draw"
 command_of (Print set) = codes "text"
 command_of (Diff old new) = codes "diff"
+command_of (Explore set values bounds) = codes "explore"

@@ -4,6 +4,7 @@ ghost use Rattle.clap.specs.Words.{app_of};
 ghost use Rattle.mtp2_words.specs.Commands.{check_command, play_command, soak_command, line_begun, line_command, frame_command, draw_command, diff_command, text_command, play_begun, with_turn_options, with_count_options, all_commands, program_begun, with_line_options, with_limit_options, with_capture_options, with_measures_option, has_globals, IsCommand};
 
 use crate::arguments::{bare_command, flag_word, option_word, optional_word, plain_word};
+use crate::explore_commands::explore_command;
 use crate::set_commands::set_command;
 use clap::{ArgAction, Command};
 use std::alloc::{AllocError, Global};
@@ -21,7 +22,8 @@ pub fn all_commands<'a>(alloc: Global) -> Result<Command<'a>, AllocError>
         .subcommand(frame_command(alloc)?)?
         .subcommand(draw_command(alloc)?)?
         .subcommand(text_command(alloc)?)?
-        .subcommand(diff_command(alloc)?)
+        .subcommand(diff_command(alloc)?)?
+        .subcommand(explore_command(alloc)?)
 }
 
 /// The program without its commands.

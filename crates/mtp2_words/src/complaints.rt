@@ -1,5 +1,6 @@
 //! Messages about a command line that clap accepts, but in which a word is invalid.
 
+use crate::bounds::{count_or, items_of, port_of};
 use crate::ends::bits_of;
 use crate::limits::{messages_of, octets_of};
 use crate::set_ends::{network_of, point_named, set_ahead_of};
@@ -83,6 +84,20 @@ fn set_fault(given: &ArgMatches<'_>) -> &'static str {
     "--link stands 1 to 16 times"
 }
 
+/// The message about the words of `explore`.
+fn explore_fault(given: &ArgMatches<'_>) -> &'static str {
+    if count_or(1, given.get_str("under-way")).is_none() {
+        return "--under-way is a number";
+    }
+    if items_of(given.get_str("items")).is_none() {
+        return "--items is a number";
+    }
+    if port_of(given.get_str("port")).is_none() {
+        return "--port is a number from 1 to 64";
+    }
+    "--limit is a number"
+}
+
 /// The message about the words of a command, if one of them is invalid.
 pub(crate) fn complaint_of(matches: &ArgMatches<'_>) -> &'static str {
     let Some((name, given)) = matches.subcommand() else {
@@ -97,6 +112,7 @@ pub(crate) fn complaint_of(matches: &ArgMatches<'_>) -> &'static str {
         "set" => set_fault(given),
         "draw" => "--states is for a PROCESS",
         "text" => "SET is standard, q703 or monitors",
+        "explore" => explore_fault(given),
         "diff" => "standard input can be OLD or NEW, not both",
         _ => "no such command",
     }

@@ -2,9 +2,12 @@
 #![tactic(auto)]
 
 mod arguments;
+mod bounds;
 mod commands;
 mod complaints;
 mod ends;
+mod explore_commands;
+mod explore_words;
 mod flags;
 mod limits;
 mod requests;
@@ -17,6 +20,7 @@ mod set_words;
 mod sights;
 mod words;
 
+pub use bounds::{BoundWords, Bounds, bounds_of};
 pub use clap::Error;
 pub use clap::error::ErrorKind;
 pub use ends::{LineEnd, LineWords, line_end};

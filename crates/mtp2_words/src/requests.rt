@@ -1,4 +1,5 @@
 //! The requests of the command line.
+use crate::bounds::Bounds;
 use crate::ends::LineEnd;
 use crate::seeing::Seeing;
 use crate::set_ends::SetEnd;
@@ -77,6 +78,12 @@ pub enum Request<'a> {
     Diff {
         old: Named<'a>,
         new: Named<'a>,
+    },
+    /// `explore SET`: a set as for `check`; names of signals, each with its values after it; and the bounds.
+    Explore {
+        set: Named<'a>,
+        values: Vec<&'a str>,
+        bounds: Bounds,
     },
     /// `frame HEX`: the octets of a signal unit in hexadecimal digits, with its check octets.
     Frame {

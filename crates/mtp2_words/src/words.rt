@@ -10,6 +10,7 @@ ghost use Rattle.mtp2_words.specs.TurnedDown.{IsTurnedDown};
 use crate::commands::all_commands;
 use crate::complaints::complaint_of;
 use crate::ends::{LineEnd, LineWords, line_end};
+use crate::explore_words::explored;
 use crate::flags::{is_given, warned_of};
 use crate::requests::{Named, Request, Source, Warned};
 use crate::says::{are_stdin, workers_of};
@@ -22,7 +23,7 @@ use mtp2_text::OwnSet;
 use std::alloc::{AllocError, Global};
 
 /// The set that a word names.
-fn set_named(word: &str) -> Named<'_>
+pub(crate) fn set_named(word: &str) -> Named<'_>
     ensures { IsNamed result word.now }
 {
     match OwnSet::named(word) {
@@ -299,6 +300,7 @@ fn asked<'a>(
         "draw" => Ok(drawn(given)),
         "text" => Ok(asked_print(given)),
         "diff" => Ok(compared(given)),
+        "explore" => explored(alloc, given),
         _ => Ok(None),
     }
 }

@@ -1,5 +1,5 @@
 use Rattle.std.proofs.lemmas.Result.{IfOk-weaker}
-use Rattle.mtp2_words.specs.Commands.{program_begun, check_command, play_command, soak_command, line_command, set_command, frame_command, draw_command, text_command, diff_command}
+use Rattle.mtp2_words.specs.Commands.{program_begun, check_command, play_command, soak_command, line_command, set_command, frame_command, draw_command, text_command, diff_command, explore_command}
 use Rattle.mtp2_words.proofs.Building.{with_command}
 use Rattle.mtp2_words.proofs.commands.all_commands.Goals as goal
 
@@ -21,5 +21,7 @@ returns c =
     c.in_ok-draw_command.ensures c.in_ok-subcommand-7.ensures in
     let text = with_command _ text_command _ c.in_ok-text_command.field-0 c.in_ok-subcommand-8.field-0 draw
     c.in_ok-text_command.ensures c.in_ok-subcommand-8.ensures in
-    IfOk-weaker c.subcommand-9.result _ _ (λ r a. with_command _ diff_command _ c.in_ok-diff_command.field-0 r text
-    c.in_ok-diff_command.ensures a) c.subcommand-9.ensures
+    let diff = with_command _ diff_command _ c.in_ok-diff_command.field-0 c.in_ok-subcommand-9.field-0 text
+    c.in_ok-diff_command.ensures c.in_ok-subcommand-9.ensures in
+    IfOk-weaker c.subcommand-10.result _ _ (λ r a. with_command _ explore_command _ c.in_ok-explore_command.field-0 r diff
+    c.in_ok-explore_command.ensures a) c.subcommand-10.ensures
