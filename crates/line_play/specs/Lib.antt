@@ -4,6 +4,7 @@ pub mod InTurn
 pub mod Lines
 pub mod LinkActs
 pub mod Measured
+pub mod Observing
 pub mod Opening
 pub mod SetAnswers
 pub mod SetCounting
@@ -25,4 +26,5 @@ pub mod SetSaying
 pub mod SetSeries
 pub mod SetShowing
 pub mod Told
+pub mod Watching
 pub use Rattle.line_tending.specs.Tended

@@ -18,6 +18,8 @@ pub use set::laws::{
     messages_of_a_selection_keep_their_order, orders_are_read_in_order,
 };
 pub use set::lines::{LineNews, Lines};
+pub use set::observing::{Observer, WatchedLines, WatchedLink};
 pub use set::opening::{SetPlan, open_tender};
 pub use set::orders::{Focus, SetOrder};
 pub use set::state::{Ending, SetState};
+pub use set::watching::book_at;

@@ -27,7 +27,7 @@ pub use ends::Ends;
 pub use group_changeover::{Label, SendError, label_of};
 pub use laws::{a_life_is_by_calls, each_report_is_told_once};
 pub use link_group::{CommandError, DivertError, Group, Sif};
-pub use link_line::{LineChange, LinkLine, miss_line};
+pub use link_line::{LineChange, LinkLine, PATIENCE, SILENT, hear_part, miss_line};
 pub use link_processes::Command;
 pub use ordered::Ordered;
 pub use reader::Reader;

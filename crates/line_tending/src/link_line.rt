@@ -1,20 +1,20 @@
 //! The line of a link of a set.
 ghost use Rattle.std.specs.Prelude.{◌≡◌, ◌<◌, ◌≤◌, ◌++◌, ◌∷◌, [], length, Err, IfOk, OnOk};
 ghost use Rattle.line_tending.specs.Rounds.{Adds};
-ghost use Rattle.line_tending.specs.LinkLines.{GivesNext, Speaks, HearsPart, Hears, SILENT as HEARD, Waits, Passes, IsNewWire};
+ghost use Rattle.line_tending.specs.LinkLines.{GivesNext, Speaks, HearsPart, Hears, SILENT as HEARD, Waits, Passes, IsNewWire, rounds_on};
 
 use crate::tended_set::{TendError, TendedSet};
 use group_changeover::LineError;
 use line_filter::Voice;
 
 /// The rounds without octets after which a line counts as silent.
-const PATIENCE: u64 = 1_000;
+pub const PATIENCE: u64 = 1_000;
 
 /// An octet of 1s.
 const SILENCE: u8 = 255;
 
 /// The octets that a link hears from a silent or missing line.
-const SILENT: [u8; 8] = [SILENCE; 8];
+pub const SILENT: [u8; 8] = [SILENCE; 8];
 
 /// The change of a line in a round.
 #[derive(Clone, Copy, Debug, PartialEq, Eq)]
@@ -35,7 +35,11 @@ pub struct LinkLine {
 }
 
 /// Has a link hear as many of the first octets as it has room for, and heeds its reports. Returns the remaining octets.
-fn hear_part<'a>(
+///
+/// # Errors
+///
+/// If memory runs out, or the set has no such link.
+pub fn hear_part<'a>(
     tender: &mut TendedSet,
     link: usize,
     octets: &'a [u8],
@@ -121,8 +125,33 @@ impl LinkLine {
         }
     }
 
+    /// Counts a round without received octets. Returns how many there are in a row.
+    pub fn miss(&mut self) -> u64
+        ensures quiet { self.new.quiet ≡ rounds_on self.old.quiet }
+        ensures count { result ≡ self.new.quiet }
+        ensures voice { self.new.voice ≡ self.old.voice }
+    {
+        self.quiet = self.quiet.saturating_add(1);
+        self.quiet
+    }
+
+    /// Counts a round in which octets were received. Returns how many rounds without any came before it, in a row.
+    pub fn come(&mut self) -> u64
+        ensures quiet { self.new.quiet ≡ 0 }
+        ensures count { result ≡ self.old.quiet }
+        ensures voice { self.new.voice ≡ self.old.voice }
+    {
+        let quiet = self.quiet;
+        self.quiet = 0;
+        quiet
+    }
+
     /// The next octet to send.
-    fn next(&mut self, tender: &mut TendedSet, link: usize) -> Result<u8, TendError>
+    ///
+    /// # Errors
+    ///
+    /// If memory runs out, or the set has no such link.
+    pub fn next(&mut self, tender: &mut TendedSet, link: usize) -> Result<u8, TendError>
         ensures gives { IfOk result (λ octet. GivesNext link tender.old self.old.voice octet tender.new self.new.voice) }
         ensures adds { Adds tender.old tender.new }
         ensures quiet { self.new.quiet ≡ self.old.quiet }

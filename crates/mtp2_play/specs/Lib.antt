@@ -9,3 +9,4 @@ pub mod Sets
 pub mod Spoken
 pub mod TracedEnds
 pub mod Warned
+pub mod WatchedLinks

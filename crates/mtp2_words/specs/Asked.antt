@@ -1,7 +1,7 @@
 -- The requests of a command line, by the ids of the words in its matches, and the reasons why a
 -- command line requests nothing.
 use Rattle.std.specs.Prelude.{◌≡◌, ◌⊎◌, ℕ, Bool, true, false, List, Option, Some, None, IsSomeAnd}
-use Rattle.std.specs.Prelude.{option_map, option_and_then, codes, map, length}
+use Rattle.std.specs.Prelude.{option_map, option_and_then, codes, map, length, nat_lt}
 use Rattle.std.specs.Borrow.{Bor}
 use Rattle.std.specs.List.{AllZip}
 use Rattle.clap.specs.Words.{Row, Text, all_of, first_of, first_value, found_of}
@@ -119,12 +119,18 @@ pub record AreSetUnderIds (given : Given) (words : SetWords) : Type 0 where
   pub reports : given (codes "reports") ≡ option_map (λ w. w.now) words.reports
   pub capture : given (codes "capture") ≡ option_map (λ w. w.now) words.capture
   pub measures : given (codes "measures") ≡ option_map (λ w. w.now) words.measures
+  pub trace : given (codes "trace") ≡ option_map (λ w. w.now) words.trace
+  pub chart : given (codes "chart") ≡ option_map (λ w. w.now) words.chart
+  pub turns : given (codes "turns") ≡ option_map (λ w. w.now) words.turns
+  pub of : given (codes "of") ≡ option_map (λ w. w.now) words.of
+  pub every : says_true (given (codes "every")) ≡ words.every
   pub bits : given (codes "bits") ≡ option_map (λ w. w.now) words.bits
   pub ahead : given (codes "ahead") ≡ option_map (λ w. w.now) words.ahead
   pub no_test : says_true (given (codes "no-test")) ≡ words.no_test
 
 -- the end of a link set that MODE, --own, --peer, --network, --n1, --n2, --orders, --reports,
--- --capture, --measures, --bits, --ahead and --no-test describe
+-- --capture, --measures, --trace, --chart, --turns, --of, --every, --bits, --ahead and --no-test
+-- describe
 pub record AsksSetEnd (given : Given) (end : SetEnd) : Type 0 where
   pub words : SetWords
   pub under_ids : AreSetUnderIds given words
@@ -184,7 +190,8 @@ IsAsked given (Diff old new) = AsksDiff given old new
 abbrev pub AreNamed : List Named → List Text → Type 0
 AreNamed sets words = AllZip IsNamed sets words
 
--- `check` has the sets of all words of SET, and `set` the lines of all --link
+-- `check` has the sets of all words of SET, and `set` the lines of all --link, one of which is that
+-- of the traced link
 abbrev pub AreAllAsked : List Row → Request → Type 0
 AreAllAsked rows (Check sets warned) = IsSomeAnd (all_of (codes "SET") rows) (AreNamed sets.items)
 AreAllAsked rows (Play set script seen) = Unit {0}
@@ -192,6 +199,7 @@ AreAllAsked rows (Soak script workers) = Unit {0}
 AreAllAsked rows (Line set end) = Unit {0}
 AreAllAsked rows (Tend set lines end) =
     IsSomeAnd (all_of (codes "link") rows) (AreLinesOf lines.items)
+    × (nat_lt end.of (length lines.items) ≡ true)
 AreAllAsked rows (Frame octets) = Unit {0}
 AreAllAsked rows (Draw set process states) = Unit {0}
 AreAllAsked rows (Print set) = Unit {0}
@@ -250,11 +258,18 @@ IsNoSetEndBy given =
     (given (codes "MODE") ≡ None)
     ⊎ ((given (codes "own") ≡ None) ⊎ ((given (codes "peer") ≡ None) ⊎ SaysNoSetEnd given))
 
--- `set`: standard input as --set, words that describe no end, or no lines
+-- there are lines, but none with the number of the traced link
+pub record TracesNone (given : Given) (rows : List Row) : Type 0 where
+  pub end : SetEnd
+  pub asks_end : AsksSetEnd given end
+  pub past : IsSomeAnd (all_of (codes "link") rows) (λ ws. nat_lt end.of (length ws) ≡ false)
+
+-- `set`: standard input as --set, words that describe no end, no lines, or a trace of a link that
+-- isn't there
 abbrev pub IsNoSet : Given → List Row → Type 0
 IsNoSet given rows =
     (given (codes "set") ≡ Some (codes "stdin"))
-    ⊎ (IsNoSetEndBy given ⊎ AreNoLines (all_of (codes "link") rows))
+    ⊎ (IsNoSetEndBy given ⊎ (AreNoLines (all_of (codes "link") rows) ⊎ TracesNone given rows))
 
 -- `frame`: no HEX
 abbrev pub IsNoFrame : Given → Type 0

@@ -127,6 +127,15 @@ with_streams command =
     (with_rule (with_rule command (option_word (codes "orders"))) (option_word (codes "reports")))
     (option_word (codes "capture"))) (option_word (codes "measures"))
 
+-- a command with the options for a trace or a chart of one link of a set
+abbrev pub with_views : App → App
+with_views command =
+    with_rule
+    (with_rule
+    (with_rule
+    (with_rule (with_rule command (option_word (codes "trace"))) (option_word (codes "chart")))
+    (option_word (codes "turns"))) (option_word (codes "of"))) (flag_word (codes "every"))
+
 -- a command with the options for the lines of a set
 abbrev pub with_octets : App → App
 with_octets command =
@@ -136,7 +145,8 @@ with_octets command =
 
 -- `set MODE`, with all options
 abbrev pub set_command : App
-set_command = with_limit_options (with_octets (with_streams (with_links set_begun)))
+set_command =
+    with_limit_options (with_octets (with_views (with_streams (with_links set_begun))))
 
 -- `frame HEX`
 abbrev pub frame_command : App

@@ -5,6 +5,7 @@ use Rattle.script_links.specs.Numbers.{count_of}
 use Rattle.script_links.specs.Orders.{mode_named}
 use Rattle.script_links.specs.resend_store_types.messages.Mode.{Mode}
 use Rattle.mtp2_words.specs.Ends.{bits_of, ahead_named}
+use Rattle.mtp2_words.specs.Seeing.{turns_said}
 use Rattle.mtp2_words.specs.Limits.{messages_of, octets_of}
 use Rattle.mtp2_words.specs.declared.set_ends.SetEnd.{SetEnd}
 use Rattle.mtp2_words.specs.declared.set_ends.SetWords.{SetWords}
@@ -26,6 +27,11 @@ abbrev pub set_ahead_of : Option (List ℕ) → Option ℕ
 set_ahead_of None = Some 64
 set_ahead_of (Some word) = ahead_named word
 
+-- the number of the traced link; the first one if there is no word
+abbrev pub link_of : Option (List ℕ) → Option ℕ
+link_of None = Some 0
+link_of (Some word) = option_and_then (below 16) (count_of word)
+
 -- a link set has 1 to 16 links
 abbrev pub are_few : ℕ → Bool
 are_few links = nat_le 1 links && nat_le links 16
@@ -45,6 +51,11 @@ pub record IsSetEndOf (words : SetWords) (end : SetEnd) : Type 0 where
   pub reports_are : option_map (λ w. w.now) end.reports ≡ option_map (λ w. w.now) words.reports
   pub capture_is : option_map (λ w. w.now) end.capture ≡ option_map (λ w. w.now) words.capture
   pub measures_are : option_map (λ w. w.now) end.measures ≡ option_map (λ w. w.now) words.measures
+  pub trace_is : option_map (λ w. w.now) end.trace ≡ option_map (λ w. w.now) words.trace
+  pub chart_is : option_map (λ w. w.now) end.chart ≡ option_map (λ w. w.now) words.chart
+  pub turns_are : turns_said (option_map (λ w. w.now) words.turns) ≡ Some end.turns
+  pub of_is : link_of (option_map (λ w. w.now) words.of) ≡ Some end.of
+  pub every_is : end.every ≡ words.every
   pub tests_are : end.tests ≡ not words.no_test
 
 -- N1 or N2 is a word that is no limit of the error correction
@@ -62,4 +73,6 @@ IsNoSetEnd words =
     ⊎ (point_named words.own.now ≡ point_named words.peer.now)
     ⊎ (network_of (option_map (λ w. w.now) words.network) ≡ None)
     ⊎ (bits_of (option_map (λ w. w.now) words.bits) ≡ None)
-    ⊎ (set_ahead_of (option_map (λ w. w.now) words.ahead) ≡ None) ⊎ HasNoSetLimit words
+    ⊎ (set_ahead_of (option_map (λ w. w.now) words.ahead) ≡ None)
+    ⊎ (turns_said (option_map (λ w. w.now) words.turns) ≡ None)
+    ⊎ (link_of (option_map (λ w. w.now) words.of) ≡ None) ⊎ HasNoSetLimit words

@@ -2,7 +2,8 @@
 
 use crate::ends::bits_of;
 use crate::limits::{messages_of, octets_of};
-use crate::set_ends::{network_of, point_named, set_ahead_of};
+use crate::seeing::turns_in;
+use crate::set_ends::{are_few, link_of, network_of, point_named, set_ahead_of};
 use clap::ArgMatches;
 use script_links::{Mode, mode_named};
 
@@ -80,7 +81,16 @@ fn set_fault(given: &ArgMatches<'_>) -> &'static str {
     if set_ahead_of(given.get_str("ahead")).is_none() {
         return "--ahead is a number from 0 to 8000";
     }
-    "--link stands 1 to 16 times"
+    if turns_in(given.get_str("turns")).is_none() {
+        return "--turns is A..B, two numbers of turns";
+    }
+    if link_of(given.get_str("of")).is_none() {
+        return "--of is the number of a link";
+    }
+    match given.get_strs("link") {
+        Some(words) if are_few(words) => "--of is the number of a link",
+        _ => "--link stands 1 to 16 times",
+    }
 }
 
 /// The message about the words of a command, if one of them is invalid.

@@ -155,7 +155,7 @@ fn turns_named(word: &str) -> Option<Turns>
 }
 
 /// The turns that a word names; all if there is none.
-fn turns_in(word: Option<&str>) -> Option<Turns>
+pub(crate) fn turns_in(word: Option<&str>) -> Option<Turns>
     ensures { result ≡ turns_said (option_map (λ w. w.now) word.entry) }
 {
     match word {

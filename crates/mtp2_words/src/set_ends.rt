@@ -1,9 +1,10 @@
 //! The words that describe one end of a link set.
 ghost use Rattle.std.specs.Prelude.{◌≡◌, IfSome, IsNone, option_map, length};
-ghost use Rattle.mtp2_words.specs.SetEnds.{point_named, network_of, set_ahead_of, are_few, IsSetEndOf, IsNoSetEnd};
+ghost use Rattle.mtp2_words.specs.SetEnds.{point_named, network_of, set_ahead_of, link_of, are_few, IsSetEndOf, IsNoSetEnd};
 
 use crate::ends::{ahead_named, bits_of};
 use crate::limits::{messages_of, octets_of};
+use crate::seeing::{Turns, turns_in};
 use line_filter::Bits;
 use script_links::{Mode, count, mode_named};
 
@@ -39,6 +40,16 @@ pub struct SetEnd<'a> {
     pub capture: Option<&'a str>,
     /// The file of its measurements, which is written again and again; none if not named.
     pub measures: Option<&'a str>,
+    /// The path for a trace of the processes of one link; no trace if none.
+    pub trace: Option<&'a str>,
+    /// The path for a chart of their turns; no chart if none.
+    pub chart: Option<&'a str>,
+    /// The turns to draw.
+    pub turns: Turns,
+    /// The number of that link, 0 to 15.
+    pub of: usize,
+    /// Whether a capture has every signal unit and a trace every event; else repeats and dull events are omitted.
+    pub every: bool,
     /// Which bit of an octet is sent first.
     pub bits: Bits,
     /// The number of octets of 1s sent on each line before any octet is received, and after each second of silence.
@@ -70,6 +81,16 @@ pub struct SetWords<'a> {
     pub capture: Option<&'a str>,
     /// A file for measurements.
     pub measures: Option<&'a str>,
+    /// A file or a FIFO for a trace of the processes of one link.
+    pub trace: Option<&'a str>,
+    /// A file or a FIFO for a chart of their turns.
+    pub chart: Option<&'a str>,
+    /// Two numbers with two dots between them: the turns to draw; all if none.
+    pub turns: Option<&'a str>,
+    /// Digits, at most 15, the number of that link; 0 if none.
+    pub of: Option<&'a str>,
+    /// Whether a capture has every signal unit, and a trace every event.
+    pub every: bool,
     /// `low` or `high`; `low` if none.
     pub bits: Option<&'a str>,
     /// Digits, at most 8,000; 64 if none.
@@ -111,6 +132,19 @@ pub(crate) fn set_ahead_of(word: Option<&str>) -> Option<usize>
     }
 }
 
+/// The number of the traced link, from its optional word.
+pub(crate) fn link_of(word: Option<&str>) -> Option<usize>
+    ensures { result ≡ link_of (option_map (λ w. w.now) word.entry) }
+{
+    match word {
+        Some(word) => match count(word) {
+            Some(link) if link < 16 => Some(link as usize),
+            _ => None,
+        },
+        None => Some(0),
+    }
+}
+
 /// Whether there are 1 to 16 lines.
 pub(crate) fn are_few(lines: &[&str]) -> bool
     ensures { result ≡ are_few (length lines.now) }
@@ -134,6 +168,8 @@ pub fn set_end<'a>(words: &SetWords<'a>) -> Option<SetEnd<'a>>
     let octets = octets_of(mode, words.n2)?;
     let bits = bits_of(words.bits)?;
     let ahead = set_ahead_of(words.ahead)?;
+    let turns = turns_in(words.turns)?;
+    let of = link_of(words.of)?;
     Some(SetEnd {
         mode,
         own,
@@ -145,6 +181,11 @@ pub fn set_end<'a>(words: &SetWords<'a>) -> Option<SetEnd<'a>>
         reports: words.reports,
         capture: words.capture,
         measures: words.measures,
+        trace: words.trace,
+        chart: words.chart,
+        turns,
+        of,
+        every: words.every,
         bits,
         ahead,
         tests: !words.no_test,

@@ -1,5 +1,5 @@
 //! The words of the command `set`.
-ghost use Rattle.std.specs.Prelude.{◌≡◌, IfOk, IfSome, IsNone, IsSomeAnd, codes};
+ghost use Rattle.std.specs.Prelude.{◌≡◌, IfOk, IfSome, IsNone, IsSomeAnd, codes, nat_lt};
 ghost use Rattle.clap.specs.Words.{all_of, found_of, rows_of};
 ghost use Rattle.mtp2_words.specs.Words.{command_of};
 ghost use Rattle.mtp2_words.specs.Asked.{given_by, IsAsked, AreAllAsked, AsksSetEnd, IsNoSetEndBy, IsNoSet, AreLinesOf, AreNoLines};
@@ -30,6 +30,11 @@ fn end_of<'a>(given: &ArgMatches<'a>) -> Option<SetEnd<'a>>
         reports: given.get_str("reports"),
         capture: given.get_str("capture"),
         measures: given.get_str("measures"),
+        trace: given.get_str("trace"),
+        chart: given.get_str("chart"),
+        turns: given.get_str("turns"),
+        of: given.get_str("of"),
+        every: is_given(given.get_str("every")),
         bits: given.get_str("bits"),
         ahead: given.get_str("ahead"),
         no_test: is_given(given.get_str("no-test")),
@@ -53,6 +58,13 @@ fn lines_of<'a>(alloc: Global, given: &ArgMatches<'a>) -> Result<Option<Vec<&'a 
     }
 }
 
+/// Whether one of so many links has this number.
+fn has_link(link: usize, links: usize) -> bool
+    ensures { result ≡ nat_lt link links }
+{
+    link < links
+}
+
 /// The request of the matches of `set`.
 pub(crate) fn tended<'a>(
     alloc: Global,
@@ -70,7 +82,12 @@ pub(crate) fn tended<'a>(
         return Ok(None);
     };
     match lines_of(alloc, given)? {
-        Some(lines) => Ok(Some(Request::Tend { set, lines, end })),
+        Some(lines) => {
+            if has_link(end.of, lines.len()) {
+                return Ok(Some(Request::Tend { set, lines, end }));
+            }
+            Ok(None)
+        }
         None => Ok(None),
     }
 }

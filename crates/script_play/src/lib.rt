@@ -9,6 +9,7 @@ mod chart_rows;
 mod charts;
 mod columns;
 mod covering;
+mod drawing;
 mod limits;
 mod playing;
 mod seeing;
@@ -17,8 +18,9 @@ mod tracing;
 mod watching;
 
 pub use charts::Cut;
+pub use drawing::Drawing;
 pub use playing::play;
 pub use script_lines::words_in;
-pub use script_seen::{Tracer, front_of, open_tracer};
+pub use script_seen::{Book, Tracer, front_of, open_tracer};
 pub use seeing::{Wanted, play_seen};
 pub use watching::RunSummary;

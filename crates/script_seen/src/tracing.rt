@@ -56,6 +56,13 @@ pub(crate) fn new_tracer(
 }
 
 impl Tracer {
+    /// The process set of the link.
+    pub fn set(&self) -> &Verified
+        ensures { result.now ≡ self.now.again.set }
+    {
+        self.again.set()
+    }
+
     /// Replays a signal from the environment. Returns its trace.
     fn offer(&mut self, alloc: Global, offer: &Offer) -> io::Result<Vec<u8>>
         ensures step { OnOk result (IsStep self.old (event.Offer offer.now) self.new) }

@@ -169,7 +169,7 @@ impl Tracer {
     /// # Errors
     ///
     /// The book's journal was restarted after an event that wasn't replayed here, or memory runs out.
-    pub(crate) fn watch<N: Watcher>(
+    pub fn watch<N: Watcher>(
         &mut self,
         alloc: Global,
         book: &Book,

@@ -9,9 +9,11 @@ ghost use Rattle.line_play.specs.SetObeying.{unselected};
 ghost use Rattle.line_play.specs.SetQueues.{Waited, waiting_in, waited_of, waits_as, any_of, selection_in, MOST_WAITING, PATIENCE as PATIENT, TriesOf, Retries, RetriesFirst, TakesSend, TakesOrder};
 ghost use Rattle.line_filter.specs.Reporting.{waiting_count};
 ghost use Rattle.line_play.specs.SetRounds.{MANY_ANSWERS, MayCome, AttendsAll};
+ghost use Rattle.line_play.specs.Watching.{Watches};
 
 use crate::set::answers::is_blank;
 use crate::set::given::{Given, Said};
+use crate::set::lines::Lines;
 use crate::set::orders::{Focus, SetOrder, owned};
 use crate::set::queue::{Queue, Waiting, selection};
 use crate::set::reported::{says_on, says_report};
@@ -362,17 +364,20 @@ pub(crate) fn goes_on(state: &SetState) -> bool
     }
 }
 
-/// Obeys the orders that are due.
-pub(crate) fn attend<O: Orders, P: Reports>(
+/// Obeys the orders that are due, and shows the set after each.
+pub(crate) fn attend<O: Orders, P: Reports, L: Lines>(
     alloc: Global,
     state: &mut SetState,
     queue: &mut Queue,
     orders: &mut O,
     reports: &mut P,
+    lines: &mut L,
 ) -> io::Result<()>
-    ensures { OnOk result (TellsSuch
+    ensures told { OnOk result (TellsSuch
         (λ bytes. AttendsAll (stood state.old) (waiting_in queue.old) (O.left orders.old) (P.stand reports.old) bytes (stood state.new) (waiting_in queue.new) (O.left orders.new) (P.stand reports.new))
         (P.stand reports.old) (P.stand reports.new)) }
+    ensures traffic { L.traffic lines.new ≡ L.traffic lines.old }
+    ensures watched { OnOk result (Watches L.shown lines.old lines.new) }
 {
     retry_all(alloc, state, queue, reports)?;
     let now = state.tender.now();
@@ -385,6 +390,7 @@ pub(crate) fn attend<O: Orders, P: Reports>(
             Some(order) => take_order(alloc, state, queue, order.as_str(), reports)?,
             None => return Ok(()),
         }
+        lines.look(&state.tender)?;
     }
     Err(io::Error::from(ErrorKind::Other))
 }

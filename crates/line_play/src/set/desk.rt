@@ -3,6 +3,7 @@ ghost use Rattle.std.specs.Prelude.{◌≡◌, length, IfOk};
 ghost use Rattle.line_play.specs.SetDoing.{millisecond_of};
 ghost use Rattle.line_play.specs.SetRounds.{Made, IsRound};
 ghost use Rattle.line_play.specs.SetDesks.{AreNewCounts, AreNewWires, IsNewSetDesk, place_of};
+ghost use Rattle.line_play.specs.Watching.{Sees};
 
 use crate::set::attending::{attend, goes_on};
 use crate::set::lines::Lines;
@@ -127,8 +128,9 @@ impl<O, P> SetDesk<O, P> {
 impl<O: Orders, P: Reports> SetDesk<O, P> {
     /// Makes a round, which is reported to be late by so many milliseconds unless that is 0. Each link receives the
     /// octets of its line, and one octet is sent for each; a tick passes; the links are tended; all reports are made;
-    /// the set acts on the number of messages that wait for their reader; and due orders are obeyed. Returns whether
-    /// the run goes on: not after `quit`, nor once links are stopped after `leave`.
+    /// the set acts on the number of messages that wait for their reader; and due orders are obeyed. The onlooker of
+    /// the lines is shown the set after each of these steps, and at the end of the round. Returns whether the run goes
+    /// on: not after `quit`, nor once links are stopped after `leave`.
     ///
     /// # Errors
     ///
@@ -144,6 +146,7 @@ impl<O: Orders, P: Reports> SetDesk<O, P> {
         ensures made { IfOk result (λ goes_on. Made (λ bytes traffic. IsRound self.old.ahead late (place_of O.left P.stand self.old) bytes traffic goes_on (place_of O.left P.stand self.new))
             (P.stand self.old.reports) (P.stand self.new.reports) (L.traffic lines.old) (L.traffic lines.new)) }
         ensures ahead { self.new.ahead ≡ self.old.ahead }
+        ensures shown { IfOk result (λ goes_on. Sees L.shown self.new.state.tender lines.old lines.new) }
     {
         lines.begin(self.state.tender.now());
         tell_late(alloc, &self.state.tender, late, &mut self.reports)?;
@@ -160,20 +163,22 @@ impl<O: Orders, P: Reports> SetDesk<O, P> {
             out,
             &mut self.reports,
         )?;
-        tick(&mut self.state.tender)?;
-        tend(&mut self.state.tender)?;
+        tick(&mut self.state.tender, lines)?;
+        tend(&mut self.state.tender, lines)?;
         tell_all(alloc, &mut self.state.tender, &mut self.reports)?;
         self.reports.move_on()?;
-        mind(&mut self.state.tender, self.reports.messages())?;
+        mind(&mut self.state.tender, self.reports.messages(), lines)?;
         attend(
             alloc,
             &mut self.state,
             &mut self.queue,
             &mut self.orders,
             &mut self.reports,
+            lines,
         )?;
         self.state.depart(alloc)?;
         tell_all(alloc, &mut self.state.tender, &mut self.reports)?;
+        lines.look(&self.state.tender)?;
         Ok(goes_on(&self.state))
     }
 }

@@ -2,15 +2,17 @@
 ghost use Rattle.std.specs.Prelude.{◌≡◌, ◌<◌, [], length, replicate, IfOk, OnOk};
 ghost use Rattle.line_tending.specs.Readers.{Minds};
 ghost use Rattle.line_tending.specs.Rounds.{Tends, Ticks};
-ghost use Rattle.line_tending.specs.LinkLines.{Hears, Passes, SILENT};
+ghost use Rattle.line_tending.specs.LinkLines.{Hears, Passes, SILENT as HEARD};
 ghost use Rattle.line_play.specs.LineTraffic.{Grows, given, front_of, silence_for};
 ghost use Rattle.line_filter.specs.Reporting.{TellsLines};
 ghost use Rattle.line_play.specs.SetRounds.{Made, PassesOn, Carries, CarriesAt, CarriesAll, late_told};
+ghost use Rattle.line_play.specs.Watching.{Keeps, Watches};
 
 use crate::set::lines::{LineNews, Lines};
 use crate::set::state::{failed, say_of};
+use crate::set::watching::{hear_each, pass_watched};
 use line_filter::Reports;
-use line_tending::{LineChange, LinkLine, TendedSet, miss_line};
+use line_tending::{LineChange, LinkLine, SILENT, TendedSet, miss_line};
 use std::alloc::Global;
 use std::io;
 
@@ -30,16 +32,22 @@ pub(crate) struct SetLine {
 }
 
 /// Passes the octets received on a line to its link. `out` is replaced by the octets to send.
-fn hear(
+fn hear<L: Lines>(
     tender: &mut TendedSet,
     wire: &mut LinkLine,
     line: SetLine,
     came: &[u8],
     out: &mut Vec<u8>,
+    lines: &mut L,
 ) -> io::Result<LineChange>
-    ensures { IfOk result (λ passed. Passes line.link line.plan.ahead came.now tender.old wire.old [] passed tender.new wire.new out.new.items) }
+    ensures passes { IfOk result (λ passed. Passes line.link line.plan.ahead came.now tender.old wire.old [] passed tender.new wire.new out.new.items) }
+    ensures traffic { L.traffic lines.new ≡ L.traffic lines.old }
+    ensures watched { OnOk result (Watches L.shown lines.old lines.new) }
 {
     out.clear();
+    if lines.watches(line.link) {
+        return pass_watched(tender, wire, line, came, out, lines);
+    }
     match wire.pass(tender, line.link, line.plan.ahead, came, out) {
         Ok(passed) => Ok(passed),
         Err(error) => Err(failed(error)),
@@ -48,7 +56,8 @@ fn hear(
 
 /// Sends octets on a line, if there are any.
 fn give_out<L: Lines>(lines: &mut L, link: usize, out: &[u8])
-    ensures { Grows (L.traffic lines.old) (L.traffic lines.new) (given link out.now) }
+    ensures traffic { Grows (L.traffic lines.old) (L.traffic lines.new) (given link out.now) }
+    ensures shown { Keeps L.shown lines.old lines.new }
 {
     if out.is_empty() {
         return;
@@ -66,12 +75,13 @@ fn pass<L: Lines, P: Reports>(
     out: &mut Vec<u8>,
     reports: &mut P,
 ) -> io::Result<()>
-    ensures { OnOk result (Made (λ bytes traffic. PassesOn line.link line.plan.ahead came.now tender.old wire.old bytes traffic tender.new wire.new)
+    ensures made { OnOk result (Made (λ bytes traffic. PassesOn line.link line.plan.ahead came.now tender.old wire.old bytes traffic tender.new wire.new)
         (P.stand reports.old) (P.stand reports.new) (L.traffic lines.old) (L.traffic lines.new)) }
+    ensures watched { OnOk result (Watches L.shown lines.old lines.new) }
 {
     let SetLine { link, plan } = line;
     let alloc = plan.alloc;
-    let passed = hear(tender, wire, line, came, out)?;
+    let passed = hear(tender, wire, line, came, out, lines)?;
     give_out(lines, link, out.as_slice());
     match passed {
         LineChange::Same => Ok(()),
@@ -93,9 +103,14 @@ fn pass<L: Lines, P: Reports>(
 }
 
 /// Makes a round of a line that isn't open: its link receives 1s.
-fn miss(tender: &mut TendedSet, link: usize) -> io::Result<()>
-    ensures { OnOk result (Hears link tender.old SILENT tender.new) }
+fn miss<L: Lines>(tender: &mut TendedSet, link: usize, lines: &mut L) -> io::Result<()>
+    ensures heard { OnOk result (Hears link tender.old HEARD tender.new) }
+    ensures traffic { L.traffic lines.new ≡ L.traffic lines.old }
+    ensures watched { OnOk result (Watches L.shown lines.old lines.new) }
 {
+    if lines.watches(link) {
+        return hear_each(tender, link, &SILENT, lines);
+    }
     match miss_line(tender, link) {
         Ok(()) => Ok(()),
         Err(error) => Err(failed(error)),
@@ -104,7 +119,8 @@ fn miss(tender: &mut TendedSet, link: usize) -> io::Result<()>
 
 /// Sends the octets of 1s with which a line opens.
 fn go_ahead<L: Lines>(lines: &mut L, line: SetLine)
-    ensures { Grows (L.traffic lines.old) (L.traffic lines.new) (replicate line.plan.ahead (silence_for line.link)) }
+    ensures traffic { Grows (L.traffic lines.old) (L.traffic lines.new) (replicate line.plan.ahead (silence_for line.link)) }
+    ensures shown { Keeps L.shown lines.old lines.new }
 {
     for _octet in 0..line.plan.ahead {
         lines.give(line.link, &[255]);
@@ -132,8 +148,9 @@ fn carry<L: Lines, P: Reports>(
     out: &mut Vec<u8>,
     reports: &mut P,
 ) -> io::Result<()>
-    ensures { OnOk result (Made (λ bytes traffic. Carries line.link line.plan.ahead tender.old wire.old bytes traffic tender.new wire.new)
+    ensures made { OnOk result (Made (λ bytes traffic. Carries line.link line.plan.ahead tender.old wire.old bytes traffic tender.new wire.new)
         (P.stand reports.old) (P.stand reports.new) (L.traffic lines.old) (L.traffic lines.new)) }
+    ensures watched { OnOk result (Watches L.shown lines.old lines.new) }
 {
     let SetLine { link, plan } = line;
     let alloc = plan.alloc;
@@ -142,7 +159,7 @@ fn carry<L: Lines, P: Reports>(
             let came = front(part, count);
             pass(tender, wire, lines, line, came, out, reports)
         }
-        LineNews::Closed => miss(tender, link),
+        LineNews::Closed => miss(tender, link, lines),
         LineNews::Ended => say_of(
             alloc,
             tender,
@@ -167,7 +184,7 @@ fn carry<L: Lines, P: Reports>(
     }
 }
 
-/// Makes a round of the line at a place.
+/// Makes a round of the line at a place, and shows the set.
 fn carry_at<L: Lines, P: Reports>(
     tender: &mut TendedSet,
     wires: &mut [LinkLine],
@@ -178,11 +195,13 @@ fn carry_at<L: Lines, P: Reports>(
     reports: &mut P,
 ) -> io::Result<()>
     requires { line.link < length wires.old }
-    ensures { OnOk result (Made (λ bytes traffic. CarriesAt line.link line.plan.ahead tender.old wires.old bytes traffic tender.new wires.new)
+    ensures made { OnOk result (Made (λ bytes traffic. CarriesAt line.link line.plan.ahead tender.old wires.old bytes traffic tender.new wires.new)
         (P.stand reports.old) (P.stand reports.new) (L.traffic lines.old) (L.traffic lines.new)) }
+    ensures watched { OnOk result (Watches L.shown lines.old lines.new) }
 {
     let link = line.link;
-    carry(tender, &mut wires[link], lines, line, part, out, reports)
+    carry(tender, &mut wires[link], lines, line, part, out, reports)?;
+    lines.look(tender)
 }
 
 /// Makes a round of all lines.
@@ -195,8 +214,9 @@ fn carry_all<L: Lines, P: Reports>(
     out: &mut Vec<u8>,
     reports: &mut P,
 ) -> io::Result<()>
-    ensures { OnOk result (Made (λ bytes traffic. CarriesAll plan.ahead tender.old wires.old (length wires.old) bytes traffic tender.new wires.new)
+    ensures made { OnOk result (Made (λ bytes traffic. CarriesAll plan.ahead tender.old wires.old (length wires.old) bytes traffic tender.new wires.new)
         (P.stand reports.old) (P.stand reports.new) (L.traffic lines.old) (L.traffic lines.new)) }
+    ensures watched { OnOk result (Watches L.shown lines.old lines.new) }
 {
     for link in 0..wires.len() {
         let line = SetLine { link, plan };
@@ -215,8 +235,9 @@ pub(crate) fn carry_lines<L: Lines, P: Reports>(
     out: &mut Vec<u8>,
     reports: &mut P,
 ) -> io::Result<()>
-    ensures { OnOk result (Made (λ bytes traffic. CarriesAll plan.ahead tender.old wires.old.items (length wires.old.items) bytes traffic tender.new wires.new.items)
+    ensures made { OnOk result (Made (λ bytes traffic. CarriesAll plan.ahead tender.old wires.old.items (length wires.old.items) bytes traffic tender.new wires.new.items)
         (P.stand reports.old) (P.stand reports.new) (L.traffic lines.old) (L.traffic lines.new)) }
+    ensures watched { OnOk result (Watches L.shown lines.old lines.new) }
 {
     carry_all(
         tender,
@@ -229,32 +250,38 @@ pub(crate) fn carry_lines<L: Lines, P: Reports>(
     )
 }
 
-/// Lets a tick pass.
-pub(crate) fn tick(tender: &mut TendedSet) -> io::Result<()>
-    ensures { OnOk result (Ticks tender.old tender.new) }
+/// Lets a tick pass, and shows the set.
+pub(crate) fn tick<L: Lines>(tender: &mut TendedSet, lines: &mut L) -> io::Result<()>
+    ensures ticks { OnOk result (Ticks tender.old tender.new) }
+    ensures traffic { L.traffic lines.new ≡ L.traffic lines.old }
+    ensures watched { OnOk result (Watches L.shown lines.old lines.new) }
 {
     match tender.tick() {
-        Ok(()) => Ok(()),
+        Ok(()) => lines.look(tender),
         Err(error) => Err(failed(error)),
     }
 }
 
-/// Does the tending of the links.
-pub(crate) fn tend(tender: &mut TendedSet) -> io::Result<()>
-    ensures { OnOk result (Tends tender.old tender.new) }
+/// Does the tending of the links, and shows the set.
+pub(crate) fn tend<L: Lines>(tender: &mut TendedSet, lines: &mut L) -> io::Result<()>
+    ensures tends { OnOk result (Tends tender.old tender.new) }
+    ensures traffic { L.traffic lines.new ≡ L.traffic lines.old }
+    ensures watched { OnOk result (Watches L.shown lines.old lines.new) }
 {
     match tender.tend() {
-        Ok(()) => Ok(()),
+        Ok(()) => lines.look(tender),
         Err(error) => Err(failed(error)),
     }
 }
 
-/// Acts on the number of messages that wait for their reader.
-pub(crate) fn mind(tender: &mut TendedSet, messages: usize) -> io::Result<()>
-    ensures { OnOk result (Minds messages tender.old tender.new) }
+/// Acts on the number of messages that wait for their reader, and shows the set.
+pub(crate) fn mind<L: Lines>(tender: &mut TendedSet, messages: usize, lines: &mut L) -> io::Result<()>
+    ensures minds { OnOk result (Minds messages tender.old tender.new) }
+    ensures traffic { L.traffic lines.new ≡ L.traffic lines.old }
+    ensures watched { OnOk result (Watches L.shown lines.old lines.new) }
 {
     match tender.mind(messages) {
-        Ok(()) => Ok(()),
+        Ok(()) => lines.look(tender),
         Err(error) => Err(failed(error)),
     }
 }

@@ -23,6 +23,36 @@ use std::io::{self, Read, Write};
 use std::rt::Files;
 use std::thread::Threads;
 use std::time::Clock;
+use turn_check::Verified;
+
+/// Returns a trace, before any event, of a terminal that runs a process set, to the file at `path`; `every`: whether
+/// dull events are traced too. A file that can't be opened is reported by its name.
+pub fn open_trace<H: Files<File = File> + Threads + Eprint + AllocGlobal>(
+    host: &H,
+    teller: &Teller<'_, H>,
+    path: &str,
+    every: bool,
+    set: &Verified,
+) -> io::Result<Trace<RecordStream>>
+    ensures new { IfOk result (λ t. IsNewTracer set.now every t.tracer) }
+    ensures whole { IfOk result (λ t. t.trouble ≡ None) }
+{
+    let alloc = host.alloc();
+    let out = match open_records(host, alloc, path) {
+        Ok(out) => out,
+        Err(error) => {
+            teller.tell(path, &error);
+            return Err(error);
+        }
+    };
+    let tracer = open_tracer(alloc, set, every)?;
+    Ok(Trace {
+        alloc,
+        tracer,
+        out,
+        trouble: None,
+    })
+}
 
 /// Returns a new terminal with a trace to the file at `path`; `every`: whether dull events are traced too. A file that
 /// can't be opened is reported by its name.
@@ -37,24 +67,10 @@ pub fn open_traced<H: Files<File = File> + Threads + Eprint + AllocGlobal>(
     ensures none_held { IfOk result (λ t. t.end.held ≡ None) }
     ensures new { IfOk result (λ t. IsNewTracer (ledger_of terminal).set every t.trace.tracer) }
 {
-    let alloc = host.alloc();
-    let out = match open_records(host, alloc, path) {
-        Ok(out) => out,
-        Err(error) => {
-            teller.tell(path, &error);
-            return Err(error);
-        }
-    };
-    let tracer = open_tracer(alloc, terminal.book().set(), every)?;
+    let trace = open_trace(host, teller, path, every, terminal.book().set())?;
     let end = LinkEnd {
         terminal,
         held: None,
-    };
-    let trace = Trace {
-        alloc,
-        tracer,
-        out,
-        trouble: None,
     };
     Ok(TracedEnd { end, trace })
 }
@@ -124,6 +140,32 @@ pub fn serve_traced<T: Write, O: Orders, P: Reports, R: Read, W: Write>(
     run_traced(alloc, desk, end.bits, ahead, reader, writer)
 }
 
+/// Ends a stream of records: waits until pending ones are written, and reports how many were lost, with the millisecond.
+/// Returns the exit status: `status`, or 4 if one couldn't be written or the loss couldn't be reported.
+pub fn end_records<H: Eprint + Clock + AllocGlobal>(
+    host: &H,
+    teller: &Teller<'_, H>,
+    path: &str,
+    name: &str,
+    status: u8,
+    now: u64,
+    out: &mut RecordStream,
+) -> u8
+    ensures { (result ≡ status) ⊎ (result ≡ 4) }
+{
+    if let Err(error) = out.end(host) {
+        return teller.fail(path, &error);
+    }
+    let lost = out.lost();
+    if lost > 0 {
+        let line = format_args!("{now} lost {lost} {name}");
+        if write_line(host.alloc(), &mut teller.errors(), &line).is_err() {
+            return FAILED;
+        }
+    }
+    status
+}
+
 /// Ends a trace: waits until pending lines are written, and reports how often some were lost, with the millisecond.
 /// Returns the exit status: `status`, or 4 if the trace was cut short or the loss couldn't be reported.
 pub fn end_trace<H: Eprint + Clock + AllocGlobal>(
@@ -139,15 +181,5 @@ pub fn end_trace<H: Eprint + Clock + AllocGlobal>(
     if let Some(error) = &trace.trouble {
         return teller.fail(path, error);
     }
-    if let Err(error) = trace.out.end(host) {
-        return teller.fail(path, &error);
-    }
-    let lost = trace.out.lost();
-    if lost > 0 {
-        let line = format_args!("{now} lost {lost} trace");
-        if write_line(host.alloc(), &mut teller.errors(), &line).is_err() {
-            return FAILED;
-        }
-    }
-    status
+    end_records(host, teller, path, "trace", status, now, &mut trace.out)
 }

@@ -6,8 +6,8 @@ ghost use Rattle.mtp2_play.specs.TracedEnds.{FollowsBehind};
 
 use crate::line::order_fronts::order_front;
 use line_filter::{Answer, LineTerminal, Unit};
-use line_play::LinkEnd;
-use script_play::Tracer;
+use line_play::{LinkEnd, Observer};
+use script_play::{Book, Tracer};
 use std::alloc::Global;
 use std::io::{self, ErrorKind, Write};
 
@@ -41,26 +41,35 @@ impl<W> Trace<W> {
     }
 }
 
-impl<W: Write> Trace<W> {
-    /// Traces the events of the end since the last call. An error is kept.
-    fn follow(&mut self, end: &LinkEnd) -> io::Result<()>
-        ensures { OnOk result (Follows (ledger_of end.now.terminal) self.old.tracer self.new.tracer (W.contents self.old.out) (W.contents self.new.out)) }
-    {
-        match self
-            .tracer
-            .follow(self.alloc, end.terminal.book(), &mut self.out)
-        {
+impl<W: Write> Observer for Trace<W> {
+    ghost use Rattle.std.specs.Prelude.{◌≡◌, is_some, true};
+
+    ghost follows = { λ old b new. Follows b old.tracer new.tracer (W.contents old.out) (W.contents new.out) };
+
+    ghost lost = { λ t. is_some t.trouble ≡ true };
+
+    fn follow(&mut self, book: &Book) -> io::Result<()> {
+        match self.tracer.follow(self.alloc, book, &mut self.out) {
             Ok(()) => Ok(()),
             Err(error) => Err(self.fail(error)),
         }
     }
 
+    fn is_lost(&self) -> bool {
+        match &self.trouble {
+            Some(error) => error.kind() == ErrorKind::Other,
+            None => false,
+        }
+    }
+}
+
+impl<W: Write> Trace<W> {
     /// Traces the line of an order, followed by the events of the end since the last call.
     fn follow_order(&mut self, front: &[u8], end: &LinkEnd) -> io::Result<()>
         ensures { OnOk result (FollowsBehind front.now end.now.terminal self.old.tracer self.new.tracer (W.contents self.old.out) (W.contents self.new.out)) }
     {
         match self.out.write_all(front) {
-            Ok(()) => self.follow(end),
+            Ok(()) => self.follow(end.terminal.book()),
             Err(error) => Err(self.fail(error)),
         }
     }
@@ -73,23 +82,23 @@ impl<W: Write> LineTerminal for TracedEnd<W> {
 
     fn unit_out(&mut self) -> io::Result<Option<Unit>> {
         let unit = self.end.unit_out()?;
-        self.trace.follow(&self.end)?;
+        self.trace.follow(self.end.terminal.book())?;
         Ok(unit)
     }
 
     fn line_in(&mut self, octet: u8) -> io::Result<()> {
         self.end.line_in(octet)?;
-        self.trace.follow(&self.end)
+        self.trace.follow(self.end.terminal.book())
     }
 
     fn tick(&mut self) -> io::Result<()> {
         self.end.tick()?;
-        self.trace.follow(&self.end)
+        self.trace.follow(self.end.terminal.book())
     }
 
     fn report(&mut self, alloc: Global) -> io::Result<Option<String>> {
         let report = self.end.report(alloc)?;
-        self.trace.follow(&self.end)?;
+        self.trace.follow(self.end.terminal.book())?;
         Ok(report)
     }
 

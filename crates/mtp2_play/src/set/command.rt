@@ -14,6 +14,7 @@ use crate::set::gauges::Gauges;
 use crate::set::lines::SetLines;
 use crate::set::rounds::{run_on, since_1970};
 use crate::set::tap::SetTap;
+use crate::set::views::{Views, end_views, open_views};
 use crate::text::sets::{own_set, set_word};
 use line_play::{ChosenLimits, Ends, SetPlan, TendedSet, open_tender};
 use line_streams::{
@@ -34,18 +35,18 @@ fn tap_of<H: Files<File = File> + Threads + Eprint + AllocGlobal>(
     teller: &Teller<'_, H>,
     links: usize,
     since: u64,
-    path: Option<&str>,
+    end: &SetEnd<'_>,
 ) -> Result<Option<SetTap>, u8>
     ensures { IfErr result (λ status. status ≡ 4) }
 {
-    let Some(path) = path else {
+    let Some(path) = end.capture else {
         return Ok(None);
     };
     let sink = match open_records(host, host.alloc(), path) {
         Ok(sink) => sink,
         Err(error) => return Err(teller.fail(path, &error)),
     };
-    match SetTap::start(host.alloc(), links, since, sink) {
+    match SetTap::start(host.alloc(), links, since, end.every, sink) {
         Ok(tap) => Ok(Some(tap)),
         Err(error) => Err(teller.fail(path, &error)),
     }
@@ -81,12 +82,13 @@ fn status_of(ran: io::Result<()>, ended: io::Result<()>) -> u8
     }
 }
 
-/// The source of orders, the destination of reports, and the capture.
+/// The source of orders, the destination of reports, the capture, and the views of a link.
 #[derive(Drop)]
 struct Streams<'a, H: Eprint> {
     orders: OrderStream,
     reports: ReportStream<'a, H, Errors<'a, H>>,
     tap: Option<SetTap>,
+    views: Views,
 }
 
 /// Runs a link set on its lines. Returns the exit status.
@@ -105,8 +107,9 @@ fn serve<H: Files<File = File> + Threads + Eprint + Clock + AllocGlobal>(
         orders,
         reports,
         tap,
+        views,
     } = streams;
-    let Ok(mut open_lines) = SetLines::shut(
+    let Ok(lines) = SetLines::shut(
         host,
         teller,
         host.alloc(),
@@ -117,6 +120,7 @@ fn serve<H: Files<File = File> + Threads + Eprint + Clock + AllocGlobal>(
     ) else {
         return FAILED;
     };
+    let mut lines = views.around(lines);
     let mut gauges = Gauges::new(host, teller, end.measures);
     let Ok((ran, desk)) = run_on(
         host,
@@ -124,7 +128,7 @@ fn serve<H: Files<File = File> + Threads + Eprint + Clock + AllocGlobal>(
         end.ahead,
         orders,
         reports,
-        &mut open_lines,
+        &mut lines,
         &mut gauges,
     ) else {
         return FAILED;
@@ -133,7 +137,12 @@ fn serve<H: Files<File = File> + Threads + Eprint + Clock + AllocGlobal>(
     let (_orders, mut reports) = desk.end();
     let ended = reports.end(host, now);
     let status = status_of(ran, ended);
-    end_tap(host, teller, end.capture, open_lines.tap.take(), status)
+    let tapped = end_tap(host, teller, end.capture, lines.lines.lines.tap.take(), status);
+    let views = Views {
+        trace: lines.lines.watched.take(),
+        chart: lines.watched.take(),
+    };
+    end_views(host, teller, end, views, now, tapped)
 }
 
 /// Opens the destination of reports, and reports how the run begins. If something can't be opened, it reports the name
@@ -163,14 +172,15 @@ fn open_told<'a, H: Files<File = File> + Threads + Eprint + AllocGlobal>(
     }
 }
 
-/// Opens the source of orders, the destination of reports and the capture, and reports how the run begins. If something
-/// can't be opened, it reports the name and returns the exit status.
+/// Opens the source of orders, the destination of reports, the capture and the views, and reports how the run begins.
+/// If something can't be opened, it reports the name and returns the exit status.
 fn open_streams<'a, H: Files<File = File> + Threads + Eprint + Clock + AllocGlobal>(
     host: &'a H,
     teller: &Teller<'_, H>,
     links: usize,
     end: &SetEnd<'_>,
     origin: &Origin<'_>,
+    tender: &TendedSet,
 ) -> Result<Streams<'a, H>, u8>
     ensures orders { IfOk result (λ streams. ComeFrom end.now.orders streams.orders) }
     ensures status { IfErr result (λ status. status ≡ 4) }
@@ -183,11 +193,13 @@ fn open_streams<'a, H: Files<File = File> + Threads + Eprint + Clock + AllocGlob
         Err(error) => return Err(teller.fail(end.orders.unwrap_or("orders"), &error)),
     };
     let reports = open_told(host, teller, end, since, origin)?;
-    let tap = tap_of(host, teller, links, since, end.capture)?;
+    let tap = tap_of(host, teller, links, since, end)?;
+    let views = open_views(host, teller, end, tender)?;
     Ok(Streams {
         orders,
         reports,
         tap,
+        views,
     })
 }
 
@@ -203,7 +215,7 @@ fn begin<H: Files<File = File> + Threads + Eprint + Clock + AllocGlobal>(
     ensures ran { result ≡ 0 → RanOn end.now tender }
     ensures status { (result ≡ 0) ⊎ (result ≡ 4) }
 {
-    match open_streams(host, teller, lines.len(), end, origin) {
+    match open_streams(host, teller, lines.len(), end, origin, &tender) {
         Ok(streams) => serve(host, teller, lines, end, tender, streams),
         Err(status) => status,
     }
@@ -285,7 +297,8 @@ fn run_own<H: Files<File = File> + Threads + Eprint + Clock + AllocGlobal>(
 }
 
 /// Runs `set`: one end of a link set on its lines. Returns the exit status. 0: after `quit`, or no line could be opened
-/// for 10 s and all have ended. 2: the text is refused or lacks a name. 4: memory, orders, reports or a line failed.
+/// for 10 s and all have ended. 2: the text is refused or lacks a name. 4: memory, orders, reports, a capture, a trace or a
+/// line failed.
 pub fn run_set<H: Files<File = File> + Threads + Eprint + Clock + AllocGlobal>(
     host: &H,
     teller: &Teller<'_, H>,

@@ -1,10 +1,10 @@
 //! The lines of a set, which threads read and write.
-ghost use Rattle.std.specs.Prelude.{None};
+ghost use Rattle.std.specs.Prelude.{None, ⊤};
 
 use crate::set::inlet::Inlet;
 use crate::set::tap::SetTap;
 use line_filter::Bits;
-use line_play::{LineNews, Lines};
+use line_play::{LineNews, Lines, TendedSet};
 use line_streams::{Departures, Fed, open_both};
 use plain_text::Teller;
 use std::alloc::{AllocError, Global};
@@ -220,6 +220,8 @@ impl<'a, H: Eprint> SetLines<'a, H> {
 impl<H: Files<File = File> + Threads + Eprint> Lines for SetLines<'_, H> {
     ghost traffic = { λ _. None };
 
+    ghost shown = { λ _ _ _. ⊤ };
+
     fn begin(&mut self, now: u64) {
         if let Some(tap) = &mut self.tap {
             tap.begin(now);
@@ -273,5 +275,13 @@ impl<H: Files<File = File> + Threads + Eprint> Lines for SetLines<'_, H> {
             return Err(io::Error::from(ErrorKind::BrokenPipe));
         }
         Ok(true)
+    }
+
+    fn watches(&self, _link: usize) -> bool {
+        false
+    }
+
+    fn look(&mut self, _set: &TendedSet) -> io::Result<()> {
+        Ok(())
     }
 }

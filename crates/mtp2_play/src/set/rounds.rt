@@ -3,6 +3,7 @@ ghost use Rattle.std.specs.Prelude.{◌≡◌, IfOk, OnOk};
 ghost use Rattle.mtp2_play.specs.SetBegins.{late_of, told_of};
 ghost use Rattle.line_play.specs.SetDesks.{Ran, RanFrom, place_of};
 ghost use Rattle.line_play.specs.SetRounds.{Made};
+ghost use Rattle.line_play.specs.Watching.{Sees};
 
 use crate::set::gauges::Gauges;
 use line_filter::{Orders, Reports};
@@ -66,15 +67,16 @@ pub fn since_1970<R: Clock>(rt: &R) -> io::Result<u64> {
 }
 
 /// Makes rounds, each due with a millisecond of the clock, up to `quit`, the end of `leave`, or the end of all lines.
-/// Writes the measurements every 5 s.
+/// Writes the measurements every 5 s. The onlooker of the lines is shown the set up to its last state.
 pub fn go_round<
     H: Files<File = File> + Eprint + Clock + AllocGlobal,
     L: Lines,
     O: Orders,
     P: Reports,
 >(host: &H, desk: &mut SetDesk<O, P>, lines: &mut L, gauges: &mut Gauges<'_, H>) -> io::Result<()>
-    ensures { OnOk result (Made (λ bytes traffic. Ran desk.old.ahead (place_of O.left P.stand desk.old) bytes traffic (place_of O.left P.stand desk.new))
+    ensures made { OnOk result (Made (λ bytes traffic. Ran desk.old.ahead (place_of O.left P.stand desk.old) bytes traffic (place_of O.left P.stand desk.new))
         (P.stand desk.old.reports) (P.stand desk.new.reports) (L.traffic lines.old) (L.traffic lines.new)) }
+    ensures shown { OnOk result (Sees L.shown desk.new.state.tender lines.old lines.new) }
 {
     let begin = Instant::now(host)?;
     let mut part = [0; PART];
@@ -116,7 +118,8 @@ pub fn run_on<
     lines: &mut L,
     gauges: &mut Gauges<'_, H>,
 ) -> Result<(io::Result<()>, SetDesk<O, P>), AllocError>
-    ensures { IfOk result (λ ran. OnOk ran.0 (RanFrom ahead tender (O.left orders) (O.left ran.1.orders) (P.stand reports) (P.stand ran.1.reports) (L.traffic lines.old) (L.traffic lines.new))) }
+    ensures ran { IfOk result (λ ran. OnOk ran.0 (RanFrom ahead tender (O.left orders) (O.left ran.1.orders) (P.stand reports) (P.stand ran.1.reports) (L.traffic lines.old) (L.traffic lines.new))) }
+    ensures shown { IfOk result (λ ran. OnOk ran.0 (Sees L.shown ran.1.state.tender lines.old lines.new)) }
 {
     let mut desk = SetDesk::new(host.alloc(), tender, ahead, orders, reports)?;
     let ran = go_round(host, &mut desk, lines, gauges);

@@ -16,8 +16,8 @@ struct Tapped {
     came: Vec<u8>,
 }
 
-/// A capture of a set's lines: the signal units of each line, from the octets sent and received in the same rounds,
-/// without repeats. A unit has the time of its round.
+/// A capture of a set's lines: the signal units of each line, from the octets sent and received in the same rounds.
+/// A unit has the time of its round.
 #[derive(Drop)]
 pub struct SetTap {
     lines: Vec<Tapped>,
@@ -63,8 +63,8 @@ impl Tapped {
 }
 
 impl SetTap {
-    /// Before the first octet of so many lines, at so many milliseconds since the beginning of 1970. Records are
-    /// written to a sink, which gets pcap's header now.
+    /// Before the first octet of so many lines, at so many milliseconds since the beginning of 1970; `every`: whether
+    /// repeats are captured too. Records are written to a sink, which gets pcap's header now.
     ///
     /// # Errors
     ///
@@ -73,12 +73,13 @@ impl SetTap {
         alloc: Global,
         links: usize,
         since: u64,
+        every: bool,
         sink: RecordStream,
     ) -> io::Result<SetTap> {
         let mut lines = Vec::with_capacity(alloc, links)?;
         for link in 0..links {
             lines.push(Tapped {
-                capture: Capture::new(u16::try_from(link).unwrap_or(u16::MAX), false),
+                capture: Capture::new(u16::try_from(link).unwrap_or(u16::MAX), every),
                 came: Vec::new(alloc),
             })?;
         }

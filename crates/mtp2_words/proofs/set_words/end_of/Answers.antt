@@ -17,9 +17,14 @@ words c = record {
   reports = c.get_str-8.result;
   capture = c.get_str-9.result;
   measures = c.get_str-10.result;
-  bits = c.get_str-11.result;
-  ahead = c.get_str-12.result;
-  no_test = c.is_given.result;
+  trace = c.get_str-11.result;
+  chart = c.get_str-12.result;
+  turns = c.get_str-13.result;
+  of = c.get_str-14.result;
+  every = c.is_given.result;
+  bits = c.get_str-16.result;
+  ahead = c.get_str-17.result;
+  no_test = c.is_given-2.result;
 }
 
 under_ids : (c : goal.After-set_end) → AreSetUnderIds (given_by c.args.given.now) (words c)
@@ -34,9 +39,14 @@ under_ids c = record {
   reports = sym c.get_str-8.ensures;
   capture = sym c.get_str-9.ensures;
   measures = sym c.get_str-10.ensures;
-  bits = sym c.get_str-11.ensures;
-  ahead = sym c.get_str-12.ensures;
-  no_test = ap says_true (sym c.get_str-13.ensures) ∙ sym c.is_given.ensures;
+  trace = sym c.get_str-11.ensures;
+  chart = sym c.get_str-12.ensures;
+  turns = sym c.get_str-13.ensures;
+  of = sym c.get_str-14.ensures;
+  every = ap says_true (sym c.get_str-15.ensures) ∙ sym c.is_given.ensures;
+  bits = sym c.get_str-16.ensures;
+  ahead = sym c.get_str-17.ensures;
+  no_test = ap says_true (sym c.get_str-18.ensures) ∙ sym c.is_given-2.ensures;
 }
 
 pub returns-clause-some : goal.returns-clause-some
