@@ -7,6 +7,8 @@ usage: tools/oracles/plain_trace.py SET SCRIPT [--every]      prints the trace o
            prints which transitions, answers and lines of the text were taken, in lcov's format
        tools/oracles/plain_trace.py SET SCRIPT --thrown
            prints which signals were thrown away in which states, and how often, in the order of the first time
+       tools/oracles/plain_trace.py SET TRACE --again [--every]
+           prints the trace of a link whose environment offers what the lines `offer` of a trace say, at their times
 
 SET and SCRIPT are as plain_term.py has them; the status is that of the script. Lines of a trace, each after the ticks
 gone by:
@@ -477,12 +479,53 @@ def line_seen(text, cyclic, octets, orders, every=False):
     return seen
 
 
+def offered(lines):
+    """The offers of a trace: the time, the actor, the signal and the values."""
+    for line in lines:
+        clock, kind, *rest = line.split(" ")
+        if kind == "offer":
+            yield int(clock), rest[0], rest[1], [plain_play.given(it) for it in rest[2:]]
+
+
+def again(text, lines, every=False):
+    """What is seen of a link whose environment offers what these lines of a trace say, a tick after another; after each
+    tick and each offer its processes run until none can."""
+    seen = SeenBook.seen = Seen(text, every)
+    plain = plain_play.Turn, plain_term.Book
+    plain_play.Turn, plain_term.Book = SeenTurn, SeenBook
+    try:
+        # (what the journal holds is the program's matter)
+        book = seen.book = SeenBook(text, 64, 1024, 2**62)
+
+        def rest():
+            while book.rest():
+                book.ring.clear()
+
+        for clock, actor, signal, values in offered(lines):
+            while book.clock < clock:
+                book.advance(1)
+                rest()
+            book.offer(actor, signal, values)
+            rest()
+        last = max((int(it.split(" ", 1)[0]) for it in lines), default=0)
+        while book.clock < last:
+            book.advance(1)
+            rest()
+    finally:
+        plain_play.Turn, plain_term.Book = plain
+    return seen
+
+
 def main(given):
     if len(given) < 2:
         print(__doc__, file=sys.stderr)
         return 3
     word, path, *options = given
     script = sys.stdin.buffer.read() if path == "stdin" else pathlib.Path(path).read_bytes()
+    if "--again" in options:
+        seen = again(plain_term.text_of(word).encode(), script.decode().splitlines(), "--every" in options)
+        print("\n".join(seen.lines))
+        return 0
     seen, status = seen_of(plain_term.text_of(word).encode(), script, "--every" in options)
     if "--chart" in options:
         cut = options[options.index("--turns") + 1].split("..") if "--turns" in options else ["0", ""]

@@ -25,4 +25,4 @@ mod SetTelling
 mod SetTimes
 mod Turning
 mod Waiting
-mod Watching
+pub mod Watching

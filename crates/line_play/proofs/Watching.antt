@@ -1,7 +1,10 @@
 -- An onlooker is shown steps one after another.
-use Rattle.std.proofs.Common.{◌≡◌, ◌∙◌, ℕ, List, [], ◌∷◌, ◌++◌, append-nil, take, drop, take-append-drop, Option, Some, refl, sym, ap, subst}
+use Rattle.std.proofs.Common.{◌≡◌, ◌∙◌, ℕ, List, [], ◌∷◌, ◌++◌, append-nil, take, drop, take-append-drop, Option, Some, Result, Ok, Err, OnOk, refl, sym, ap, subst}
 use Rattle.line_tending.specs.Tended.{Tended}
 use Rattle.line_tending.specs.LinkLines.{Hears, one_part, HearsPart}
+use Rattle.line_filter.specs.Reporting.{Stand, ToldLine}
+use Rattle.line_play.specs.LineTraffic.{Traffic, Grows}
+use Rattle.line_play.specs.SetRounds.{Made}
 use Rattle.line_play.specs.Watching.{Keeps, Sees, WasShown, Watches}
 
 pub watches_none : {S : Type 0} (shown : S → Option Tended → S → Type 0) (s : S) → Watches shown s s
@@ -28,6 +31,10 @@ seen_last shown set s p q watches sees = λ first last is.
     let was : WasShown shown first p = watches first (record { last = last; is = is }) in
     sees first was.last was.is
 
+-- nothing was shown after the last step
+pub seen_still : {S : Type 0} (shown : S → Option Tended → S → Type 0) (set : Tended) (s p q : S) → Sees shown set s p → Keeps shown p q → Sees shown set s q
+seen_still shown set s p q sees keeps = λ first last is. keeps first (Some set) (sees first last is)
+
 -- a single octet more is heard
 pub heard_octet : (link octet : ℕ) (t u w : Tended) (octets : List ℕ) → Hears link t octets u → HearsPart link u (octet ∷ []) [] w
     → Hears link t (octets ++ octet ∷ []) w
@@ -40,3 +47,20 @@ heard_octet link octet t u w octets before part =
 -- all that was to be heard is the one octet
 pub left_none : (link : ℕ) (t w : Tended) (octets left : List ℕ) → left ≡ [] → HearsPart link t octets left w → HearsPart link t octets [] w
 left_none link t w octets left none part = subst (λ (ys : List ℕ). HearsPart link t octets ys w) none part
+
+-- ---- what is shown changes no traffic
+
+pub grows_to : (f g h : Option (List Traffic)) (xs : List Traffic) → h ≡ g → Grows f g xs → Grows f h xs
+grows_to f g h xs same grows = subst (λ (o : Option (List Traffic)). Grows f o xs) (sym same) grows
+
+pub grows_from : (f g h : Option (List Traffic)) (xs : List Traffic) → g ≡ f → Grows g h xs → Grows f h xs
+grows_from f g h xs same grows = subst (λ (o : Option (List Traffic)). Grows o h xs) same grows
+
+-- what was made stands as more is shown
+pub made_to : (R : List ToldLine → List Traffic → Type 0) (a b : Stand) (f g h : Option (List Traffic)) → h ≡ g → Made R a b f g → Made R a b f h
+made_to R a b f g h same made = subst (λ (o : Option (List Traffic)). Made R a b f o) (sym same) made
+
+pub shown_made : {A E : Type 0} (r : Result A E) (R : List ToldLine → List Traffic → Type 0) (a b : Stand) (f g h : Option (List Traffic)) → h ≡ g → Made R a b f g
+    → OnOk r (Made R a b f h)
+shown_made (Ok x) R a b f g h same made = made_to R a b f g h same made
+shown_made (Err e) R a b f g h same made = tt

@@ -119,6 +119,12 @@ ends_as status result (inl done) (inl same) = inl (omega (arith, done, same))
 ends_as status result (inr four) (inl same) = inr (omega (arith, four, same))
 ends_as status result ran (inr four) = inr four
 
+-- a status that is one before it or 4, as that is
+pub ends_by : (status middle result : ℕ) → (middle ≡ status) ⊎ (middle ≡ 4) → (result ≡ middle) ⊎ (result ≡ 4) → (result ≡ status) ⊎ (result ≡ 4)
+ends_by status middle result (inl one) (inl same) = inl (same ∙ one)
+ends_by status middle result (inr four) (inl same) = inr (same ∙ four)
+ends_by status middle result first (inr four) = inr four
+
 -- ---- `soak`
 
 pub soaked : (known old new : Option (List ℕ)) → IsGiven known (IsSoaked old new) → IsGiven None (IsSoaked old new)

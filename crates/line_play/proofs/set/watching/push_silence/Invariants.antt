@@ -2,5 +2,5 @@ use Rattle.std.proofs.Common.{◌≡◌, ◌++◌, replicate}
 use Rattle.line_tending.specs.LinkLines.{SILENCE}
 use Rattle.line_play.proofs.set.watching.push_silence.Given as goal
 
-abbrev pub invariant-loop-_octet : goal.invariant-loop-_octet
-invariant-loop-_octet l = l.out.items ≡ l.initial.out.items ++ replicate l._octet SILENCE
+abbrev pub invariant-loop-octet : goal.invariant-loop-octet
+invariant-loop-octet l = l.out.items ≡ l.initial.out.items ++ replicate l._octet SILENCE

@@ -1,0 +1,6 @@
+use Rattle.std.proofs.lemmas.Result.{on_ok_weaker}
+use Rattle.line_play.proofs.Watching.{seen}
+use Rattle.line_play.proofs.set.round.tick.Goals as goal
+
+pub returns-in-Ok-clause-watched : goal.returns-in-Ok-clause-watched
+returns-in-Ok-clause-watched g c = on_ok_weaker c.look.result (λ sees. seen _ _ _ _ sees) c.look.ensures.shown
