@@ -39,6 +39,7 @@ def steps():
     yield "readers", OUT / "mtp2_play"
     yield "captures", OUT / "mtp2_play"
     yield "traces", OUT / "mtp2_play"
+    yield "observed", OUT / "mtp2_play"
     yield "acceptance", OUT / "mtp2_play"
     yield "refused_memory", OUT / "mtp2_play"
     yield "level3", OUT / "mtp2_play"

@@ -5,7 +5,7 @@ line is `N passed, M failed`, and the status 0 only if nothing failed.
 usage: tools/quick            all steps
        tools/quick STEP ..
            only these: ready, table, examples, plain, commands, lines, ends, sets, readers, streams, refused_memory,
-           captures, acceptance, level3, cards
+           captures, observed, acceptance, level3, cards
 
 - ready, table: the faults that the gate refuses before any proof is tried, and whether the input of the program trials
   is the one that its tables make.
@@ -17,6 +17,7 @@ usage: tools/quick            all steps
 - streams: reads, writes and threads that fail, and input that is cut or changed, a few of each kind; the gate tries
   more.
 - refused_memory: requests for memory that fail, a few of each kind.
+- observed: one link of a set, traced and drawn.
 - level3: the programs of examples/level3, attached to two ends of a set. cards: a set on channels that behave as those
   of a card, and by a socket. (The package is left to the gate.)
 
@@ -46,6 +47,7 @@ STEPS = {
     "captures": ["steps/captures"],
     "sets": ["steps/sets"],
     "readers": ["steps/readers"],
+    "observed": ["steps/observed"],
     "acceptance": ["steps/acceptance", "q703", "standard"],
     "plain": ["steps/examples", "--plain"],
     "refused_memory": ["steps/refused_memory", "--few"],
