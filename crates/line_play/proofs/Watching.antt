@@ -1,8 +1,10 @@
 -- An onlooker is shown steps one after another.
-use Rattle.std.proofs.Common.{◌≡◌, ◌∙◌, ℕ, List, [], ◌∷◌, ◌++◌, append-nil, take, drop, take-append-drop, Option, Some, Result, Ok, Err, OnOk, refl, sym, ap, subst}
+use Rattle.std.proofs.Common.{◌≡◌, ◌∙◌, ℕ, List, [], ◌∷◌, ◌++◌, ◌+◌, ◌<◌, ◌≤◌, append-nil, length, get_or, take, drop, take-append-drop, Option, Some, Result, Ok, Err, OnOk, refl, sym, ap, subst}
 use Rattle.line_tending.specs.Tended.{Tended}
 use Rattle.line_tending.specs.LinkLines.{Hears, one_part, HearsPart}
 use Rattle.line_filter.specs.Reporting.{Stand, ToldLine}
+use Rattle.std.proofs.lemmas.List.{take_all}
+use Rattle.line_play.proofs.SetDoing.{more_at}
 use Rattle.line_play.specs.LineTraffic.{Traffic, Grows}
 use Rattle.line_play.specs.SetRounds.{Made}
 use Rattle.line_play.specs.Watching.{Keeps, Sees, WasShown, Watches}
@@ -43,6 +45,14 @@ heard_octet link octet t u w octets before part =
     let whole : take n (octet ∷ []) ≡ octet ∷ [] =
     sym (append-nil (take n (octet ∷ []))) ∙ (ap (λ (ys : List ℕ). take n (octet ∷ []) ++ ys) part.left_is ∙ take-append-drop n (octet ∷ [])) in
     subst (λ (ys : List ℕ). Hears link t (octets ++ ys) w) whole (one_part (octet ∷ []) [] before part)
+
+pub heard_more : (link i octet : ℕ) (octets : List ℕ) (t u w : Tended) → i < length octets → octet ≡ get_or octets i octet → Hears link t (take i octets) u
+    → HearsPart link u (octet ∷ []) [] w → Hears link t (take (i + 1) octets) w
+heard_more link i octet octets t u w within is before part =
+    subst (λ (ys : List ℕ). Hears link t ys w) (more_at octets i octet within is) (heard_octet link octet t u w (take i octets) before part)
+
+pub heard_whole : (link i : ℕ) (octets : List ℕ) (t u : Tended) → length octets ≤ i → Hears link t (take i octets) u → Hears link t octets u
+heard_whole link i octets t u whole heard = subst (λ (ys : List ℕ). Hears link t ys u) (take_all i octets whole) heard
 
 -- all that was to be heard is the one octet
 pub left_none : (link : ℕ) (t w : Tended) (octets left : List ℕ) → left ≡ [] → HearsPart link t octets left w → HearsPart link t octets [] w

@@ -1,5 +1,6 @@
 -- The requests of a command's matches, from the meanings of single words.
 use Rattle.std.proofs.Common.{◌≡◌, ◌∙◌, ℕ, ◌+◌, ◌<◌, [], ◌∷◌, ◌++◌, Bor, map, take, length, get_or, List, Option, Some, None, Result, Ok, Err, IfOk, IsNone, IfSome, IsSomeAnd, refl, sym, ap, subst, inl, inr, option_map, option_and_then, box_value, codes, Bool, true, false}
+use Rattle.std.specs.Prelude.{nat_lt}
 use Rattle.std.proofs.lemmas.Option.{none-some, same_Some, IfSome_then}
 use Rattle.std.proofs.lemmas.List.{take_more, map-append, length-map}
 use Rattle.plain_laws.proofs.Pairwise.{zip_push}
@@ -18,7 +19,7 @@ use Rattle.mtp2_words.specs.Words.{command_of, workers_of, AreStdin, IsNamed, Is
 use Rattle.mtp2_text.specs.Own.{word_of, NamesNone}
 use Rattle.mtp2_words.specs.Seeing.{IsSeenBy}
 use Rattle.mtp2_words.specs.declared.seeing.Seeing.{Seeing}
-use Rattle.mtp2_words.specs.Asked.{Given, given_by, given_in, AreAllAsked, AreNamed, AreBothStdin, AreUnderIds, AsksEnd, AsksNothing, IsAsked, IsAskedBy, IsNoPlay, IsNoPrint, IsNoSoak, SaysNothing, AsksDiff, AsksDraw, IsNoDiff, AreSetUnderIds, AsksSetEnd, AreLinesOf, AreNoLines, AreSeenUnder, AsksSeen}
+use Rattle.mtp2_words.specs.Asked.{Given, given_by, given_in, AreAllAsked, AreNamed, AreBothStdin, AreUnderIds, AsksEnd, AsksNothing, IsAsked, IsAskedBy, IsNoPlay, IsNoPrint, IsNoSoak, SaysNothing, AsksDiff, AsksDraw, IsNoDiff, AreSetUnderIds, AsksSetEnd, IsNoSet, IsNoSetEndBy, AreLinesOf, AreNoLines, AreSeenUnder, AsksSeen}
 use Rattle.mtp2_words.specs.declared.seeing.SeeingWords.{SeeingWords}
 use Rattle.mtp2_words.specs.declared.requests.Named.{Named}
 use Rattle.mtp2_words.specs.declared.requests.Request.{Request}
@@ -165,6 +166,22 @@ all_lines given words e few =
     let P : Option (List Text) → Type 0 = λ o. IsSomeAnd o (AreLinesOf words) in
     subst P (e ∙ raw_values-rows (found_of given) (codes "link"))
     (record { few = ap are_few (length-map words (λ (w : Bor Text). w.now)) ∙ few; words_are = refl })
+
+-- the words describe no end
+pub no_set_end : (given : Given) (rows : List Row) → IsNoSetEndBy given → IsNoSet given rows
+no_set_end given rows none = inr (inl none)
+
+-- the lines are there, but none has this number
+past_lines : (o : Option (List Text)) (lines : List (Bor Text)) (of : ℕ) → IsSomeAnd o (AreLinesOf lines) → nat_lt of (length lines) ≡ false
+    → IsSomeAnd o (λ ws. nat_lt of (length ws) ≡ false)
+past_lines None lines of there past = there
+past_lines (Some ws) lines of there past =
+    ap (λ (n : ℕ). nat_lt of n) (ap length (sym there.words_are) ∙ length-map lines (λ (w : Bor Text). w.now)) ∙ past
+
+pub no_such_link : (given : Given) (rows : List Row) (lines : List (Bor Text)) (end : SetEnd) → AsksSetEnd given end
+    → IsSomeAnd (all_of (codes "link") rows) (AreLinesOf lines) → nat_lt end.of (length lines) ≡ false → IsNoSet given rows
+no_such_link given rows lines end asks there past =
+    inr (inr (inr (record { end = end; asks_end = asks; past = past_lines (all_of (codes "link") rows) lines end.of there past })))
 
 -- there are no lines, or too many
 pub too_many_lines : (given : ArgMatches) (words : List (Bor Text)) → Some (map (λ w. w.now) words) ≡ option_map raw_values (matched_of (found_of given) (codes "link"))

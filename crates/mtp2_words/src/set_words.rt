@@ -1,11 +1,11 @@
 //! The words of the command `set`.
 ghost use Rattle.std.specs.Prelude.{◌≡◌, IfOk, IfSome, IsNone, IsSomeAnd, codes, nat_lt};
 ghost use Rattle.clap.specs.Words.{all_of, found_of, rows_of};
-ghost use Rattle.mtp2_words.specs.Words.{command_of};
+ghost use Rattle.mtp2_words.specs.Words.{command_of, IsText};
 ghost use Rattle.mtp2_words.specs.Asked.{given_by, IsAsked, AreAllAsked, AsksSetEnd, IsNoSetEndBy, IsNoSet, AreLinesOf, AreNoLines};
 
 use crate::flags::is_given;
-use crate::requests::Request;
+use crate::requests::{Named, Request};
 use crate::set_ends::{SetEnd, SetWords, are_few, set_end};
 use crate::words::text_of;
 use clap::ArgMatches;
@@ -65,7 +65,34 @@ fn has_link(link: usize, links: usize) -> bool
     link < links
 }
 
+/// The request of the matches of `set`, which name this set and describe this end; none without lines, or if there is
+/// no line of the traced link.
+fn tended_by<'a>(
+    alloc: Global,
+    given: &ArgMatches<'a>,
+    set: Named<'a>,
+    end: SetEnd<'a>,
+) -> Result<Option<Request<'a>>, AllocError>
+    requires set { IsText (given_by given.now (codes "set")) set }
+    requires end { AsksSetEnd (given_by given.now) end }
+    ensures named { IfOk result (λ o. IfSome o (λ r. command_of r ≡ codes "set")) }
+    ensures asked { IfOk result (λ o. IfSome o (IsAsked (given_by given.now))) }
+    ensures all { IfOk result (λ o. IfSome o (AreAllAsked (rows_of (found_of given.now)))) }
+    ensures none { IfOk result (λ o. IsNone o → IsNoSet (given_by given.now) (rows_of (found_of given.now))) }
+{
+    match lines_of(alloc, given)? {
+        Some(lines) => {
+            if !has_link(end.of, lines.len()) {
+                return Ok(None);
+            }
+            Ok(Some(Request::Tend { set, lines, end }))
+        }
+        None => Ok(None),
+    }
+}
+
 /// The request of the matches of `set`.
+#[tactic(auto, using(crate::proofs::Asking::no_set_end))]
 pub(crate) fn tended<'a>(
     alloc: Global,
     given: &ArgMatches<'a>,
@@ -78,16 +105,8 @@ pub(crate) fn tended<'a>(
     let Some(set) = text_of(given.get_str("set")) else {
         return Ok(None);
     };
-    let Some(end) = end_of(given) else {
-        return Ok(None);
-    };
-    match lines_of(alloc, given)? {
-        Some(lines) => {
-            if has_link(end.of, lines.len()) {
-                return Ok(Some(Request::Tend { set, lines, end }));
-            }
-            Ok(None)
-        }
+    match end_of(given) {
+        Some(end) => tended_by(alloc, given, set, end),
         None => Ok(None),
     }
 }

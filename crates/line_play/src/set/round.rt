@@ -275,7 +275,11 @@ pub(crate) fn tend<L: Lines>(tender: &mut TendedSet, lines: &mut L) -> io::Resul
 }
 
 /// Acts on the number of messages that wait for their reader, and shows the set.
-pub(crate) fn mind<L: Lines>(tender: &mut TendedSet, messages: usize, lines: &mut L) -> io::Result<()>
+pub(crate) fn mind<L: Lines>(
+    tender: &mut TendedSet,
+    messages: usize,
+    lines: &mut L,
+) -> io::Result<()>
     ensures minds { OnOk result (Minds messages tender.old tender.new) }
     ensures traffic { L.traffic lines.new ≡ L.traffic lines.old }
     ensures watched { OnOk result (Watches L.shown lines.old lines.new) }

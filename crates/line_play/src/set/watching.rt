@@ -7,8 +7,8 @@ ghost use Rattle.line_play.specs.Watching.{Watches, book_at};
 use crate::set::lines::Lines;
 use crate::set::round::SetLine;
 use crate::set::state::failed;
-use link_processes::Book;
 use line_tending::{LineChange, LinkLine, PATIENCE, SILENT, TendedSet, hear_part};
+use link_processes::Book;
 use std::io::{self, ErrorKind};
 
 /// An octet of 1s.

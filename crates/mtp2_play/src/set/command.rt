@@ -109,15 +109,8 @@ fn serve<H: Files<File = File> + Threads + Eprint + Clock + AllocGlobal>(
         tap,
         views,
     } = streams;
-    let Ok(lines) = SetLines::shut(
-        host,
-        teller,
-        host.alloc(),
-        end.bits,
-        end.ahead,
-        lines,
-        tap,
-    ) else {
+    let Ok(lines) = SetLines::shut(host, teller, host.alloc(), end.bits, end.ahead, lines, tap)
+    else {
         return FAILED;
     };
     let mut lines = views.around(lines);
@@ -137,7 +130,13 @@ fn serve<H: Files<File = File> + Threads + Eprint + Clock + AllocGlobal>(
     let (_orders, mut reports) = desk.end();
     let ended = reports.end(host, now);
     let status = status_of(ran, ended);
-    let tapped = end_tap(host, teller, end.capture, lines.lines.lines.tap.take(), status);
+    let tapped = end_tap(
+        host,
+        teller,
+        end.capture,
+        lines.lines.lines.tap.take(),
+        status,
+    );
     let views = Views {
         trace: lines.lines.watched.take(),
         chart: lines.watched.take(),

@@ -39,9 +39,9 @@ loop-order-preserved g c =
     c.in_ok-order.ensures.may in
     record {
       told = attends_more _ _ _ _ _ _ _ _ _ _ c.now.result _ _ _ c.loop-order.invariant.told (sym c.goes_on.ensures ∙ c.if-not-goes_on.false) c.now.ensures
-    (moved _ _ (sym c.as_str.ensures.value) (λ text. NextIs c.now.result (g.O.Orders.left c.loop-order.orders) text (g.O.Orders.left c.next_order.new.orders)) next)
-    (moved _ _ (sym c.as_str.ensures.value) (λ text. MayCome text (waiting_in c.loop-order.queue) (g.P.Reports.stand c.loop-order.reports)) may)
-    c.in_ok-take_order-in-Some.ensures;
+          (moved _ _ (sym c.as_str.ensures.value) (λ text. NextIs c.now.result (g.O.Orders.left c.loop-order.orders) text (g.O.Orders.left c.next_order.new.orders)) next)
+          (moved _ _ (sym c.as_str.ensures.value) (λ text. MayCome text (waiting_in c.loop-order.queue) (g.P.Reports.stand c.loop-order.reports)) may)
+          c.in_ok-take_order-in-Some.ensures;
       traffic = c.look.ensures.traffic ∙ c.loop-order.invariant.traffic;
       watched = watches_then _ _ _ _ c.loop-order.invariant.watched (seen _ _ _ _ c.in_ok-look.ensures.shown);
     }
