@@ -12,8 +12,8 @@ use Rattle.mtp2_play.specs.declared.line.traces.Trace.{Trace}
 use Rattle.mtp2_play.specs.declared.set.charting.Charting.{Charting}
 
 -- a trace before any event, of the link that the words name
-pub record IsNewTraceOf {W : Type 0} (end : SetEnd) (set : Tended) (watched : WatchedLink (Trace W)) :
-    Type 0 where
+pub record IsNewTraceOf {W : Type 0} (end : SetEnd) (set : Tended)
+    (watched : WatchedLink (Trace W)) : Type 0 where
   pub link_is : watched.link ≡ end.of
   pub new : IsSomeAnd (book_at set end.of)
       (λ b. IsNewTracer b.set end.every watched.observer.tracer)
@@ -32,11 +32,13 @@ pub record IsNewChartOf {W : Type 0} (end : SetEnd) (set : Tended)
   pub whole : watched.observer.trouble ≡ None
 
 -- the chart that the words request, if they do
-abbrev pub IsNewChart : {W : Type 0} → SetEnd → Tended → Option (WatchedLink (Charting W)) → Type 0
+abbrev pub IsNewChart :
+    {W : Type 0} → SetEnd → Tended → Option (WatchedLink (Charting W)) → Type 0
 IsNewChart end set None = (is_some end.chart ≡ false) ⊎ (book_at set end.of ≡ None)
 IsNewChart end set (Some watched) = IsNewChartOf end set watched
 
 -- the trace that the words request, if they do
-abbrev pub IsNewTrace : {W : Type 0} → SetEnd → Tended → Option (WatchedLink (Trace W)) → Type 0
+abbrev pub IsNewTrace :
+    {W : Type 0} → SetEnd → Tended → Option (WatchedLink (Trace W)) → Type 0
 IsNewTrace end set None = (is_some end.trace ≡ false) ⊎ (book_at set end.of ≡ None)
 IsNewTrace end set (Some watched) = IsNewTraceOf end set watched

@@ -5,6 +5,7 @@ use Rattle.turn_code.specs.declared.draft.Draft.{Draft}
 use Rattle.actor_machine.specs.Kept.{opened_book}
 use Rattle.actor_machine.specs.Ledger.{Ledger, next, state_of}
 use Rattle.script_seen.specs.Traced.{since, are_in_step}
+use Rattle.script_seen.specs.TracedActs.{traced_set}
 use Rattle.script_seen.specs.TracedKinds.{IsAtStart}
 use Rattle.script_seen.specs.Watched.{Notice, turns_in, noticed_in}
 use Rattle.script_seen.specs.WatchedKinds.{IsMoved}
@@ -14,7 +15,7 @@ use Rattle.script_play.specs.declared.drawing.Drawing.{Drawing}
 
 -- the process set of the link
 abbrev pub set_of : Drawing → Draft
-set_of x = x.tracer.again.set
+set_of x = traced_set x.tracer
 
 -- a chart of a terminal that runs a process set, before any event
 pub record IsNewDrawing (d : Draft) (cut : Cut) (x : Drawing) : Type 0 where

@@ -5,7 +5,8 @@ ghost use Rattle.script_play.specs.Charted.{Charts, chart_text};
 ghost use Rattle.script_play.specs.Drawn.{Draws, IsNewDrawing, set_of};
 
 use crate::charts::{Chart, Cut};
-use script_seen::{Book, Tracer, open_tracer};
+use actor_book::Book;
+use script_seen::{Tracer, open_tracer};
 use std::alloc::{AllocError, Global};
 use std::io;
 use turn_check::Verified;

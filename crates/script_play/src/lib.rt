@@ -21,6 +21,6 @@ pub use charts::Cut;
 pub use drawing::Drawing;
 pub use playing::play;
 pub use script_lines::words_in;
-pub use script_seen::{Book, Tracer, front_of, open_tracer};
+pub use script_seen::{Tracer, front_of, open_tracer};
 pub use seeing::{Wanted, play_seen};
 pub use watching::RunSummary;

@@ -16,6 +16,10 @@ pub record IsNewTracer (d : Draft) (every : Bool) (t : Tracer) : Type 0 where
   pub every_is : t.every ≡ every
   pub start : IsAtStart (opened_book d MOST_PORT MOST_ENVIRONMENT MOST_JOURNAL) t
 
+-- the process set of a tracer
+abbrev pub traced_set : Tracer → Draft
+traced_set t = t.again.set
+
 -- the events of a book since the last call are traced and written, none of them lost; then the
 -- tracer is in step with the book
 pub record Follows (b : Ledger) (old new : Tracer) (from to : Option (List ℕ)) : Type 0 where

@@ -18,7 +18,6 @@ mod watched_books;
 mod watched_terminals;
 mod watching;
 
-pub use actor_book::Book;
 pub use books::show_book;
 pub use events::{same_trigger, trigger_of};
 pub use fronts::front_of;

@@ -5,9 +5,10 @@ ghost use Rattle.script_play.specs.TracedActs.{Follows};
 ghost use Rattle.mtp2_play.specs.TracedEnds.{FollowsBehind};
 
 use crate::line::order_fronts::order_front;
+use actor_book::Book;
 use line_filter::{Answer, LineTerminal, Unit};
 use line_play::{LinkEnd, Observer};
-use script_play::{Book, Tracer};
+use script_play::Tracer;
 use std::alloc::Global;
 use std::io::{self, ErrorKind, Write};
 

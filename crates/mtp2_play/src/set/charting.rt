@@ -7,11 +7,12 @@ ghost use Rattle.script_play.specs.Watched.{Notice, turns_in};
 ghost use Rattle.mtp2_play.specs.WatchedLinks.{cut_of};
 
 use crate::line::traced::end_records;
+use actor_book::Book;
 use line_play::Observer;
 use line_streams::{RecordStream, open_records};
 use mtp2_words::Turns;
 use plain_text::Teller;
-use script_play::{Book, Cut, Drawing};
+use script_play::{Cut, Drawing};
 use std::alloc::Global;
 use std::fs::File;
 use std::io::{self, ErrorKind, Write};
