@@ -1,12 +1,14 @@
 -- An onlooker is shown steps one after another.
-use Rattle.std.proofs.Common.{◌≡◌, ◌∙◌, ℕ, List, [], ◌∷◌, ◌++◌, ◌+◌, ◌<◌, ◌≤◌, append-nil, length, get_or, take, drop, take-append-drop, Option, Some, Result, Ok, Err, OnOk, refl, sym, ap, subst}
+use Rattle.std.proofs.Common.{◌≡◌, ◌∙◌, ℕ, List, [], ◌∷◌, ◌++◌, ◌+◌, ◌<◌, ◌≤◌, append-nil, length, get_or, slice_set, take, drop, take-append-drop, Option, Some, Result, Ok, Err, OnOk, refl, sym, ap, subst}
 use Rattle.line_tending.specs.Tended.{Tended}
 use Rattle.line_tending.specs.LinkLines.{Hears, one_part, HearsPart}
 use Rattle.line_filter.specs.Reporting.{Stand, ToldLine}
 use Rattle.std.proofs.lemmas.List.{take_all}
 use Rattle.line_play.proofs.SetDoing.{more_at}
 use Rattle.line_play.specs.LineTraffic.{Traffic, Grows}
-use Rattle.line_play.specs.SetRounds.{Made}
+use Rattle.line_play.specs.SetRounds.{Made, Carries, CarriesAt}
+use Rattle.line_play.proofs.SetRounds.{carried_at}
+use Rattle.line_tending.specs.declared.link_line.LinkLine.{LinkLine}
 use Rattle.line_play.specs.Watching.{Keeps, Sees, WasShown, Watches}
 
 pub watches_none : {S : Type 0} (shown : S → Option Tended → S → Type 0) (s : S) → Watches shown s s
@@ -74,3 +76,8 @@ pub shown_made : {A E : Type 0} (r : Result A E) (R : List ToldLine → List Tra
     → OnOk r (Made R a b f h)
 shown_made (Ok x) R a b f g h same made = made_to R a b f g h same made
 shown_made (Err e) R a b f g h same made = tt
+
+pub carried_here : (link ahead : ℕ) (t u : Tended) (ws : List LinkLine) (d x : LinkLine) (a b : Stand) (f g : Option (List Traffic)) → link < length ws
+    → Made (λ bytes traffic. Carries link ahead t (get_or ws link d) bytes traffic u x) a b f g
+    → Made (λ bytes traffic. CarriesAt link ahead t ws bytes traffic u (slice_set ws link x)) a b f g
+carried_here link ahead t u ws d x a b f g within made = carried_at {A = ℕ} {E = ℕ} (Ok 0) link ahead t u ws d x a b f g within made

@@ -9,4 +9,4 @@ pub mod Lives
 mod Passing
 mod Printing
 mod Reading
-mod Speaking
+pub mod Speaking

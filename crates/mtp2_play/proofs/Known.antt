@@ -1,5 +1,5 @@
 -- A property of bytes that may be known holds of some bytes.
-use Rattle.std.proofs.Common.{subst, sym, ◌≡◌, ◌⊎◌, ℕ, Bool, true, false, true≢false, is_ok, OnOk, inl, inr, List, Option, None, Some, Result, Ok, Err, IfOk, IfErr, rules, arith}
+use Rattle.std.proofs.Common.{subst, sym, ◌≡◌, ◌∙◌, ◌⊎◌, ℕ, Bool, true, false, true≢false, is_ok, OnOk, inl, inr, List, Option, None, Some, Result, Ok, Err, IfOk, IfErr, rules, arith}
 use Rattle.script_check.specs.Checked.{IsGiven, PrintsCosts, PrintsRefusal}
 use Rattle.script_play.specs.Played.{IsOnSet, IsPlayed, IsPlayedInPart, IsNotRun, IsRefused, set_refused, script_refused}
 use Rattle.script_play.specs.Seen.{IsPlaySeen, IsPlaySeenInPart, IsWatched, IsWatchedInPart}

@@ -92,7 +92,6 @@ fn tended_by<'a>(
 }
 
 /// The request of the matches of `set`.
-#[tactic(auto, using(crate::proofs::Asking::no_set_end))]
 pub(crate) fn tended<'a>(
     alloc: Global,
     given: &ArgMatches<'a>,

@@ -110,6 +110,46 @@ impl Views {
     }
 }
 
+/// Ends the trace of a link, if there is one. Returns the exit status: `status`, or 4.
+fn end_traced<H: Eprint + Clock + AllocGlobal>(
+    host: &H,
+    teller: &Teller<'_, H>,
+    path: Option<&str>,
+    link: Option<WatchedLink<Trace<RecordStream>>>,
+    now: u64,
+    status: u8,
+) -> u8
+    ensures { (result ≡ status) ⊎ (result ≡ 4) }
+{
+    match link {
+        Some(mut link) => {
+            let path = path.unwrap_or("trace");
+            end_trace(host, teller, path, status, now, &mut link.observer)
+        }
+        None => status,
+    }
+}
+
+/// Ends the chart of a link, if there is one. Returns the exit status: `status`, or 4.
+fn end_charted<H: Eprint + Clock + AllocGlobal>(
+    host: &H,
+    teller: &Teller<'_, H>,
+    path: Option<&str>,
+    link: Option<WatchedLink<Charting<RecordStream>>>,
+    now: u64,
+    status: u8,
+) -> u8
+    ensures { (result ≡ status) ⊎ (result ≡ 4) }
+{
+    match link {
+        Some(mut link) => {
+            let path = path.unwrap_or("chart");
+            end_chart(host, teller, path, status, now, &mut link.observer)
+        }
+        None => status,
+    }
+}
+
 /// Ends the views. Returns the exit status: `status`, or 4.
 pub fn end_views<H: Eprint + Clock + AllocGlobal>(
     host: &H,
@@ -122,18 +162,6 @@ pub fn end_views<H: Eprint + Clock + AllocGlobal>(
     ensures { (result ≡ status) ⊎ (result ≡ 4) }
 {
     let Views { trace, chart } = views;
-    let traced = match trace {
-        Some(mut link) => {
-            let path = end.trace.unwrap_or("trace");
-            end_trace(host, teller, path, status, now, &mut link.observer)
-        }
-        None => status,
-    };
-    match chart {
-        Some(mut link) => {
-            let path = end.chart.unwrap_or("chart");
-            end_chart(host, teller, path, traced, now, &mut link.observer)
-        }
-        None => traced,
-    }
+    let traced = end_traced(host, teller, end.trace, trace, now, status);
+    end_charted(host, teller, end.chart, chart, now, traced)
 }

@@ -4,3 +4,6 @@ use Rattle.line_play.proofs.set.round.mind.Goals as goal
 
 pub returns-in-Ok-clause-watched : goal.returns-in-Ok-clause-watched
 returns-in-Ok-clause-watched g c = on_ok_weaker c.look.result (λ sees. seen _ _ _ _ sees) c.look.ensures.shown
+
+pub returns-in-Ok-clause-minds : goal.returns-in-Ok-clause-minds
+returns-in-Ok-clause-minds g c = on_ok_weaker c.look.result (λ sees. c.in-Ok.ensures) c.look.ensures.shown
