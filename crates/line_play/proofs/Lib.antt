@@ -1,6 +1,7 @@
 mod KeepsOrder
 mod Measures
 mod NoSets
+mod Observing
 mod SetAnswered
 mod SetAnswering
 mod SetAnswers
