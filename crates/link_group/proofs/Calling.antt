@@ -29,10 +29,11 @@ use Rattle.link_group.specs.Moving.{retrieval_by}
 use Rattle.link_group.specs.Set.{LinkSet, points_of, send_fault, send_fault_by, change_by, sent, bound_at}
 use Rattle.link_group.specs.Changing.{retrieve_fault_at, after_retrieve, messages_for, abandon_fault_at, after_abandon, unsent_at}
 use Rattle.link_group.specs.Laws.{held_by, held_at}
-use Rattle.link_group.specs.Reached.{Gone, acknowledged, unsure, messages_gone, told_front, unacknowledged_at, first_of}
+use Rattle.link_group.specs.declared.gone.Gone.{Gone}
+use Rattle.link_group.specs.Gone.{acknowledged, unsure, messages_gone, told_front, unacknowledged_at, first_of}
 use Rattle.link_group.proofs.Getting.{change_here, change_other, held_changed}
 use Rattle.link_group.proofs.Fitting.{IsSmall, none_small, FitsAvailability, FitsLink, Alike, fits_there, fits_change, fits_changed, fits_held, back_small}
-use Rattle.link_group.proofs.Staying.{Stays, gone_marked, at_one, leaves, quiet}
+use Rattle.link_group.proofs.Staying.{Stays, listed, gone_marked, at_one, leaves, quiet}
 
 -- ---- retrievals
 
@@ -134,7 +135,8 @@ pub stays_sent : (laws : StepsKeepPlaces) (c : LinkSet) (retrievals : ℕ → Li
 unfolding send_fault sent
 stays_sent laws c retrievals accepted gone m stays free small =
     let first = row_passes (is_bound (points_of c) m) send.Bound _ free in
-    send_by laws c retrievals accepted gone m (link_of c.table (selection_of m)) stays refl first.1 small first.0
+    listed (record c { links = change_by c.links (link_of c.table (selection_of m)) (puts m) }) (c.accepted ++ m ∷ []) c.gone retrievals (accepted ++ m ∷ []) gone
+    (send_by laws c retrievals accepted gone m (link_of c.table (selection_of m)) stays refl first.1 small first.0)
 
 -- ---- a message bound to a link
 
@@ -278,7 +280,9 @@ pub stays_retrieved : (laws : StepsKeepPlaces) (law : KeptLaw) (c : LinkSet) (re
     → retrieve_fault_at c l ≡ None
     → Stays (after_retrieve c l) (with_retrieval_of retrievals l (messages_for c l)) accepted (gone ++ acknowledged (told_front (slice_get c.links l)))
 unfolding retrieve_fault_at after_retrieve messages_for
-stays_retrieved laws law c retrievals accepted gone l stays e = retrieves_by laws law c retrievals accepted gone l (slice_get c.links l) stays refl e
+stays_retrieved laws law c retrievals accepted gone l stays e =
+    listed (record c { links = change c.links l handed }) c.accepted (c.gone ++ acknowledged (told_front (slice_get c.links l))) _ accepted _
+    (retrieves_by laws law c retrievals accepted gone l (slice_get c.links l) stays refl e)
 
 -- ---- sent messages are given up
 
@@ -324,4 +328,7 @@ pub stays_abandoned : (laws : StepsKeepPlaces) (law : KeptLaw) (c : LinkSet) (re
     → abandon_fault_at c l ≡ None
     → Stays (after_abandon c l) (with_retrieval_of retrievals l (unsent_at c l)) accepted (gone ++ unsure (unacknowledged_at (slice_get c.links l)))
 unfolding abandon_fault_at after_abandon unsent_at
-stays_abandoned laws law c retrievals accepted gone l stays e = abandons_by laws law c retrievals accepted gone l _ (slice_get c.links l) stays refl e
+stays_abandoned laws law c retrievals accepted gone l stays e =
+    let count = min (2 ^ 64 - 1) (c.unsure + sent_by (slice_get c.links l)) in
+    listed (record c { links = change c.links l given_up; unsure = count }) c.accepted (c.gone ++ unsure (unacknowledged_at (slice_get c.links l))) _ accepted _
+    (abandons_by laws law c retrievals accepted gone l count (slice_get c.links l) stays refl e)

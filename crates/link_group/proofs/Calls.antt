@@ -14,6 +14,7 @@ use Rattle.link_group.specs.Doing.{Listened, Sent, began, unbegun, leaves_out, a
 use Rattle.link_term.specs.Hearing.{Hears}
 use Rattle.link_term.specs.Laws.{accepted_along}
 use Rattle.link_group.specs.Set.{LinkSet}
+use Rattle.link_group.specs.Gone.{acknowledged, left_of}
 use Rattle.link_group.specs.Lines.{ByLink, seen}
 use Rattle.link_group.specs.Ends.{Ends, Lives, place_behind, near_else, far_else}
 use Rattle.link_group.specs.Along.{units_along, Arrive}
@@ -30,7 +31,7 @@ unfolding seen
 seen_links l c = refl
 
 pub behind_links : (did : Link → Link → Type 0) (i : ℕ) (c e : LinkSet) (by : ByLink did i c e) → e.links ≡ change by.links i asked
-behind_links did i c e by = ap (λ (y : LinkSet). y.links) by.set ∙ seen_links i (record c { links = by.links })
+behind_links did i c e by = ap (λ (y : LinkSet). y.links) by.set ∙ seen_links i (record c { links = by.links; gone = c.gone ++ acknowledged (left_of by.at.before by.at.after) })
 
 -- After a call it was read whether the link came into service and restarted.
 abbrev pub asked_end : TransceiverState → TransceiverState

@@ -1,6 +1,8 @@
 -- Refused commands.
 use Rattle.std.proofs.Common.{◌≡◌, ℕ, List, Option, Some, None, slice_set, refl, sym, ap, ◌∙◌, subst}
+use Rattle.resend_store.specs.declared.messages.Msu.{Msu}
 use Rattle.link_processes.specs.declared.commands.Command.{Command}
+use Rattle.link_group.specs.declared.gone.Gone.{Gone}
 use Rattle.link_group.specs.declared.commanding.CommandError.{CommandError}
 use Rattle.link_group.specs.declared.commanding.CommandError.TheVariants as error
 use Rattle.link_group.specs.declared.link.Link.{Link}
@@ -32,13 +34,13 @@ error_at command l c ks error.NoMemory at =
     let here : AtLink (Lacks command) l c.links ks = record { before = at.before; there = at.there; after = at.after; links = at.links; was = at.was } in
     (alone (Lacks command) l c ks here, same_set c ks (unchanged (Lacks command) l c ks here here.was.same))
 
-pub command_error : (command : Command) (l : ℕ) (c d : LinkSet) (ks new mid : List Link) (own peer unsure : ℕ) (table : List (Option ℕ)) (f : CommandError)
-    → d ≡ record { own = own; peer = peer; links = mid; table = table; unsure = unsure } → AtLink (Commands command (Some f)) l ks new → mid ≡ new → ks ≡ c.links
-    → c.own ≡ own → c.peer ≡ peer → c.table ≡ table → c.unsure ≡ unsure → IsCommandError command l c d f
-command_error command l c d ks new mid own peer unsure table f is at m same o p t u =
-    let whole : record c { links = new } ≡ d = sym (rw (o, p, t, u, sym m) is) in
-    subst (λ (x : LinkSet). IsCommandError command l c x f) whole
-    (error_at command l c new f (subst (λ (xs : List Link). AtLink (Commands command (Some f)) l xs new) same at))
+pub command_error : (command : Command) (l : ℕ) (c d : LinkSet) (ks new mid : List Link) (own peer unsure : ℕ) (accepted : List Msu) (gone : List Gone) (table : List (Option ℕ)) (f : CommandError)
+    → d ≡ over own peer unsure accepted gone table mid → AtLink (Commands command (Some f)) l ks new → mid ≡ new → c ≡ over own peer unsure accepted gone table ks → IsCommandError command l c d f
+command_error command l c d ks new mid own peer unsure accepted gone table f is at same was =
+    let b : LinkSet = over own peer unsure accepted gone table ks in
+    let whole : record b { links = new } ≡ d = ap (λ (xs : List Link). over own peer unsure accepted gone table xs) (sym same) ∙ sym is in
+    subst (λ (x : LinkSet). IsCommandError command l x d f) (sym was)
+    (subst (λ (x : LinkSet). IsCommandError command l b x f) whole (error_at command l b new f at))
 
 pub commanded : (command : Command) (l : ℕ) (ks new : List Link) → AtLink (Commands command None) l ks new → AtLink (Commanded command) l ks new
 commanded command l ks new at = record { before = at.before; there = at.there; after = at.after; links = at.links; was = at.was }
@@ -51,8 +53,8 @@ error_live command l c d error.Waiting is live = live_same c d is.1 live
 error_live command l c d (error.Refused r) is live = refused_alone command r l c d is live
 error_live command l c d error.NoMemory is live = live_same c d is.1 live
 
-pub live_error : (command : Command) (l own peer unsure : ℕ) (table : List (Option ℕ)) (old new mid : List Link) (f : CommandError) → mid ≡ new → AtLink (Commands command (Some f)) l old new
-    → Live (over own peer unsure table old) → Live (over own peer unsure table mid)
-live_error command l own peer unsure table old new mid f same at live =
-    subst (λ (xs : List Link). Live (over own peer unsure table xs)) (sym same)
-    (error_live command l (over own peer unsure table old) (over own peer unsure table new) f (error_at command l (over own peer unsure table old) new f at) live)
+pub live_error : (command : Command) (l own peer unsure : ℕ) (accepted : List Msu) (gone : List Gone) (table : List (Option ℕ)) (old new mid : List Link) (f : CommandError) → mid ≡ new → AtLink (Commands command (Some f)) l old new
+    → Live (over own peer unsure accepted gone table old) → Live (over own peer unsure accepted gone table mid)
+live_error command l own peer unsure accepted gone table old new mid f same at live =
+    subst (λ (xs : List Link). Live (over own peer unsure accepted gone table xs)) (sym same)
+    (error_live command l (over own peer unsure accepted gone table old) (over own peer unsure accepted gone table new) f (error_at command l (over own peer unsure accepted gone table old) new f at) live)

@@ -23,7 +23,9 @@ use Rattle.link_group.specs.Lines.{seen, all_seen, after_admission, ByLink, ByCo
 use Rattle.link_group.specs.Ticks.{with_room, after_ticks}
 use Rattle.link_group.specs.New.{new_set}
 use Rattle.link_group.specs.Laws.{unsure_in, UnsureAreCounted}
-use Rattle.link_group.specs.Reached.{Gone, acknowledged, unsure, unacknowledged_at, told_front, Reached, opens, sends, binds, fails, hears, retrieves, abandons, diverts, rebalances, listens, speaks, gives, reports, commands, refuses, ticks, makes_room, lacks_room, admits}
+use Rattle.link_group.specs.declared.gone.Gone.{Gone}
+use Rattle.link_group.specs.Gone.{acknowledged, unsure, left_of, unacknowledged_at, told_front}
+use Rattle.link_group.specs.Reached.{Reached, opens, sends, binds, fails, hears, retrieves, abandons, diverts, rebalances, listens, speaks, gives, reports, commands, refuses, ticks, makes_room, lacks_room, admits}
 
 -- ---- messages that left
 
@@ -91,7 +93,7 @@ unfolding after_admission
 admitted_same c l way = refl
 
 link_same : (did : Link → Link → Type 0) (l : ℕ) (c d : LinkSet) → ByLink did l c d → d.unsure ≡ c.unsure
-link_same did l c d by = ap (λ (x : LinkSet). x.unsure) by.set ∙ seen_same l (record c { links = by.links })
+link_same did l c d by = ap (λ (x : LinkSet). x.unsure) by.set ∙ seen_same l (record c { links = by.links; gone = c.gone ++ acknowledged (left_of by.at.before by.at.after) })
 
 alone_same : (did : Link → Link → Type 0) (l : ℕ) (c d : LinkSet) → Alone did l c d → d.unsure ≡ c.unsure
 alone_same did l c d by = ap (λ (x : LinkSet). x.unsure) by.set
@@ -142,7 +144,7 @@ commanded_more : (c d : LinkSet) (gone : List Gone) (l : ℕ) (command : Command
 commanded_more c d gone l command did e =
     let went : List Msu = cleared_at command (slice_get c.links l) in
     ap (λ (x : LinkSet). x.unsure) did.set
-    ∙ (seen_same l (record c { links = did.links; unsure = min MOST (c.unsure + length went) })
+    ∙ (seen_same l (record c { links = did.links; unsure = min MOST (c.unsure + length went); gone = c.gone ++ unsure went })
     ∙ so_many_more MOST c.unsure (length went) gone went e refl)
 
 counted : (c : LinkSet) (accepted : List Msu) (gone : List Gone) → Reached c accepted gone → Counts c gone

@@ -21,7 +21,7 @@ use Rattle.link_group.specs.OneLink.{held, messages}
 use Rattle.link_group.specs.Moving.{retrieval_by, term_takes, takes_on, Diversion, take_fault, move_fault_by, move_fault, moved_by, moved, Diverted, goes_on, moves}
 use Rattle.link_group.specs.Set.{LinkSet, points_of}
 use Rattle.link_group.specs.Laws.{held_by, held_at}
-use Rattle.link_group.specs.Reached.{Gone}
+use Rattle.link_group.specs.declared.gone.Gone.{Gone}
 use Rattle.link_group.proofs.Calling.{with_retrieval_of, retrieval_here, retrieval_other}
 use Rattle.link_group.proofs.Fitting.{IsSmall, FitsAvailability, FitsLink, FitsAt, Fits, fits_there, fits_change}
 use Rattle.link_group.proofs.Getting.{set_here, set_other, change_here, change_other}

@@ -29,18 +29,20 @@ use Rattle.link_group.specs.New.{points, new_set}
 use Rattle.link_group.specs.Set.{LinkSet, points_of, sent, bound_at}
 use Rattle.link_group.specs.Changing.{after_failure, after_message, after_retrieve, messages_for, after_abandon, unsent_at}
 use Rattle.link_group.specs.Diverting.{diverted, emptied, after_taken, after_hand, after_divert}
-use Rattle.link_group.specs.Lines.{ByLink, ByCommand, after_admission}
+use Rattle.link_group.specs.Lines.{ByCommand, after_admission}
 use Rattle.link_group.specs.Placing.{rebalanced}
 use Rattle.link_group.specs.Ticks.{with_room, after_ticks}
 use Rattle.link_group.specs.Laws.{held_by, held_at, hand_at, EachInOnePlace, UnsureAreCounted, Accounted}
-use Rattle.link_group.specs.Reached.{Gone, acknowledged, unsure, messages_gone, Reached, WasReached, opens, sends, binds, fails, hears, retrieves, abandons, diverts, rebalances, listens, speaks, gives, reports, commands, refuses, ticks, makes_room, lacks_room, admits}
+use Rattle.link_group.specs.declared.gone.Gone.{Gone}
+use Rattle.link_group.specs.Gone.{acknowledged, unsure, messages_gone}
+use Rattle.link_group.specs.Reached.{Reached, opens, sends, binds, fails, hears, retrieves, abandons, diverts, rebalances, listens, speaks, gives, reports, commands, refuses, ticks, makes_room, lacks_room, admits, IsReached}
 use Rattle.link_group.proofs.Calling.{with_retrieval_of, stays_sent, stays_bound, stays_retrieved, stays_abandoned}
 use Rattle.link_group.proofs.EndingLaws.{same_retrievals, left_to_divert, stays_diverted}
 use Rattle.link_group.proofs.Hands.{hands_new, hands_sent, hands_bound, hands_failed, hands_heard, hands_rebalanced, hands_by_link, hands_by_command, hands_alone, hands_roomy, hands_ticked, hands_lacking, hands_admitted, hands_retrieved, hands_abandoned, out_emptied, hands_diverted}
 use Rattle.link_group.proofs.Fitting.{IsSmall, none_small, FitsAt, fits_alike, fits_fewer}
 use Rattle.link_group.proofs.PlacingLaws.{stays_rebalanced}
 use Rattle.link_group.proofs.Staying.{Stays, gone_marked}
-use Rattle.link_group.proofs.Working.{one_changes, stays_failed, stays_heard, stays_admitted, part_messages, link_works, link_keeps, alone_keeps, transceiver_tidied, stays_roomy, stays_ticked, stays_lacking}
+use Rattle.link_group.proofs.Working.{one_changes, stays_failed, stays_heard, stays_admitted, part_messages, seen_works, link_works, link_keeps, alone_keeps, transceiver_tidied, stays_roomy, stays_ticked, stays_lacking}
 
 -- ---- a new set
 
@@ -111,11 +113,13 @@ stays_commanded laws c d retrievals accepted gone l command stays did =
     let before : Link = did.at.before in
     let all : List Msu = cleared_of (behind_command command before.terminal) in
     let left : List Msu = unbound before.points all in
-    let b : LinkSet = record c { unsure = min (2 ^ 64 - 1) (c.unsure + length (cleared_at command (slice_get c.links l))) } in
-    let by : ByLink (Commanded command) l b d = record { links = did.links; at = did.at; set = did.set } in
+    let b : LinkSet = record c {
+      unsure = min (2 ^ 64 - 1) (c.unsure + length (cleared_at command (slice_get c.links l)));
+      gone = c.gone ++ unsure (cleared_at command (slice_get c.links l));
+    } in
     let first : Stays b retrievals accepted gone = record { places = stays.places; fits = stays.fits; table = stays.table } in
     let done : Stays d retrievals accepted (gone ++ acknowledged left) =
-    link_works laws (Commanded command) b d retrievals accepted gone l left first by (part_messages before did.at.after all was.points was.kept) was.points
+    seen_works laws (Commanded command) b d retrievals accepted gone l did.links left first did.at did.set (part_messages before did.at.after all was.points was.kept) was.points
     (λ ms x. rw was.availability (fits_fewer (to_clear (behind_command command before.terminal).processes) (started command before) ms
     (fits_alike before.availability (started command before) ms (started_changing (starts_anew command before) before.availability)
     (started_failed (starts_anew command before) before.availability) x))) in
@@ -206,11 +210,9 @@ each_in_one_place laws law = λ c accepted gone r. (stays_reached laws law c acc
 
 -- ---- of one set
 
-pub accounted : EachInOnePlace → UnsureAreCounted → (c : LinkSet) → WasReached c → Accounted c
+pub accounted : EachInOnePlace → UnsureAreCounted → (c : LinkSet) → IsReached c → Accounted c
 accounted each unsure c was = record {
-  accepted = was.accepted;
-  gone = was.gone;
-  reached = was.reached;
-  one_place = each c was.accepted was.gone was.reached;
-  unsure_are = unsure c was.accepted was.gone was.reached;
+  reached = was;
+  one_place = each c c.accepted c.gone was;
+  unsure_are = unsure c c.accepted c.gone was;
 }

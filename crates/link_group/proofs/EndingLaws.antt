@@ -24,7 +24,8 @@ use Rattle.link_group.specs.Moving.{retrieval_by, is_out_at, is_so_out, is_still
 use Rattle.link_group.specs.Set.{LinkSet, points_of}
 use Rattle.link_group.specs.Diverting.{diverted, settled_by, with_division, after_taken}
 use Rattle.link_group.specs.Laws.{held_by, held_at}
-use Rattle.link_group.specs.Reached.{Gone, messages_gone}
+use Rattle.link_group.specs.declared.gone.Gone.{Gone}
+use Rattle.link_group.specs.Gone.{messages_gone}
 use Rattle.link_group.proofs.Calling.{with_retrieval_of, retrieval_here, retrieval_other, no_retrieval}
 use Rattle.link_group.proofs.Diverting.{within, IsOut, IsOther, Others, Moving, Gone_on, takes_held, takes_availability, fits_takes, rest_small, rest_free, fits_retrieved_anew, moves_stay, all_gone}
 use Rattle.link_group.proofs.Fitting.{none_small, FitsAvailability, FitsLink, FitsAt, Fits, fits_there, fits_change}

@@ -28,6 +28,7 @@ use Rattle.link_group.specs.Set.{LinkSet, change_by, sent, bound_at}
 use Rattle.link_group.specs.Changing.{is_for, after_failure, after_message, after_retrieve, messages_for, after_abandon, unsent_at}
 use Rattle.link_group.specs.Diverting.{diverted, settled_by, emptied, after_taken}
 use Rattle.link_group.specs.Placing.{rebalanced}
+use Rattle.link_group.specs.Gone.{acknowledged, unsure, left_of}
 use Rattle.link_group.specs.Lines.{seen, all_seen, after_admission, ByLink, ByCommand, Alone}
 use Rattle.link_group.specs.Ticks.{with_room, after_ticks, NoRoom}
 use Rattle.link_group.specs.New.{points, new_set}
@@ -123,13 +124,13 @@ hands_all_seen c = λ j. hand_mapped asked c.links j asked_hand
 
 pub hands_by_link : (did : Link → Link → Type 0) (l : ℕ) (c d : LinkSet) (by : ByLink did l c d) → by.at.after.hand ≡ by.at.before.hand → SameHands d c
 hands_by_link did l c d by hand = λ j.
-    ap (λ (x : LinkSet). hand_at x j) by.set ∙ hands_seen l (record c { links = by.links }) j
+    ap (λ (x : LinkSet). hand_at x j) by.set ∙ hands_seen l (record c { links = by.links; gone = c.gone ++ acknowledged (left_of by.at.before by.at.after) }) j
     ∙ set_at c.links by.links l j by.at.before by.at.after (same j l) by.at.there by.at.links hand
 
 pub hands_by_command : (command : Command) (l : ℕ) (c d : LinkSet) (by : ByCommand command l c d) → by.at.after.hand ≡ by.at.before.hand → SameHands d c
 hands_by_command command l c d by hand = λ j.
     ap (λ (x : LinkSet). hand_at x j) by.set
-    ∙ hands_seen l (record c { links = by.links; unsure = min (2 ^ 64 - 1) (c.unsure + length (cleared_at command (slice_get c.links l))) }) j
+    ∙ hands_seen l (record c { links = by.links; unsure = min (2 ^ 64 - 1) (c.unsure + length (cleared_at command (slice_get c.links l))); gone = c.gone ++ unsure (cleared_at command (slice_get c.links l)) }) j
     ∙ set_at c.links by.links l j by.at.before by.at.after (same j l) by.at.there by.at.links hand
 
 pub hands_alone : (did : Link → Link → Type 0) (l : ℕ) (c d : LinkSet) (by : Alone did l c d) → by.at.after.hand ≡ by.at.before.hand → SameHands d c

@@ -20,6 +20,7 @@ mod Hands
 mod Heeding
 mod Joined
 mod Leaving
+mod Listing
 mod Live
 mod Messages
 mod Near

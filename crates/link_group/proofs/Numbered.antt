@@ -13,7 +13,7 @@ there-is (k ∷ ks) (suc l) d h = there-is ks l d (omega (arith, h))
 pub here : (ks : List Link) (l : ℕ) (was : Link) → l < length ks → was ≡ get_or ks l was → slice_get ks l ≡ Some was
 here ks l was h is = there-is ks l was h ∙ ap Some (sym is)
 
-pub at_link : (did : Link → Link → Type 0) (l : ℕ) (ks : List Link) (was k : Link) → slice_get ks l ≡ Some was → did was k → AtLink did l ks (slice_set ks l k)
+abbrev pub at_link : (did : Link → Link → Type 0) (l : ℕ) (ks : List Link) (was k : Link) → slice_get ks l ≡ Some was → did was k → AtLink did l ks (slice_set ks l k)
 at_link did l ks was k e so = record { before = was; there = e; after = k; links = refl; was = so }
 
 pub set_same : (ks : List Link) (l : ℕ) (k : Link) → slice_get ks l ≡ Some k → slice_set ks l k ≡ ks

@@ -24,7 +24,7 @@ use Rattle.link_group.specs.Tables.{changing_by, changing_at, held_by_any, or_ke
 use Rattle.link_group.specs.Set.{LinkSet, points_of}
 use Rattle.link_group.specs.Placing.{table_anew, rebalance_fault, rebalanced}
 use Rattle.link_group.specs.Laws.{held_by, held_at}
-use Rattle.link_group.specs.Reached.{Gone}
+use Rattle.link_group.specs.declared.gone.Gone.{Gone}
 use Rattle.link_group.proofs.Calling.{no_retrieval}
 use Rattle.link_group.proofs.Fitting.{FitsAt, FitsLink, Fits, fits_map}
 use Rattle.link_group.proofs.Getting.{held_mapped}

@@ -10,7 +10,8 @@ use Rattle.group_changeover.specs.Places.{Places, standing, OnePlace}
 use Rattle.group_changeover.specs.Sharing.{of, link_of}
 use Rattle.link_group.specs.Set.{LinkSet, points_of}
 use Rattle.link_group.specs.Laws.{held_at}
-use Rattle.link_group.specs.Reached.{Gone, acknowledged, messages_gone}
+use Rattle.link_group.specs.declared.gone.Gone.{Gone}
+use Rattle.link_group.specs.Gone.{acknowledged, messages_gone}
 use Rattle.link_group.proofs.Fitting.{Fits}
 
 -- the places of messages, with those retrieved from each link
@@ -27,6 +28,11 @@ pub record Stays (c : LinkSet) (retrievals : ℕ → List Msu) (accepted : List 
   pub places : OnePlace (places_with c retrievals accepted gone)
   pub fits : Fits (points_of c) c.links retrievals
   pub table : length c.table ≡ SELECTIONS
+
+-- the lists of a set are its own
+pub listed : (c : LinkSet) (told : List Msu) (left : List Gone) (retrievals : ℕ → List Msu) (accepted : List Msu) (gone : List Gone) → Stays c retrievals accepted gone
+    → Stays (record c { accepted = told; gone = left }) retrievals accepted gone
+listed c told left retrievals accepted gone stays = record { places = stays.places; fits = stays.fits; table = stays.table }
 
 -- ---- messages that left
 

@@ -33,6 +33,7 @@ use Rattle.link_group.specs.Failing.{marked, hears as hears_at}
 use Rattle.link_term.specs.Speaking.{given as units_given, left}
 use Rattle.link_group.specs.Ticking.{roomy, passed}
 use Rattle.link_group.specs.Set.{LinkSet}
+use Rattle.link_group.specs.Gone.{unsure}
 use Rattle.link_group.specs.Lines.{ByLink, ByCommand, all_seen}
 use Rattle.link_group.specs.Ticks.{with_room, after_ticks}
 use Rattle.link_group.specs.Ends.{Ends, Lives, near_else, far_else}
@@ -171,7 +172,7 @@ far_ticks l n c d x k b there none =
 pub commanded_links : (command : Command) (i : ℕ) (c e : LinkSet) (by : ByCommand command i c e) → e.links ≡ change by.links i asked
 commanded_links command i c e by =
     ap (λ (y : LinkSet). y.links) by.set
-    ∙ seen_links i (record c { links = by.links; unsure = min (2 ^ 64 - 1) (c.unsure + length (cleared_at command (slice_get c.links i))) })
+    ∙ seen_links i (record c { links = by.links; unsure = min (2 ^ 64 - 1) (c.unsure + length (cleared_at command (slice_get c.links i))); gone = c.gone ++ unsure (cleared_at command (slice_get c.links i)) })
 
 commanded_end : (command : Command) (l : ℕ) (c e : LinkSet) (by : ByCommand command l c e) → (end_of by.at.after).began ≡ false → end_at e l ≡ Some (asked_end (end_of by.at.after))
 commanded_end command l c e by none =

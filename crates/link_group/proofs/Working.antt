@@ -33,11 +33,12 @@ use Rattle.link_group.specs.Placing.{table_anew}
 use Rattle.link_group.specs.Lines.{seen, all_seen, after_admission, ByLink, Alone}
 use Rattle.link_group.specs.Ticks.{with_room, after_ticks, NoRoom}
 use Rattle.link_group.specs.Laws.{held_by, held_at}
-use Rattle.link_group.specs.Reached.{Gone, acknowledged}
+use Rattle.link_group.specs.declared.gone.Gone.{Gone}
+use Rattle.link_group.specs.Gone.{acknowledged, left_of}
 use Rattle.link_group.proofs.Fitting.{FitsAvailability, FitsLink, FitsAt, Alike, fits_there, fits_change, fits_map, fits_alike, fits_begins, fits_told, fits_fewer, fits_waits, fits_held, less_fits}
 use Rattle.link_group.proofs.Getting.{change_here, change_other, held_changed, held_mapped}
 use Rattle.link_group.proofs.PlacingLaws.{stays_placed}
-use Rattle.link_group.proofs.Staying.{Stays, gone_marked, gone_none, quiet, leaves}
+use Rattle.link_group.proofs.Staying.{Stays, listed, gone_marked, gone_none, quiet, leaves}
 
 -- ---- links change, and none of their messages moves
 
@@ -107,7 +108,7 @@ anew_alike k =
     by_test (λ (x : Link). Alike x k) (began k) (leaves_out (unbegun k)) (unbegun k)
     (λ e. (unbound-behind k.points (window k).sent (held k), refl)) (λ e. (refl, refl))
 
-asked_alike : (k : Link) → Alike (asked k) k
+pub asked_alike : (k : Link) → Alike (asked k) k
 asked_alike k = anew_alike k
 
 stays_seen : (laws : StepsKeepPlaces) (c : LinkSet) (retrievals : ℕ → List Msu) (accepted : List Msu) (gone : List Gone) (l : ℕ) → Stays c retrievals accepted gone → Stays (seen l c) retrievals accepted gone
@@ -137,7 +138,7 @@ stays_admitted laws c retrievals accepted gone l way stays =
 
 -- ---- a call of one terminal
 
-changed_is : (ks : List Link) (l : ℕ) (before after : Link) → slice_get ks l ≡ Some before → slice_set ks l after ≡ change ks l (λ k. after)
+pub changed_is : (ks : List Link) (l : ℕ) (before after : Link) → slice_get ks l ≡ Some before → slice_set ks l after ≡ change ks l (λ k. after)
 unfolding change
 changed_is ks l before after there = sym (ap (set_at ks l (λ k. after)) there)
 
@@ -177,19 +178,26 @@ alone_works laws did c retrievals accepted gone l new left stays at kept points 
     subst (λ (x : LinkSet). Stays x retrievals accepted (gone ++ acknowledged left)) (same_set c c.links new l at.before at.after at.there at.links)
     (one_works laws c retrievals accepted gone l at.before at.after left stays at.there kept points alike)
 
+pub seen_works : (laws : StepsKeepPlaces) (did : Link → Link → Type 0) (c d : LinkSet) (retrievals : ℕ → List Msu) (accepted : List Msu) (gone : List Gone) (l : ℕ) (links : List Link) (left : List Msu)
+    → Stays c retrievals accepted gone → (at : AtLink did l c.links links) → d ≡ seen l (record c { links = links }) → messages at.before ≡ left ++ messages at.after → at.after.points ≡ at.before.points
+    → ((ms : List Msu) → FitsAvailability at.before.availability ms → FitsAvailability at.after.availability ms) → Stays d retrievals accepted (gone ++ acknowledged left)
+seen_works laws did c d retrievals accepted gone l links left stays at set kept points alike =
+    subst (λ (x : LinkSet). Stays x retrievals accepted (gone ++ acknowledged left)) (sym set)
+    (stays_seen laws (record c { links = links }) retrievals accepted (gone ++ acknowledged left) l (alone_works laws did c retrievals accepted gone l links left stays at kept points alike))
+
 pub link_works : (laws : StepsKeepPlaces) (did : Link → Link → Type 0) (c d : LinkSet) (retrievals : ℕ → List Msu) (accepted : List Msu) (gone : List Gone) (l : ℕ) (left : List Msu)
     → Stays c retrievals accepted gone → (by : ByLink did l c d) → messages by.at.before ≡ left ++ messages by.at.after → by.at.after.points ≡ by.at.before.points
     → ((ms : List Msu) → FitsAvailability by.at.before.availability ms → FitsAvailability by.at.after.availability ms) → Stays d retrievals accepted (gone ++ acknowledged left)
 link_works laws did c d retrievals accepted gone l left stays by kept points alike =
-    subst (λ (x : LinkSet). Stays x retrievals accepted (gone ++ acknowledged left)) (sym by.set)
-    (stays_seen laws (record c { links = by.links }) retrievals accepted (gone ++ acknowledged left) l (alone_works laws did c retrievals accepted gone l by.links left stays by.at kept points alike))
+    let b : LinkSet = record c { gone = c.gone ++ acknowledged (left_of by.at.before by.at.after) } in
+    seen_works laws did b d retrievals accepted gone l by.links left (listed c c.accepted b.gone retrievals accepted gone stays) by.at by.set kept points alike
 
 -- the messages that left, and those that stay
 pub part_messages : (a b : Link) (left : List Msu) → b.points ≡ a.points → held a ≡ left ++ held b → messages a ≡ unbound a.points left ++ messages b
 part_messages a b left points e =
     ap (unbound a.points) e ∙ unbound-append a.points left (held b) ∙ ap (λ (p : Points). unbound a.points left ++ unbound p (held b)) (sym points)
 
-same_messages : (a b : Link) → b.points ≡ a.points → held a ≡ held b → messages a ≡ messages b
+pub same_messages : (a b : Link) → b.points ≡ a.points → held a ≡ held b → messages a ≡ messages b
 same_messages a b points e = ap (unbound a.points) e ∙ ap (λ (p : Points). unbound p (held b)) (sym points)
 
 -- no messages left

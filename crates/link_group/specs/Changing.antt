@@ -1,7 +1,7 @@
 -- Changeover of a failed link (Q.704): how it begins, the messages about it, and which messages are
 -- retrieved.
-use Rattle.std.specs.Prelude.{ℕ, ◌+◌, ◌^◌, ◌-◌, ◌==◌, ◌&&◌, min, Bool, if◌then◌else◌, List, Option}
-use Rattle.std.specs.Prelude.{Some, None, slice_get}
+use Rattle.std.specs.Prelude.{ℕ, ◌+◌, ◌^◌, ◌-◌, ◌==◌, ◌&&◌, min, Bool, if◌then◌else◌, List, ◌++◌}
+use Rattle.std.specs.Prelude.{Option, Some, None, slice_get}
 use Rattle.arrayvec.specs.ArrayVec.{ArrayVec}
 use Rattle.resend_store.specs.declared.messages.Msu.{Msu}
 use Rattle.group_changeover.specs.declared.changeover.Changeover.{Changeover}
@@ -18,6 +18,7 @@ use Rattle.group_changeover.specs.declared.errors.RetrieveError.TheVariants as r
 use Rattle.group_changeover.specs.declared.errors.AbandonError.{AbandonError}
 use Rattle.group_changeover.specs.declared.errors.AbandonError.TheVariants as abandon
 use Rattle.link_group.specs.OneLink.{retrieve_fault, accepted_of, abandon_fault}
+use Rattle.link_group.specs.Gone.{acknowledged, unsure, told_front, unacknowledged_at}
 use Rattle.link_group.specs.Set.{LinkSet}
 use Rattle.link_group.specs.Links.{change, fault_at}
 use Rattle.link_group.specs.Failing.{fail_fault_of, changeover_begins_at, order_of, hears}
@@ -93,8 +94,12 @@ IsReply (Some m) (Some sif) = Says sif.items m
 unfoldable pub retrieve_fault_at : LinkSet → ℕ → Option RetrieveError
 retrieve_fault_at c l = fault_at retrieve.NoLink retrieve_fault (slice_get c.links l)
 
+-- Those that the far side reported as accepted have left.
 unfoldable pub after_retrieve : LinkSet → ℕ → LinkSet
-after_retrieve c l = record c { links = change c.links l handed }
+after_retrieve c l = record c {
+  links = change c.links l handed;
+  gone = c.gone ++ acknowledged (told_front (slice_get c.links l));
+}
 
 -- exactly those after the ones that the far side reported; without a report, those not sent since
 -- both directions last restarted
@@ -106,11 +111,12 @@ messages_for c l = messages_by accepted_of (slice_get c.links l)
 unfoldable pub abandon_fault_at : LinkSet → ℕ → Option AbandonError
 abandon_fault_at c l = fault_at abandon.NoLink abandon_fault (slice_get c.links l)
 
--- They count as unsure; the count stops at its greatest value.
+-- They have left, and count as unsure; the count stops at its greatest value.
 unfoldable pub after_abandon : LinkSet → ℕ → LinkSet
 after_abandon c l = record c {
   links = change c.links l given_up;
   unsure = min (2 ^ 64 - 1) (c.unsure + sent_by (slice_get c.links l));
+  gone = c.gone ++ unsure (unacknowledged_at (slice_get c.links l));
 }
 
 -- the unsent messages

@@ -4,11 +4,13 @@ use Rattle.std.specs.List.{count_by}
 use Rattle.resend_store.specs.declared.messages.Msu.{Msu}
 use Rattle.group_changeover.specs.Places.{Places, OnePlace}
 use Rattle.group_changeover.specs.Sharing.{link_of}
+use Rattle.link_group.specs.declared.gone.Gone.{Gone}
 use Rattle.link_group.specs.declared.link.Link.{Link}
+use Rattle.link_group.specs.Gone.{messages_gone}
 use Rattle.link_group.specs.OneLink.{messages}
 use Rattle.link_group.specs.Moving.{hand_by}
 use Rattle.link_group.specs.Set.{LinkSet}
-use Rattle.link_group.specs.Reached.{Gone, messages_gone, Reached}
+use Rattle.link_group.specs.Reached.{Reached, IsReached}
 
 abbrev pub held_by : Option Link → List Msu
 held_by None = []
@@ -49,11 +51,9 @@ UnsureAreCounted =
     (c : LinkSet) (accepted : List Msu) (gone : List Gone)
     → Reached c accepted gone → c.unsure ≡ min (2 ^ 64 - 1) (unsure_in gone)
 
--- Both laws of one set. A list of calls leads to it, with what `send` took and which of these left.
+-- Both laws of one set, for the messages that `send` took in this set and those of them that left.
 -- The rest are each in their one place, and the unsure ones are counted.
 pub record Accounted (c : LinkSet) : Type 0 where
-  pub accepted : List Msu
-  pub gone : List Gone
-  pub reached : Reached c accepted gone
-  pub one_place : OnePlace (places_of c accepted gone)
-  pub unsure_are : c.unsure ≡ min (2 ^ 64 - 1) (unsure_in gone)
+  pub reached : IsReached c
+  pub one_place : OnePlace (places_of c c.accepted c.gone)
+  pub unsure_are : c.unsure ≡ min (2 ^ 64 - 1) (unsure_in c.gone)

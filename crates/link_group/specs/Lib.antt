@@ -6,6 +6,7 @@ pub mod Doing
 pub mod Encodable
 pub mod Ends
 pub mod Failing
+pub mod Gone
 pub mod Joined
 pub mod Laws
 pub mod Limits

@@ -1,7 +1,9 @@
 -- What a set does with one of its terminals, and with a link that comes into service.
-use Rattle.std.specs.Prelude.{◌≡◌, ℕ, ◌+◌, ◌-◌, ◌^◌, min, ◌≤◌, Bool, List, length, map, slice_get}
+use Rattle.std.specs.Prelude.{◌≡◌, ℕ, ◌+◌, ◌-◌, ◌^◌, min, ◌≤◌, Bool, List, ◌++◌, length, map}
+use Rattle.std.specs.Prelude.{slice_get}
 use Rattle.std.specs.List.{list_any}
 use Rattle.link_group.specs.declared.link.Link.{Link}
+use Rattle.link_group.specs.Gone.{acknowledged, unsure, left_of}
 use Rattle.link_group.specs.Set.{LinkSet}
 use Rattle.link_group.specs.Links.{change}
 use Rattle.link_processes.specs.declared.commands.Command.{Command}
@@ -42,12 +44,17 @@ after_admission c l way =
 
 -- ---- a call of one terminal
 
--- a call of the terminal of the link at a place, and the effect if the link comes into service by
--- it
+-- A call of the terminal of the link at a place, and the effect if the link comes into service by
+-- it. Messages that leave the link in it are acknowledged.
 pub record ByLink (did : Link → Link → Type 0) (l : ℕ) (c d : LinkSet) : Type 0 where
   pub links : List Link
   pub at : AtLink did l c.links links
-  pub set : d ≡ seen l (record c { links = links })
+  pub set :
+      d
+      ≡ seen l (record c {
+        links = links;
+        gone = c.gone ++ acknowledged (left_of at.before at.after);
+      })
 
 -- a call of the terminal of the link at a place, with no other change
 pub record Alone (did : Link → Link → Type 0) (l : ℕ) (c d : LinkSet) : Type 0 where
@@ -57,8 +64,8 @@ pub record Alone (did : Link → Link → Type 0) (l : ℕ) (c d : LinkSet) : Ty
 
 -- ---- commands
 
--- A command to the terminal of the link at a place. Messages cleared by its text count as unsure,
--- except those bound to the link; the count stops at its greatest value.
+-- A command to the terminal of the link at a place. Messages cleared by its text have left and count
+-- as unsure, except those bound to the link; the count stops at its greatest value.
 pub record ByCommand (command : Command) (l : ℕ) (c d : LinkSet) : Type 0 where
   pub links : List Link
   pub at : AtLink (Commanded command) l c.links links
@@ -67,6 +74,7 @@ pub record ByCommand (command : Command) (l : ℕ) (c d : LinkSet) : Type 0 wher
       ≡ seen l (record c {
         links = links;
         unsure = min (2 ^ 64 - 1) (c.unsure + length (cleared_at command (slice_get c.links l)));
+        gone = c.gone ++ unsure (cleared_at command (slice_get c.links l));
       })
 
 -- Why a command was refused, and the set then. Nothing changed, except that the journal of a

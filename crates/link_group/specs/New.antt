@@ -44,4 +44,6 @@ new_set own peer ts = record {
   links = map (fresh (points own peer)) ts;
   table = map (pick (able_links false (map (fresh (points own peer)) ts))) selections;
   unsure = 0;
+  accepted = [];
+  gone = [];
 }

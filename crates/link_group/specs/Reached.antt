@@ -1,8 +1,7 @@
 -- The states of a set over any list of calls, with the messages accepted and those that left.
-use Rattle.std.specs.Prelude.{◌≡◌, ℕ, ◌<◌, Bool, true, false, List, [], ◌∷◌}
-use Rattle.std.specs.Prelude.{◌++◌, All, map, take, Option, Some, None, slice_get}
+use Rattle.std.specs.Prelude.{◌≡◌, ℕ, ◌<◌, Bool, true, List, [], ◌∷◌, ◌++◌, All, Option, None}
+use Rattle.std.specs.Prelude.{slice_get}
 use Rattle.resend_store.specs.declared.messages.Msu.{Msu}
-use Rattle.resend_store.specs.Window.{unacknowledged}
 use Rattle.su_octets.specs.declared.units.Unit.{Unit}
 use Rattle.link_transceiver.specs.declared.signals.Report.{Report}
 use Rattle.group_changeover.specs.declared.changeover.Changeover.{Changeover}
@@ -11,8 +10,8 @@ use Rattle.group_changeover.specs.Sharing.{selection_of}
 use Rattle.actor_machine.specs.declared.reply.Refusal.{Refusal}
 use Rattle.link_processes.specs.declared.commands.Command.{Command}
 use Rattle.link_term.specs.Term.{Term}
-use Rattle.link_group.specs.declared.link.Link.{Link}
-use Rattle.link_group.specs.OneLink.{window, held, accepted_of}
+use Rattle.link_group.specs.declared.gone.Gone.{Gone}
+use Rattle.link_group.specs.Gone.{acknowledged, unsure, told_front, unacknowledged_at}
 use Rattle.link_group.specs.New.{IsUnused}
 use Rattle.link_group.specs.Doing.{Listened, Spoken, Sent, Reported, acknowledged_by}
 use Rattle.link_group.specs.Commanding.{cleared_at, Refused}
@@ -25,33 +24,6 @@ use Rattle.link_group.specs.Placing.{rebalance_fault, rebalanced}
 use Rattle.link_group.specs.Lines.{ByLink, ByCommand, Alone, after_admission}
 use Rattle.link_group.specs.Ticks.{with_room, after_ticks, NoRoom}
 use Rattle.link_group.specs.New.{new_set}
-
--- a message that left: acknowledged, or unsure if it was never known whether it arrived
-pub record Gone : Type 0 where
-  pub message : Msu
-  pub unsure : Bool
-
-abbrev pub acknowledged : List Msu → List Gone
-acknowledged ms = map (λ m. record { message = m; unsure = false }) ms
-
-abbrev pub unsure : List Msu → List Gone
-unsure ms = map (λ m. record { message = m; unsure = true }) ms
-
-abbrev pub messages_gone : List Gone → List Msu
-messages_gone gone = map (λ g. g.message) gone
-
-abbrev pub first_of : Option ℕ → List Msu → List Msu
-first_of None ms = []
-first_of (Some n) ms = take n ms
-
--- the messages that the far side reported as accepted
-abbrev pub told_front : Option Link → List Msu
-told_front None = []
-told_front (Some k) = unbound k.points (first_of (accepted_of k) (held k))
-
-abbrev pub unacknowledged_at : Option Link → List Msu
-unacknowledged_at None = []
-unacknowledged_at (Some k) = unbound k.points (unacknowledged (window k))
 
 -- Each call is what its contract says of the set before and after it. A refused call that changes
 -- nothing is none of these.
@@ -115,9 +87,7 @@ pub data Reached : LinkSet → List Msu → List Gone → Type 0 where
   admits : (c : LinkSet) (accepted : List Msu) (gone : List Gone) (l : ℕ) (way : Bool)
       → Reached c accepted gone → Reached (after_admission c l way) accepted gone
 
--- A list of calls leads from a new set to this one, with these messages accepted and these that
--- left.
-pub record WasReached (c : LinkSet) : Type 0 where
-  pub accepted : List Msu
-  pub gone : List Gone
-  pub reached : Reached c accepted gone
+-- A list of calls leads from a new set to this one. In these calls `send` took what this set says
+-- that it took, and of that what it says has left.
+abbrev pub IsReached : LinkSet → Type 0
+IsReached c = Reached c c.accepted c.gone

@@ -1,9 +1,11 @@
 -- A set of links between two signalling points.
-use Rattle.std.specs.Prelude.{ℕ, if◌then◌else◌, List, Option, Some, None, slice_get}
+use Rattle.std.specs.Prelude.{ℕ, if◌then◌else◌, List, [], ◌∷◌, ◌++◌, Option, Some, None}
+use Rattle.std.specs.Prelude.{slice_get}
 use Rattle.resend_store.specs.declared.messages.Msu.{Msu}
 use Rattle.group_changeover.specs.Sharing.{selection_of, link_of}
 use Rattle.group_changeover.specs.Bound.{is_bound}
 use Rattle.group_changeover.specs.declared.bound.Points.{Points}
+use Rattle.link_group.specs.declared.gone.Gone.{Gone}
 use Rattle.link_group.specs.declared.link.Link.{Link}
 use Rattle.group_changeover.specs.declared.errors.SendError.{SendError}
 use Rattle.group_changeover.specs.declared.errors.SendError.TheVariants as send
@@ -21,6 +23,10 @@ pub record LinkSet : Type 0 where
   pub table : List (Option ℕ)
   -- how many messages are unsure: it was never known whether they arrived
   pub unsure : ℕ
+  -- every message that `send` took, in order
+  pub accepted : List Msu
+  -- those of them that left, acknowledged or unsure, in order
+  pub gone : List Gone
 
 -- ---- a message to send
 
@@ -41,15 +47,18 @@ abbrev pub change_by : List Link → Option ℕ → (Link → Link) → List Lin
 change_by ks None f = ks
 change_by ks (Some l) f = change ks l f
 
--- It is put last on the link of its selection.
+-- It is put last on the link of its selection, and counts as accepted.
 unfoldable pub sent : LinkSet → Msu → LinkSet
-sent c m = record c { links = change_by c.links (link_of c.table (selection_of m)) (puts m) }
+sent c m = record c {
+  links = change_by c.links (link_of c.table (selection_of m)) (puts m);
+  accepted = c.accepted ++ m ∷ [];
+}
 
 -- ---- a message bound to a link
 
 unfoldable pub bind_fault_at : LinkSet → ℕ → Option BindError
 bind_fault_at c l = fault_at bind.NoLink bind_fault (slice_get c.links l)
 
--- It is put last on that link.
+-- It is put last on that link. It isn't one of the accepted ones.
 unfoldable pub bound_at : LinkSet → ℕ → Msu → LinkSet
 bound_at c l m = record c { links = change c.links l (puts m) }

@@ -1,16 +1,20 @@
 //! What a link does with its terminal.
 ghost use Rattle.std.specs.List.{list_any};
-ghost use Rattle.std.specs.Prelude.{◌≡◌, ◌||◌, map, ◌<◌, ◌≤◌, length, true, IfOk, OnErr};
+ghost use Rattle.std.specs.Prelude.{◌≡◌, ◌++◌, ◌||◌, map, ◌<◌, ◌≤◌, length, true, IfOk, OnErr};
 ghost use Rattle.link_processes.specs.Machine.{is_low};
 ghost use Rattle.link_term.specs.Kept.{window_of};
+ghost use Rattle.link_group.specs.Gone.{acknowledged, left_of};
 ghost use Rattle.link_group.specs.OneLink.{accepted_of};
 ghost use Rattle.link_group.specs.Doing.{Listened, Spoken, Sent, Reported, how_many, leaves_out, anew, without_bound_at, without_bound, asked, came_first, marked_served, admits_first, admits_at};
 
+use crate::gone::{Gone, with_left};
 use crate::link::Link;
 use group_changeover::Points;
+use group_told::Told;
 use link_term::Terminal;
 use link_transceiver::Report;
 use std::alloc::AllocError;
+use std::snapshot::Snapshot;
 use su_octets::Unit;
 
 impl Link {
@@ -76,13 +80,16 @@ impl Link {
         self.take_part()
     }
 
-    pub(crate) fn listen(&mut self, octets: &[u8]) -> usize
-        ensures { Listened octets.now result self.old self.new }
+    pub(crate) fn listen(&mut self, octets: &[u8], gone: &mut Told<Gone>) -> usize
+        ensures did { Listened octets.now result self.old self.new }
+        ensures gone { gone.new.items ≡ gone.old.items ++ acknowledged (left_of self.old self.new) }
     {
+        let before = Snapshot::of(self);
         let held = self.terminal.held();
         let taken = self.terminal.line_in(octets);
         let left = held.saturating_sub(self.terminal.held());
         self.availability = self.availability.fewer(left);
+        *gone = with_left(gone, before, self);
         taken
     }
 

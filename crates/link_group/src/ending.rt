@@ -79,6 +79,8 @@ impl Group {
     pub fn divert(&mut self, link: usize) -> Result<(), DivertError>
         ensures fault { fault_of result ≡ divert_fault self.old link }
         ensures set { self.new ≡ after_divert self.old link }
+        ensures accepted { self.new.accepted ≡ self.old.accepted }
+        ensures gone { self.new.gone ≡ self.old.gone }
     {
         if link >= self.links.len() {
             return Err(DivertError::NoLink);

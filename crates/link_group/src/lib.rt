@@ -5,6 +5,7 @@
 mod commanding;
 mod doing;
 mod ending;
+mod gone;
 mod group;
 mod hand;
 mod laws;
@@ -24,6 +25,7 @@ mod ticks;
 
 pub use commanding::{CommandError, is_start};
 pub use ending::DivertError;
+pub use gone::Gone;
 pub use group::{Group, Sif};
 pub use laws::{
     each_message_stands_in_one_place, ends_heed_all_else, retrieval_completes_each_life,

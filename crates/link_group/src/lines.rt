@@ -1,6 +1,9 @@
 //! What a set does with one of its terminals.
-ghost use Rattle.std.specs.Prelude.{◌≡◌, ◌↔◌, ◌≤◌, ◌<◌, length, true, slice_get, IfOk, IfErr, OnOk, OnErr, Err};
+ghost use Rattle.std.specs.Prelude.{◌≡◌, ◌++◌, ◌↔◌, ◌≤◌, ◌<◌, length, true, slice_get, IfOk, IfErr, OnOk, OnErr, Err};
 ghost use Rattle.link_group.specs.Lines.{ByLink, ByCommand, after_admission, IsCommandError};
+ghost use Rattle.link_group.specs.Commanding.{cleared_at};
+ghost use Rattle.link_group.specs.Gone.{acknowledged, unsure, left_between, if_ok};
+ghost use Rattle.link_group.specs.Laws.{held_at};
 ghost use Rattle.link_group.specs.Placing.{table_if};
 ghost use Rattle.link_group.specs.Limits.{MOST_LINKS};
 ghost use Rattle.link_group.specs.Links.{change};
@@ -51,6 +54,8 @@ impl Group {
         ensures ok { OnOk result (self.new ≡ after_admission self.old link way) }
         ensures fault { (result ≡ Err LinkError.NoLink) ↔ (length self.old.links ≤ link) }
         ensures err { OnErr result (self.new ≡ self.old) }
+        ensures accepted { self.new.accepted ≡ self.old.accepted }
+        ensures gone { self.new.gone ≡ self.old.gone }
     {
         if link >= self.links.len() {
             return Err(LinkError::NoLink);
@@ -68,11 +73,13 @@ impl Group {
         ensures ok { IfOk result (λ taken. ByLink (Listened octets.now taken) link self.old self.new) }
         ensures fault { (result ≡ Err LinkError.NoLink) ↔ (length self.old.links ≤ link) }
         ensures err { OnErr result (self.new ≡ self.old) }
+        ensures accepted { self.new.accepted ≡ self.old.accepted }
+        ensures gone { self.new.gone ≡ self.old.gone ++ acknowledged (left_between (held_at self.old link) (held_at self.new link)) }
     {
         if link >= self.links.len() {
             return Err(LinkError::NoLink);
         }
-        let taken = self.links[link].listen(octets);
+        let taken = self.links[link].listen(octets, &mut self.gone);
         see(self.links.as_mut_slice(), &mut self.table, link);
         Ok(taken)
     }
@@ -86,6 +93,8 @@ impl Group {
         ensures ok { IfOk result (λ octets. ByLink (Spoken units octets.items) link self.old self.new) }
         ensures fault { (result ≡ Err LineError.NoLink) ↔ (length self.old.links ≤ link) }
         ensures err { OnErr result (self.new ≡ self.old) }
+        ensures accepted { self.new.accepted ≡ self.old.accepted }
+        ensures gone { self.new.gone ≡ self.old.gone }
     {
         if link >= self.links.len() {
             return Err(LineError::NoLink);
@@ -109,6 +118,8 @@ impl Group {
         ensures fault { (result ≡ Err LineError.NoLink) ↔ (length self.old.links ≤ link) }
         ensures err { OnErr result (self.new ≡ self.old) }
         ensures low { (result ≡ Err LineError.NoMemory) → low_at (slice_get self.old.links link) ≡ true }
+        ensures accepted { self.new.accepted ≡ self.old.accepted }
+        ensures gone { self.new.gone ≡ self.old.gone }
     {
         if link >= self.links.len() {
             return Err(LineError::NoLink);
@@ -131,6 +142,8 @@ impl Group {
         ensures ok { IfOk result (λ report. ByLink (Reported report) link self.old self.new) }
         ensures fault { (result ≡ Err LinkError.NoLink) ↔ (length self.old.links ≤ link) }
         ensures err { OnErr result (self.new ≡ self.old) }
+        ensures accepted { self.new.accepted ≡ self.old.accepted }
+        ensures gone { self.new.gone ≡ self.old.gone }
     {
         if link >= self.links.len() {
             return Err(LinkError::NoLink);
@@ -151,12 +164,16 @@ impl Group {
         ensures none { (result ≡ Err CommandError.NoLink) ↔ (length self.old.links ≤ link) }
         ensures ok { OnOk result (ByCommand command link self.old self.new) }
         ensures err { IfErr result (IsCommandError command link self.old self.new) }
+        ensures accepted { self.new.accepted ≡ self.old.accepted }
+        ensures gone { self.new.gone ≡ self.old.gone ++ if_ok result (unsure (cleared_at command (slice_get self.old.links link))) }
     {
         if link >= self.links.len() {
             return Err(CommandError::NoLink);
         }
+        let gone = self.with_cleared(link, command);
         match self.links[link].command(command) {
             Ok(cleared) => {
+                self.gone = gone;
                 self.unsure = self.unsure.saturating_add(cleared as u64);
                 see(self.links.as_mut_slice(), &mut self.table, link);
                 Ok(())

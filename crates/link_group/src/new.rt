@@ -9,6 +9,7 @@ use crate::link::Link;
 use crate::open::able_links;
 use crate::tables::table_of;
 use group_changeover::{Availability, Behind, Points};
+use group_told::Told;
 use link_term::Terminal;
 use link_transceiver::Hold;
 use std::alloc::Global;
@@ -47,6 +48,8 @@ impl Group {
             links,
             table,
             unsure: 0,
+            accepted: Told::new(),
+            gone: Told::new(),
         })
     }
 }

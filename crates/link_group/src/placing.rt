@@ -37,6 +37,8 @@ impl Group {
         ensures fault { fault_of result ≡ rebalance_fault self.old }
         ensures ok { OnOk result (self.new ≡ rebalanced self.old) }
         ensures err { OnErr result (self.new ≡ self.old) }
+        ensures accepted { self.new.accepted ≡ self.old.accepted }
+        ensures gone { self.new.gone ≡ self.old.gone }
     {
         if any_changing(self.links.as_slice()) {
             return Err(RebalanceError::Waiting);

@@ -1,5 +1,5 @@
 //! Messages to send, and messages of changeover.
-ghost use Rattle.std.specs.Prelude.{◌≡◌, true, Option, Some, length, OnOk, OnErr, IfOk, IfSome, ◌<◌};
+ghost use Rattle.std.specs.Prelude.{◌≡◌, ◌++◌, ◌∷◌, [], true, Option, Some, length, slice_get, OnOk, OnErr, IfOk, IfSome, ◌<◌};
 ghost use Rattle.group_changeover.specs.Limits.{SELECTIONS};
 ghost use Rattle.group_changeover.specs.Sharing.{selection_of};
 ghost use Rattle.group_changeover.specs.Labels.{label_in, IsLabel};
@@ -9,6 +9,7 @@ ghost use Rattle.group_changeover.specs.declared.changeover.Changeover.{Changeov
 ghost use Rattle.link_group.specs.OneLink.{fault_of, retrieve_refusal, abandon_refusal};
 ghost use Rattle.group_changeover.specs.Bound.{is_bound};
 ghost use Rattle.link_group.specs.Encodable.{IsEncodable};
+ghost use Rattle.link_group.specs.Gone.{acknowledged, unsure, told_front, unacknowledged_at, if_ok};
 ghost use Rattle.link_group.specs.Set.{points_of, send_fault, sent, bind_fault_at, bound_at};
 ghost use Rattle.link_group.specs.Changing.{message, fail_fault, after_failure, order_at, is_for, IsReply, IsRead, after_message, hearing_of, reply_to, retrieve_fault_at, after_retrieve, messages_for, abandon_fault_at, after_abandon, unsent_at};
 
@@ -81,13 +82,20 @@ impl Group {
         ensures ok { OnOk result (self.new ≡ sent self.old msu) }
         ensures err { OnErr result (self.new ≡ self.old) }
         ensures within { selection_of msu < SELECTIONS }
+        ensures accepted { self.new.accepted ≡ self.old.accepted ++ if_ok result (msu ∷ []) }
+        ensures gone { self.new.gone ≡ self.old.gone }
     {
         let selection = selection_of(&msu);
         if self.is_bound(&msu) {
             return Err(SendError::Bound);
         }
         match self.table.link_of(selection) {
-            Some(at) => put_at(self.links.as_mut_slice(), at, msu),
+            Some(at) => {
+                let accepted = self.accepted.and(&msu);
+                put_at(self.links.as_mut_slice(), at, msu)?;
+                self.accepted = accepted;
+                Ok(())
+            }
             None => Err(SendError::NoLink),
         }
     }
@@ -117,6 +125,8 @@ impl Group {
         ensures fault { fault_of result ≡ bind_fault_at self.old link }
         ensures ok { OnOk result (self.new ≡ bound_at self.old link msu) }
         ensures err { OnErr result (self.new ≡ self.old) }
+        ensures accepted { self.new.accepted ≡ self.old.accepted }
+        ensures gone { self.new.gone ≡ self.old.gone }
     {
         bind_at(self.links.as_mut_slice(), link, msu)
     }
@@ -133,6 +143,8 @@ impl Group {
         ensures encodable { IfOk result IsEncodable }
         ensures ok { OnOk result (self.new ≡ after_failure self.old link) }
         ensures err { OnErr result (self.new ≡ self.old) }
+        ensures accepted { self.new.accepted ≡ self.old.accepted }
+        ensures gone { self.new.gone ≡ self.old.gone }
     {
         let kind = fail_at(self.links.as_mut_slice(), link)?;
         Ok(message(self.own, self.peer, link, kind))
@@ -148,6 +160,8 @@ impl Group {
         ensures order { IfOk result (λ sif. Says sif.items (order_at self.old link)) }
         ensures ok { OnOk result (self.new ≡ after_failure self.old link) }
         ensures err { OnErr result (self.new ≡ self.old) }
+        ensures accepted { self.new.accepted ≡ self.old.accepted }
+        ensures gone { self.new.gone ≡ self.old.gone }
     {
         let order = self.begin_changeover(link)?;
         Ok(order.octets())
@@ -175,6 +189,8 @@ impl Group {
     fn answer(&mut self, heard: Changeover) -> Option<Changeover>
         requires { IsLabel heard.label }
         ensures set { self.new ≡ after_message self.old (Some heard) }
+        ensures accepted { self.new.accepted ≡ self.old.accepted }
+        ensures gone { self.new.gone ≡ self.old.gone }
         ensures reply { result ≡ reply_to self.old (Some heard) }
         ensures encodable { IfSome result IsEncodable }
     {
@@ -196,6 +212,8 @@ impl Group {
         ensures hearing { result.hearing ≡ hearing_of self.old (Some message) }
         ensures reply { result.reply ≡ reply_to self.old (Some message) }
         ensures encodable { IfSome result.reply IsEncodable }
+        ensures accepted { self.new.accepted ≡ self.old.accepted }
+        ensures gone { self.new.gone ≡ self.old.gone }
     {
         let hearing = self.hearing(message);
         let reply = self.answer(message);
@@ -208,6 +226,8 @@ impl Group {
         ensures set { (m : Option PlainChangeover) → IsRead sif.now m → self.new ≡ after_message self.old m }
         ensures hearing { (m : Option PlainChangeover) → IsRead sif.now m → result.hearing ≡ hearing_of self.old m }
         ensures reply { (m : Option PlainChangeover) → IsRead sif.now m → IsReply (reply_to self.old m) result.reply }
+        ensures accepted { self.new.accepted ≡ self.old.accepted }
+        ensures gone { self.new.gone ≡ self.old.gone }
     {
         match read_changeover(sif) {
             Some(message) => {
@@ -240,8 +260,13 @@ impl Group {
         ensures count { IfOk result (λ count. count ≡ length (messages_for self.old link)) }
         ensures ok { OnOk result (self.new ≡ after_retrieve self.old link) }
         ensures err { OnErr result (self.new ≡ self.old) }
+        ensures accepted { self.new.accepted ≡ self.old.accepted }
+        ensures gone { self.new.gone ≡ self.old.gone ++ if_ok result (acknowledged (told_front (slice_get self.old.links link))) }
     {
-        retrieve_at(self.links.as_mut_slice(), link)
+        let gone = self.with_reported(link);
+        let count = retrieve_at(self.links.as_mut_slice(), link)?;
+        self.gone = gone;
+        Ok(count)
     }
 
     /// Gives up the sent messages of a link in changeover: they count as unsure. Retrieves those not sent since both
@@ -256,9 +281,13 @@ impl Group {
         ensures count { IfOk result (λ count. count ≡ length (unsent_at self.old link)) }
         ensures ok { OnOk result (self.new ≡ after_abandon self.old link) }
         ensures err { OnErr result (self.new ≡ self.old) }
+        ensures accepted { self.new.accepted ≡ self.old.accepted }
+        ensures gone { self.new.gone ≡ self.old.gone ++ if_ok result (unsure (unacknowledged_at (slice_get self.old.links link))) }
     {
+        let gone = self.with_unacknowledged(link);
         match abandon_at(self.links.as_mut_slice(), link) {
             Ok((count, sent)) => {
+                self.gone = gone;
                 self.unsure = self.unsure.saturating_add(sent as u64);
                 Ok(count)
             }

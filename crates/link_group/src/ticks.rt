@@ -40,6 +40,8 @@ impl Group {
         ensures passes { OnOk result (tick_fault ticks self.old ≡ None) }
         ensures ok { OnOk result (self.new ≡ after_ticks ticks self.old) }
         ensures err { IfErr result (IsTickError ticks self.old self.new) }
+        ensures accepted { self.new.accepted ≡ self.old.accepted }
+        ensures gone { self.new.gone ≡ self.old.gone }
     {
         match make_room_all(self.links.as_mut_slice()) {
             Ok(()) => {}

@@ -8,10 +8,10 @@ invariant_of-self c = (
   few_written c.self.inside.links.len _ c.abandon_at.new.links c.self.inside.links.items (search rules) (omega (arith, c.self.invariant.0, c.self.inside.links.ok.0)),
   c.self.invariant.1,
   c.self.invariant.2,
-  live_abandoned c.self.inside.own c.self.inside.peer c.self.inside.unsure _ c.in-Ok.sent c.self.inside.table.links _ c.abandon_at.new.links _ c.args.link (written c.self.inside.links.len c.abandon_at.new.links c.self.inside.links.items (search rules))
-      (sym c.in-Ok.ensures.fault) c.in-Ok.ensures.ok c.in-Ok.ensures.sent (search rules) (live_from c.self.inside.own c.self.inside.peer c.self.inside.unsure c.self.inside.table.links _ _ (search rules) c.self.invariant.3),
+  live_abandoned c.self.inside.own c.self.inside.peer c.self.inside.unsure _ c.in-Ok.sent c.self.inside.accepted.items c.self.inside.gone.items _ c.self.inside.table.links _ c.abandon_at.new.links _ c.args.link (written c.self.inside.links.len c.abandon_at.new.links c.self.inside.links.items (search rules))
+      (sym c.in-Ok.ensures.fault) c.in-Ok.ensures.ok c.in-Ok.ensures.sent (search rules) (search rules) (live_from c.self.inside.own c.self.inside.peer c.self.inside.unsure c.self.inside.accepted.items c.self.inside.gone.items c.self.inside.table.links _ _ (search rules) c.self.invariant.3),
 )
 
 pub invariant_of-self-in-Err : goal.invariant_of-self-in-Err
 invariant_of-self-in-Err c =
-    (few_written c.self.inside.links.len _ c.abandon_at.new.links c.self.inside.links.items (search rules) (omega (arith, c.self.invariant.0, c.self.inside.links.ok.0)), c.self.invariant.1, c.self.invariant.2, live_kept c.self.inside.own c.self.inside.peer c.self.inside.unsure c.self.inside.table.links _ c.abandon_at.new.links _ (written c.self.inside.links.len c.abandon_at.new.links c.self.inside.links.items (search rules)) c.in-Err.ensures.err (live_from c.self.inside.own c.self.inside.peer c.self.inside.unsure c.self.inside.table.links _ _ (search rules) c.self.invariant.3))
+    (few_written c.self.inside.links.len _ c.abandon_at.new.links c.self.inside.links.items (search rules) (omega (arith, c.self.invariant.0, c.self.inside.links.ok.0)), c.self.invariant.1, c.self.invariant.2, live_kept c.self.inside.own c.self.inside.peer c.self.inside.unsure c.self.inside.accepted.items c.self.inside.gone.items c.self.inside.table.links _ c.abandon_at.new.links _ (written c.self.inside.links.len c.abandon_at.new.links c.self.inside.links.items (search rules)) c.in-Err.ensures.err (live_from c.self.inside.own c.self.inside.peer c.self.inside.unsure c.self.inside.accepted.items c.self.inside.gone.items c.self.inside.table.links _ _ (search rules) c.self.invariant.3))

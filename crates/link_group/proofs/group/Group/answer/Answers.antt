@@ -8,5 +8,5 @@ invariant_of-self c = (
   few_written c.self.inside.links.len _ c.hear_at.new.links c.self.inside.links.items (search rules) (omega (arith, c.self.invariant.0, c.self.inside.links.ok.0)),
   c.self.invariant.1,
   c.self.invariant.2,
-  live_heard c.self.inside.own c.self.inside.peer c.self.inside.unsure c.self.inside.table.links _ c.hear_at.new.links _ c.args.heard _ (written c.self.inside.links.len c.hear_at.new.links c.self.inside.links.items (search rules)) (search rules) (search rules) c.hear_at.ensures.heard (live_from c.self.inside.own c.self.inside.peer c.self.inside.unsure c.self.inside.table.links _ _ (search rules) c.self.invariant.3),
+  live_heard c.self.inside.own c.self.inside.peer c.self.inside.unsure c.self.inside.accepted.items c.self.inside.gone.items c.self.inside.table.links _ c.hear_at.new.links _ c.args.heard _ (written c.self.inside.links.len c.hear_at.new.links c.self.inside.links.items (search rules)) (search rules) (search rules) c.hear_at.ensures.heard (live_from c.self.inside.own c.self.inside.peer c.self.inside.unsure c.self.inside.accepted.items c.self.inside.gone.items c.self.inside.table.links _ _ (search rules) c.self.invariant.3),
 )

@@ -1,6 +1,6 @@
 use Rattle.std.proofs.Common.{rules, arith}
 use Rattle.link_group.proofs.ByLinks.{written, few_written}
-use Rattle.link_group.proofs.Live.{live_from, live_retrieved}
+use Rattle.link_group.proofs.Live.{live_from, live_kept, live_retrieved}
 use Rattle.link_group.proofs.group.Group.retrieve.Goals as goal
 
 pub invariant_of-self : goal.invariant_of-self
@@ -8,5 +8,5 @@ invariant_of-self c = (
   few_written c.self.inside.links.len _ c.retrieve_at.new.links c.self.inside.links.items (search rules) (omega (arith, c.self.invariant.0, c.self.inside.links.ok.0)),
   c.self.invariant.1,
   c.self.invariant.2,
-  live_retrieved c.retrieve_at.result c.self.inside.own c.self.inside.peer c.self.inside.unsure c.self.inside.table.links _ c.retrieve_at.new.links _ c.args.link (written c.self.inside.links.len c.retrieve_at.new.links c.self.inside.links.items (search rules)) c.retrieve_at.ensures.fault c.retrieve_at.ensures.ok c.retrieve_at.ensures.err (live_from c.self.inside.own c.self.inside.peer c.self.inside.unsure c.self.inside.table.links _ _ (search rules) c.self.invariant.3),
+  live_retrieved c.self.inside.own c.self.inside.peer c.self.inside.unsure c.self.inside.accepted.items c.self.inside.gone.items _ c.self.inside.table.links _ c.retrieve_at.new.links _ c.args.link (written c.self.inside.links.len c.retrieve_at.new.links c.self.inside.links.items (search rules)) (search rules) (search rules) (search rules) (live_from c.self.inside.own c.self.inside.peer c.self.inside.unsure c.self.inside.accepted.items c.self.inside.gone.items c.self.inside.table.links _ _ (search rules) c.self.invariant.3),
 )

@@ -4,22 +4,23 @@ use Rattle.link_group.specs.Doing.{Sent, low_at}
 use Rattle.link_group.specs.Set.{LinkSet}
 use Rattle.link_group.proofs.Numbered.{here, at_link, few_set, set_same}
 use Rattle.link_group.proofs.ByLinks.{by_link, written, few_written}
+use Rattle.link_group.proofs.Listing.{none_left}
 use Rattle.link_group.proofs.Live.{over, given_by_link, live_kept}
 use Rattle.link_group.proofs.group.Group.unit_out.Goals as goal
 
 pub returns-in-Ok-clause-ok : goal.returns-in-Ok-clause-ok
 returns-in-Ok-clause-ok c =
-    by_link (Sent c.in-Ok.unit) c.args.link c.args.self.now _ c.self.inside.links.items (slice_set c.self.inside.links.items c.args.link c.send.new.self) c.as_mut_slice.result.now c.see.new.links _ c.self.inside.own c.self.inside.peer c.self.inside.unsure c.self.inside.table.links c.see.new.table.links (sym c.self.view_is) refl
-    (at_link (Sent c.in-Ok.unit) c.args.link c.self.inside.links.items _ c.send.new.self (here c.self.inside.links.items c.args.link c.index_mut.result.now (search rules) c.index_mut.ensures.value) c.in-Ok.ensures.ok) c.as_mut_slice.ensures.value (written c.self.inside.links.len c.see.new.links _ (search rules)) c.see.ensures.links c.see.ensures.table
+    by_link (Sent c.in-Ok.unit) c.args.link c.args.self.now _ c.self.inside.links.items (slice_set c.self.inside.links.items c.args.link c.send.new.self) c.as_mut_slice.result.now c.see.new.links _ c.self.inside.own c.self.inside.peer c.self.inside.unsure c.self.inside.accepted.items c.self.inside.gone.items c.self.inside.gone.items c.self.inside.table.links c.see.new.table.links (sym c.self.view_is) refl
+    (at_link (Sent c.in-Ok.unit) c.args.link c.self.inside.links.items _ c.send.new.self (here c.self.inside.links.items c.args.link c.index_mut.result.now (search rules) c.index_mut.ensures.value) c.in-Ok.ensures.ok) c.as_mut_slice.ensures.value (written c.self.inside.links.len c.see.new.links _ (search rules)) c.see.ensures.links c.see.ensures.table (sym (none_left c.self.inside.gone.items c.index_mut.result.now c.send.new.self c.in-Ok.ensures.ok.points (sym c.in-Ok.ensures.ok.sends.kept)))
 
 pub invariant_of-self : goal.invariant_of-self
 invariant_of-self c = (
   few_written c.self.inside.links.len _ c.see.new.links _ (search rules) (omega (arith, c.self.invariant.0, c.self.inside.links.ok.0)),
   c.self.invariant.1,
   c.self.invariant.2,
-  given_by_link c.in-Ok.unit c.args.link (over c.self.inside.own c.self.inside.peer c.self.inside.unsure c.self.inside.table.links _) _
-      (by_link (Sent c.in-Ok.unit) c.args.link _ _ c.self.inside.links.items (slice_set c.self.inside.links.items c.args.link c.send.new.self) c.as_mut_slice.result.now c.see.new.links _ c.self.inside.own c.self.inside.peer c.self.inside.unsure c.self.inside.table.links c.see.new.table.links refl refl
-      (at_link (Sent c.in-Ok.unit) c.args.link c.self.inside.links.items _ c.send.new.self (here c.self.inside.links.items c.args.link c.index_mut.result.now (search rules) c.index_mut.ensures.value) c.in-Ok.ensures.ok) c.as_mut_slice.ensures.value (written c.self.inside.links.len c.see.new.links _ (search rules)) c.see.ensures.links c.see.ensures.table)
+  given_by_link c.in-Ok.unit c.args.link (over c.self.inside.own c.self.inside.peer c.self.inside.unsure c.self.inside.accepted.items c.self.inside.gone.items c.self.inside.table.links _) _
+      (by_link (Sent c.in-Ok.unit) c.args.link _ _ c.self.inside.links.items (slice_set c.self.inside.links.items c.args.link c.send.new.self) c.as_mut_slice.result.now c.see.new.links _ c.self.inside.own c.self.inside.peer c.self.inside.unsure c.self.inside.accepted.items c.self.inside.gone.items c.self.inside.gone.items c.self.inside.table.links c.see.new.table.links refl refl
+      (at_link (Sent c.in-Ok.unit) c.args.link c.self.inside.links.items _ c.send.new.self (here c.self.inside.links.items c.args.link c.index_mut.result.now (search rules) c.index_mut.ensures.value) c.in-Ok.ensures.ok) c.as_mut_slice.ensures.value (written c.self.inside.links.len c.see.new.links _ (search rules)) c.see.ensures.links c.see.ensures.table (sym (none_left c.self.inside.gone.items c.index_mut.result.now c.send.new.self c.in-Ok.ensures.ok.points (sym c.in-Ok.ensures.ok.sends.kept))))
       c.self.invariant.3,
 )
 
@@ -29,7 +30,7 @@ invariant_of-self-in-Err c =
       few_set _ c.self.inside.links.items c.args.link c.send.new.self c.self.invariant.0,
       c.self.invariant.1,
       c.self.invariant.2,
-      live_kept c.self.inside.own c.self.inside.peer c.self.inside.unsure c.self.inside.table.links c.self.inside.links.items (slice_set c.self.inside.links.items c.args.link c.send.new.self) _ refl (set_same c.self.inside.links.items c.args.link c.send.new.self (e ∙ ap Some (sym c.in-Err.ensures.err))) c.self.invariant.3,
+      live_kept c.self.inside.own c.self.inside.peer c.self.inside.unsure c.self.inside.accepted.items c.self.inside.gone.items c.self.inside.table.links c.self.inside.links.items (slice_set c.self.inside.links.items c.args.link c.send.new.self) _ refl (set_same c.self.inside.links.items c.args.link c.send.new.self (e ∙ ap Some (sym c.in-Err.ensures.err))) c.self.invariant.3,
     )
 
 pub returns-in-Err-clause-low : goal.returns-in-Err-clause-low

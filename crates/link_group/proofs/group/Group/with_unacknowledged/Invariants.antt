@@ -1,0 +1,6 @@
+use Rattle.std.specs.Prelude.{slice_get}
+use Rattle.link_group.specs.Gone.{unsure, unacknowledged_at}
+use Rattle.link_group.proofs.group.Group.with_unacknowledged.Given as goal
+
+abbrev pub ghost-with : goal.ghost-with
+ghost-with a = unsure (unacknowledged_at (slice_get a.seen.now.set.value.links a.seen.now.link))
