@@ -7,9 +7,9 @@ of specs that are too wide to be read, too many ways down crates.txt, crates who
 landings ago (edits/README.md), functions and lines of the tools that are too long or too wide, or more long files and
 functions in the crates than there were (tools/looks/counts.py), paths of contracts and definitions that reach three
 fields deep into another crate's value (tools/looks/fields.py), a README.md of more than 170 lines, links and commands
-of the pages that lead nowhere, more of the English that is to go than there was (tools/looks/pages.py), and what a
-crate hands on that its neighbour only hands on, or more than 150 lines that hand on (tools/looks/handed.py). A few
-seconds; to be run before a commit that is to land. Beside that it notes which crates' edits are to be tried by
+of the pages that lead nowhere, more of the English that is to go than there was (tools/looks/pages.py), what a crate
+hands on that its neighbour only hands on, or more than 150 lines that hand on (tools/looks/handed.py), and calls of a
+link set that don't say what they add to its lists (tools/looks/telling.py). A few seconds; to be run before a commit that is to land. Beside that it notes which crates' edits are to be tried by
 tools/edits, since their contracts changed, and whether the landing is recorded: neither is a fault.
 
 usage: tools/ready [FOLDER]
@@ -31,7 +31,7 @@ import traceback
 from tools import crate_pages
 from tools.building.kit import by_hand, kit, refusals
 from tools.doc_names import lacking
-from tools.looks import counts, edit_sums, fields, handed, pages
+from tools.looks import counts, edit_sums, fields, handed, pages, telling
 
 ROOT = pathlib.Path(__file__).resolve().parent.parent
 
@@ -190,6 +190,7 @@ def main(words):
     found = [line for crate in crates for line in stops(rt, crate, crates) + edits(rt, crate, root)]
     asked = (texts, productions, lacking, crate_pages.lacking, index, pictures, edit_sums.too_old)
     asked += (counts.of_tools, counts.more_than_today, fields.more_than_today, pages.lacking, handed.lacking)
+    asked += (telling.lacking,)
     found += [line for it in asked for line in it(root)]
     found += strays(root, crates) + astray(root, crates) + ways_down(crates) + wide(crates)
     if due := edit_sums.untried(root):

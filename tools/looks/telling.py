@@ -123,11 +123,12 @@ def of_group(text, head, part):
     if head not in ("Group", "Model for Group"):
         yield f"impl {head}: a set has no trait except its model"
     for public, name, of in functions(part):
-        if public and name not in MAKERS and receiver(of) not in ("&self",):
+        given, taken = receiver(of), signature(of).split("->", 1)[0]
+        if public and given != "&self" and not (name in MAKERS and given is None):
             yield from (f"Group::{name} {why}" for why in [*telling(name, of), *imported(text, name)])
         elif public and "&mut" in signature(of).split("->", 1)[-1] and "->" in signature(of):
             yield f"Group::{name} hands out what a caller may change"
-        if public and re.search(r"\bSelf\b", signature(of).split("->", 1)[0]):
+        if public and re.search(r"\b(Self|Group)\b", taken):
             yield f"Group::{name} takes a second set"
 
 

@@ -1,6 +1,6 @@
 -- Messages to send, and retrieved messages.
-use Rattle.std.proofs.Common.{◌≡◌, ◌≢◌, ℕ, ◌<◌, ◌==◌, Bool, true, false, cond, List, [], ◌∷◌, ◌++◌, Option, Some, None, take, drop, refl, sym, ap, ◌∙◌, subst, inl, inr}
-use Rattle.std.specs.Prelude.{◌⊎◌, All, is_some, if◌then◌else◌, slice_get}
+use Rattle.std.proofs.Common.{◌≡◌, ◌≢◌, ℕ, ◌+◌, ◌-◌, ◌^◌, ◌<◌, ◌==◌, Bool, true, false, cond, List, [], ◌∷◌, ◌++◌, Option, Some, None, take, drop, refl, sym, ap, ◌∙◌, subst, inl, inr}
+use Rattle.std.specs.Prelude.{◌⊎◌, All, min, is_some, if◌then◌else◌, slice_get}
 use Rattle.std.proofs.lemmas.Bool.Decides.{eqb_tells}
 use Rattle.std.proofs.lemmas.List.{append-nil, take-append-drop, nil_from_length}
 use Rattle.std.proofs.lemmas.List.Elements.{All-push}
@@ -24,7 +24,7 @@ use Rattle.link_group.specs.declared.link.Link.{Link}
 use Rattle.link_processes.specs.Laws.{KeptLaw}
 use Rattle.link_group.specs.OneLink.{number_behind, window, held, messages, handed_by, unknown, is_changing, put_fault, puts, unsure_by, retrieve_fault, retrieve_fault_by, retrieve_fault_in, accepted_in, accepted_of, lacking, hands_out, abandon_by, abandon_fault}
 use Rattle.link_group.specs.Links.{change, fault_at}
-use Rattle.link_group.specs.Failing.{handed, given_up, messages_by, none_known}
+use Rattle.link_group.specs.Failing.{handed, given_up, messages_by, none_known, sent_by}
 use Rattle.link_group.specs.Moving.{retrieval_by}
 use Rattle.link_group.specs.Set.{LinkSet, points_of, send_fault, send_fault_by, change_by, sent, bound_at}
 use Rattle.link_group.specs.Changing.{retrieve_fault_at, after_retrieve, messages_for, abandon_fault_at, after_abandon, unsent_at}
@@ -329,6 +329,6 @@ pub stays_abandoned : (laws : StepsKeepPlaces) (law : KeptLaw) (c : LinkSet) (re
     → Stays (after_abandon c l) (with_retrieval_of retrievals l (unsent_at c l)) accepted (gone ++ unsure (unacknowledged_at (slice_get c.links l)))
 unfolding abandon_fault_at after_abandon unsent_at
 stays_abandoned laws law c retrievals accepted gone l stays e =
-    let count = min (2 ^ 64 - 1) (c.unsure + sent_by (slice_get c.links l)) in
+    let count : ℕ = min (2 ^ 64 - 1) (c.unsure + sent_by (slice_get c.links l)) in
     listed (record c { links = change c.links l given_up; unsure = count }) c.accepted (c.gone ++ unsure (unacknowledged_at (slice_get c.links l))) _ accepted _
     (abandons_by laws law c retrievals accepted gone l count (slice_get c.links l) stays refl e)

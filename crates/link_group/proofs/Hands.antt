@@ -1,5 +1,5 @@
 -- A link's retrieved messages stay in its hand, whatever is done to the set, until they are diverted.
-use Rattle.std.proofs.Common.{◌≡◌, ℕ, ◌+◌, ◌-◌, ◌^◌, ◌==◌, zero, suc, Bool, true, List, [], Option, Some, None, length, map, slice_set, refl, sym, ap, ◌∙◌, subst, inl, inr}
+use Rattle.std.proofs.Common.{◌≡◌, ℕ, ◌+◌, ◌-◌, ◌^◌, ◌==◌, zero, suc, Bool, true, List, [], ◌++◌, Option, Some, None, length, map, slice_set, refl, sym, ap, ◌∙◌, subst, inl, inr}
 use Rattle.std.specs.Prelude.{min, slice_get, option_map}
 use Rattle.std.proofs.lemmas.Option.{slice_get-map}
 use Rattle.plain_laws.proofs.Truths.{by_test}

@@ -19,7 +19,7 @@ use Rattle.group_changeover.specs.declared.errors.RetrieveError.{RetrieveError}
 use Rattle.group_changeover.specs.declared.errors.RetrieveError.TheVariants as retrieve
 use Rattle.group_changeover.specs.declared.errors.AbandonError.TheVariants as abandon
 use Rattle.group_changeover.specs.declared.changeover.Kind.{Kind}
-use Rattle.group_changeover.specs.Bound.{is_bound}
+use Rattle.group_changeover.specs.Bound.{is_bound, unbound}
 use Rattle.group_changeover.specs.Limits.{SELECTIONS}
 use Rattle.group_changeover.specs.Sharing.{selection_of, link_of, selections, pick}
 use Rattle.link_group.specs.declared.link.Link.{Link}
@@ -54,7 +54,8 @@ over own peer unsure accepted gone table ks =
 
 -- a set with these lists
 relisted : (d : LinkSet) (accepted : List Msu) (gone : List Gone) → (d.accepted ≡ accepted) × (d.gone ≡ gone) → Reached d accepted gone → Live d
-relisted d accepted gone same was = rw (same.0, same.1) was
+relisted d accepted gone same was =
+    subst (λ (ms : List Msu). Reached d ms d.gone) (sym same.0) (subst (λ (g : List Gone). Reached d accepted g) (sym same.1) was)
 
 -- ---- one more call
 
@@ -267,10 +268,10 @@ ticked_is n own peer unsure accepted gone table table2 ks new mid new2 mid2 new3
 
 -- ---- a new set
 
-pub new_is : (own peer : ℕ) (ts : List Term) (ks : List Link) (table : List (Option ℕ)) → ks ≡ map (fresh (points own peer)) ts → table ≡ map (pick (able_links false ks)) selections
-    → over own peer 0 [] [] table ks ≡ new_set own peer ts
+pub new_is : (own peer : ℕ) (ts : List Term) (ks : List Link) (accepted : List Msu) (gone : List Gone) (table : List (Option ℕ)) → accepted ≡ [] → gone ≡ [] → ks ≡ map (fresh (points own peer)) ts → table ≡ map (pick (able_links false ks)) selections
+    → over own peer 0 accepted gone table ks ≡ new_set own peer ts
 unfolding new_set
-new_is own peer ts ks table links tables = rw (tables, links) refl
+new_is own peer ts ks accepted gone table none untold links tables = rw (none, untold, tables, links) refl
 
 pub new_few : (own peer : ℕ) (ts : List Term) (ks : List Link) (most : ℕ) → ks ≡ map (fresh (points own peer)) ts → length ts ≤ most → length ks ≤ most
 new_few own peer ts ks most e h = let size = ap (λ (xs : List Link). length xs) e ∙ length-map ts (fresh (points own peer)) in omega (arith, size, h)

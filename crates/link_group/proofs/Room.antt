@@ -1,5 +1,5 @@
 -- Ticks of a set, and lack of room.
-use Rattle.std.proofs.Common.{◌≡◌, ℕ, List, Option, map, sym, ◌∙◌, subst}
+use Rattle.std.proofs.Common.{◌≡◌, ℕ, List, Option, map, sym, ap, ◌∙◌, subst}
 use Rattle.std.specs.Prelude.{All}
 use Rattle.resend_store.specs.declared.messages.Msu.{Msu}
 use Rattle.link_group.specs.declared.gone.Gone.{Gone}

@@ -92,9 +92,13 @@ impl Group {
         match self.table.link_of(selection) {
             Some(at) => {
                 let accepted = self.accepted.and(&msu);
-                put_at(self.links.as_mut_slice(), at, msu)?;
-                self.accepted = accepted;
-                Ok(())
+                match put_at(self.links.as_mut_slice(), at, msu) {
+                    Ok(()) => {
+                        self.accepted = accepted;
+                        Ok(())
+                    }
+                    Err(fault) => Err(fault),
+                }
             }
             None => Err(SendError::NoLink),
         }
@@ -264,9 +268,13 @@ impl Group {
         ensures gone { self.new.gone ≡ self.old.gone ++ if_ok result (acknowledged (told_front (slice_get self.old.links link))) }
     {
         let gone = self.with_reported(link);
-        let count = retrieve_at(self.links.as_mut_slice(), link)?;
-        self.gone = gone;
-        Ok(count)
+        match retrieve_at(self.links.as_mut_slice(), link) {
+            Ok(count) => {
+                self.gone = gone;
+                Ok(count)
+            }
+            Err(fault) => Err(fault),
+        }
     }
 
     /// Gives up the sent messages of a link in changeover: they count as unsure. Retrieves those not sent since both

@@ -1,9 +1,10 @@
 -- Octets received on a link of a set.
-use Rattle.std.proofs.Common.{◌≡◌, ℕ, ◌+◌, ◌<◌, ◌≤◌, List, [], ◌∷◌, length, drop, Option, None, Some, Bool, true, false, if◌then◌else◌, refl, sym, ap, subst, arith, ◌∙◌}
+use Rattle.std.proofs.Common.{◌≡◌, ℕ, ◌+◌, ◌<◌, ◌≤◌, List, [], ◌∷◌, ◌++◌, length, drop, Option, None, Some, Bool, true, false, if◌then◌else◌, refl, sym, ap, subst, arith, ◌∙◌}
 use Rattle.std.specs.Prelude.{codes, is_some, slice_get, slice_set}
 use Rattle.std.proofs.lemmas.List.{length-drop, drop-drop}
 use Rattle.link_transceiver.specs.declared.signals.Report.{Report}
 use Rattle.link_group.specs.declared.link.Link.{Link}
+use Rattle.link_group.specs.Gone.{acknowledged, left_of}
 use Rattle.link_group.specs.Set.{LinkSet}
 use Rattle.link_group.specs.Links.{change, set_at}
 use Rattle.link_group.specs.Doing.{Reported, asked, asked_of, began, unbegun, leaves_out}
@@ -41,7 +42,7 @@ link_behind did l c d by_link =
     let there : slice_get by_link.links l ≡ Some by_link.at.after =
     ap (λ ks. slice_get ks l) by_link.at.links ∙ set_there c.links l by_link.at.before by_link.at.after by_link.at.there in
     ap (λ (x : LinkSet). slice_get x.links l) by_link.set
-    ∙ (ap (λ ks. slice_get ks l) (seen_links l (record c { links = by_link.links })) ∙ change_there asked by_link.links l by_link.at.after there)
+    ∙ (ap (λ ks. slice_get ks l) (seen_links l (record c { links = by_link.links; gone = c.gone ++ acknowledged (left_of by_link.at.before by_link.at.after) })) ∙ change_there asked by_link.links l by_link.at.after there)
 
 -- The link is there after the call.
 pub stays_there : (did : Link → Link → Type 0) (l : ℕ) (c d : LinkSet) → ByLink did l c d → l < length d.links

@@ -1,5 +1,8 @@
-use Rattle.std.proofs.Common.{rules, refl, arith, slice_set, Some, None, sym}
-use Rattle.link_group.specs.Commanding.{Commands}
+use Rattle.std.proofs.Common.{rules, refl, arith, slice_set, Some, None, sym, ap, ◌∙◌, ◌++◌}
+use Rattle.std.specs.Prelude.{slice_get}
+use Rattle.link_group.specs.Commanding.{Commands, cleared_at}
+use Rattle.link_group.specs.Gone.{unsure}
+use Rattle.link_group.specs.Set.{LinkSet}
 use Rattle.link_group.proofs.Numbered.{here, at_link, few_set}
 use Rattle.link_group.proofs.ByLinks.{by_command, written, few_written, cleared_here}
 use Rattle.link_group.proofs.Commands.{command_error, commanded, live_error}
@@ -11,7 +14,7 @@ returns-in-Ok-clause-ok c =
     by_command c.args.command c.args.link c.args.self.now _ c.self.inside.links.items (slice_set c.self.inside.links.items c.args.link c.command.new.self) c.as_mut_slice.result.now c.see.new.links _ c.self.inside.own c.self.inside.peer c.self.inside.unsure c.in-Ok.cleared _ c.self.inside.accepted.items c.self.inside.gone.items c.with_cleared-gone.result.items c.self.inside.table.links c.see.new.table.links (sym c.self.view_is) refl
     (commanded c.args.command c.args.link _ (slice_set c.self.inside.links.items c.args.link c.command.new.self) (at_link (Commands c.args.command None) c.args.link c.self.inside.links.items _ c.command.new.self (here c.self.inside.links.items c.args.link c.index_mut.result.now (search rules) c.index_mut.ensures.value) c.in-Ok.ensures.did))
     c.as_mut_slice.ensures.value (written c.self.inside.links.len c.see.new.links _ (search rules)) c.see.ensures.links c.see.ensures.table
-    (cleared_here c.args.command c.self.inside.links.items c.args.link _ c.in-Ok.cleared (here c.self.inside.links.items c.args.link c.index_mut.result.now (search rules) c.index_mut.ensures.value) c.in-Ok.ensures.cleared) (search rules) c.with_cleared-gone.ensures
+    (cleared_here c.args.command c.self.inside.links.items c.args.link _ c.in-Ok.cleared (here c.self.inside.links.items c.args.link c.index_mut.result.now (search rules) c.index_mut.ensures.value) c.in-Ok.ensures.cleared) (search rules) (c.with_cleared-gone.ensures ∙ ap (λ (s : LinkSet). s.gone ++ unsure (cleared_at c.args.command (slice_get s.links c.args.link))) (sym c.self.view_is))
 
 pub invariant_of-self : goal.invariant_of-self
 invariant_of-self c = (
@@ -22,7 +25,7 @@ invariant_of-self c = (
       (by_command c.args.command c.args.link _ _ c.self.inside.links.items (slice_set c.self.inside.links.items c.args.link c.command.new.self) c.as_mut_slice.result.now c.see.new.links _ c.self.inside.own c.self.inside.peer c.self.inside.unsure c.in-Ok.cleared _ c.self.inside.accepted.items c.self.inside.gone.items c.with_cleared-gone.result.items c.self.inside.table.links c.see.new.table.links refl refl
       (commanded c.args.command c.args.link _ (slice_set c.self.inside.links.items c.args.link c.command.new.self) (at_link (Commands c.args.command None) c.args.link c.self.inside.links.items _ c.command.new.self (here c.self.inside.links.items c.args.link c.index_mut.result.now (search rules) c.index_mut.ensures.value) c.in-Ok.ensures.did))
       c.as_mut_slice.ensures.value (written c.self.inside.links.len c.see.new.links _ (search rules)) c.see.ensures.links c.see.ensures.table
-      (cleared_here c.args.command c.self.inside.links.items c.args.link _ c.in-Ok.cleared (here c.self.inside.links.items c.args.link c.index_mut.result.now (search rules) c.index_mut.ensures.value) c.in-Ok.ensures.cleared) (search rules) c.with_cleared-gone.ensures)
+      (cleared_here c.args.command c.self.inside.links.items c.args.link _ c.in-Ok.cleared (here c.self.inside.links.items c.args.link c.index_mut.result.now (search rules) c.index_mut.ensures.value) c.in-Ok.ensures.cleared) (search rules) (c.with_cleared-gone.ensures ∙ ap (λ (s : LinkSet). s.gone ++ unsure (cleared_at c.args.command (slice_get s.links c.args.link))) (sym c.self.view_is)))
       c.self.invariant.3,
 )
 
