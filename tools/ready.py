@@ -1,15 +1,16 @@
-"""Lists the faults that the gate refuses before any proof is tried: files that aren't in `rt fmt`'s layout, files where
-no check looks, words that stand for something else in a contract, must-fail edits that don't apply or that name what
-their file doesn't import, a text of the program's own that isn't the one in examples/, what follows from the grammar's
-productions and wasn't written again (tools/productions), names in the documents and in the crates' READMEs that aren't
-there any more, an index (tools/index) that isn't theirs, pictures (tools/pictures) that aren't what `draw` makes, lines
-of specs that are too wide to be read, too many ways down crates.txt, crates whose edits in edits/ were last tried ten
-landings ago (edits/README.md), functions and lines of the tools that are too long or too wide, or more long files and
-functions in the crates than there were (tools/looks/counts.py), paths of contracts and definitions that reach three
-fields deep into another crate's value (tools/looks/fields.py), a README.md of more than 170 lines, links and commands
-of the pages that lead nowhere, more of the English that is to go than there was (tools/looks/pages.py), what a crate
-hands on that its neighbour only hands on, or more than 150 lines that hand on (tools/looks/handed.py), and calls of a
-link set that don't say what they add to its lists (tools/looks/telling.py). A few seconds; to be run before a commit that is to land. Beside that it notes which crates' edits are to be tried by
+"""Lists the faults that the gate refuses before any proof is tried: files that aren't in `rt fmt`'s layout, files
+where no check looks, words that stand for something else in a contract, must-fail edits that don't apply or that name
+what their file doesn't import, a text of the program's own that isn't the one in examples/, what follows from the
+grammar's productions and wasn't written again (tools/productions), names in the documents and in the crates' READMEs
+that aren't there any more, an index (tools/index) that isn't theirs, pictures (tools/pictures) that aren't what
+`draw` makes, lines of specs that are too wide to be read, too many ways down crates.txt, crates whose edits in edits/
+were last tried ten landings ago (edits/README.md), functions and lines of the tools that are too long or too wide, or
+more long files and functions in the crates than there were (tools/looks/counts.py), paths of contracts and
+definitions that reach three fields deep into another crate's value (tools/looks/fields.py), a README.md of more than
+170 lines, links and commands of the pages that lead nowhere, more of the English that is to go than there was
+(tools/looks/pages.py), what a crate hands on that its neighbour only hands on, or more than 150 lines that hand on
+(tools/looks/handed.py), and calls of a link set that don't say what they add to its lists (tools/looks/telling.py). A
+few seconds; to be run before a commit that is to land. Beside that it notes which crates' edits are to be tried by
 tools/edits, since their contracts changed, and whether the landing is recorded: neither is a fault.
 
 usage: tools/ready [FOLDER]

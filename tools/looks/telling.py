@@ -1,14 +1,16 @@
-"""What each call of a link set says of the two lists that the set carries for its clauses: `accepted`, what `send` took,
-and `gone`, what of it left. A set's type says that the lists are those of some calls that lead to it. It can't say that
-they are those of the calls made: a call that forgets both, and begins them anew, keeps the type's invariant. So each
-public call that may change a set says in two equations what it adds to them. `tools/ready` asks this.
+"""What each call of a link set says of the two lists that the set carries for its clauses: `accepted`, what `send`
+took, and `gone`, what of it left. A set's type says that the lists are those of some calls that lead to it. It can't
+say that they are those of the calls made: a call that forgets both, and begins them anew, keeps the type's
+invariant. So each public call that may change a set says in two equations what it adds to them. `tools/ready` asks
+this.
 
-- A public call of `Group` that takes the set to change it has one clause `accepted` and one clause `gone`, in the words
-  of UNCHANGED, or of TELLS for the calls that add something; it has no ghost value, and hands out nothing to change.
-- Nothing else takes a set to change it, or by value: no function beside, no trait of `Group` except its model, no impl
-  for a type with a set in it or for every type. No type and no name stands for `Group`, no macro makes a call, and none
-  of its fields is public.
-- The definitions that TELLS names come from CALLS' imports under their own names."""
+- A public call of `Group` that takes the set to change it has one clause `accepted` and one clause `gone`, in the
+  words of UNCHANGED, or of TELLS for the calls that add something; it has no ghost value, and hands out nothing to
+  change.
+- Nothing else takes a set to change it, or by value: no function beside, no trait of `Group` except its model, no
+  impl for a type with a set in it or for every type. No type and no name stands for `Group`, no macro makes a call,
+  and none of its fields is public.
+- The file of such a call has the definitions that TELLS names from where FROM says, under their own names."""
 import re
 
 CRATE = "link_group"
@@ -38,6 +40,7 @@ MAKERS = {"new"}
 FUNCTION = re.compile(r'^( *)(pub )?(pub\(\w+\) )?((?:const |async |unsafe |extern "\w+" |default )*)fn (\w+)', re.M)
 IMPL = re.compile(r"^( *)(?:unsafe )?impl\b(.*?)\{", re.M | re.S)
 CLAUSE = re.compile(r"^\s*(requires|ensures)\b\*?\s*(\w*)\s*\{(.*)\}\s*$", re.M)
+TYPE = re.compile(r"^ *(?:pub(?:\(\w+\))? )?(struct|enum|type|trait|union) (\w+)(.*?)^(?=\S)", re.M | re.S)
 SHARED = re.compile(r"&(?:'\w+ )?Group\b|Snapshot<Group>")
 
 
@@ -138,7 +141,7 @@ def beside(text):
         taken = SHARED.sub("", signature(of).split("->", 1)[0])
         if re.search(r"\bGroup\b", taken):
             yield f"{name} takes a set to change it, or by value"
-    for it in re.finditer(r"^ *(?:pub(?:\(\w+\))? )?(struct|enum|type|trait|union) (\w+)(.*?)^(?=\S)", text + "\n;", re.M | re.S):
+    for it in TYPE.finditer(text + "\n;"):
         if it[2] != "Group" and re.search(r"\bGroup\b", SHARED.sub("", it[3])):
             yield f"{it[1]} {it[2]} has a set in it"
         if it[2] == "Group" and re.search(r"^ +pub \w", it[3], re.M):

@@ -64,8 +64,8 @@ pub record Alone (did : Link → Link → Type 0) (l : ℕ) (c d : LinkSet) : Ty
 
 -- ---- commands
 
--- A command to the terminal of the link at a place. Messages cleared by its text have left and count
--- as unsure, except those bound to the link; the count stops at its greatest value.
+-- A command to the terminal of the link at a place. Messages cleared by its text have left and
+-- count as unsure, except those bound to the link; the count stops at its greatest value.
 pub record ByCommand (command : Command) (l : ℕ) (c d : LinkSet) : Type 0 where
   pub links : List Link
   pub at : AtLink (Commanded command) l c.links links

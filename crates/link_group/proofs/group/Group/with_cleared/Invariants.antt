@@ -4,4 +4,8 @@ use Rattle.link_group.specs.Gone.{unsure}
 use Rattle.link_group.proofs.group.Group.with_cleared.Given as goal
 
 abbrev pub ghost-with : goal.ghost-with
-ghost-with a = unsure (cleared_at a.seen.now.command (slice_get a.seen.now.place.set.value.links a.seen.now.place.link))
+ghost-with a =
+    let seen = a.seen.now in
+    let place = seen.place in
+    let set = place.set.value in
+    unsure (cleared_at seen.command (slice_get set.links place.link))
