@@ -20,7 +20,8 @@ use Rattle.link_group.specs.Diverting.{after_divert}
 use Rattle.link_group.specs.Placing.{rebalance_fault, rebalanced}
 use Rattle.link_group.specs.Lines.{ByLink, ByCommand, Alone, after_admission, IsCommandError}
 use Rattle.link_group.specs.Ticks.{after_ticks}
-use Rattle.link_group.specs.Reached.{Gone, Reached}
+use Rattle.link_group.specs.declared.gone.Gone.{Gone}
+use Rattle.link_group.specs.Reached.{Reached}
 use Rattle.link_group.specs.Reached as calls
 use Rattle.line_tending.specs.Calling.{Handed, IsQuiet, Delivers, no_call, quiet, one_report, Brought, ByCalls}
 use Rattle.line_tending.specs.Calling as call

@@ -12,7 +12,8 @@ use Rattle.link_group.specs.Diverting.{after_divert}
 use Rattle.link_group.specs.Doing.{Listened, Sent, Reported}
 use Rattle.link_group.specs.Lines.{ByLink, ByCommand, Alone, after_admission}
 use Rattle.link_group.specs.Placing.{rebalance_fault, rebalanced}
-use Rattle.link_group.specs.Reached.{Gone, Reached}
+use Rattle.link_group.specs.declared.gone.Gone.{Gone}
+use Rattle.link_group.specs.Reached.{Reached}
 use Rattle.link_group.specs.Set.{LinkSet, send_fault, sent, bind_fault_at, bound_at}
 use Rattle.link_group.specs.Ticks.{after_ticks}
 
