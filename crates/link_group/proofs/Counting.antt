@@ -16,6 +16,7 @@ use Rattle.link_group.specs.Set.{LinkSet, sent, bound_at}
 use Rattle.group_changeover.specs.Bound.{unbound}
 use Rattle.link_group.specs.Changing.{is_for, after_failure, after_message, after_retrieve, after_abandon}
 use Rattle.link_group.specs.Diverting.{settled, emptied, with_division, after_hand, after_divert}
+use Rattle.link_group.specs.Replacing.{after_replace}
 use Rattle.link_group.specs.Placing.{rebalanced}
 use Rattle.link_processes.specs.declared.commands.Command.{Command}
 use Rattle.link_group.specs.Commanding.{cleared_at}
@@ -25,7 +26,7 @@ use Rattle.link_group.specs.New.{new_set}
 use Rattle.link_group.specs.Laws.{unsure_in, UnsureAreCounted}
 use Rattle.link_group.specs.declared.gone.Gone.{Gone}
 use Rattle.link_group.specs.Gone.{acknowledged, unsure, left_of, unacknowledged_at, told_front}
-use Rattle.link_group.specs.Reached.{Reached, opens, sends, binds, fails, hears, retrieves, abandons, diverts, rebalances, listens, speaks, gives, reports, commands, refuses, ticks, makes_room, lacks_room, admits}
+use Rattle.link_group.specs.Reached.{Reached, opens, sends, binds, fails, hears, retrieves, abandons, diverts, rebalances, listens, speaks, gives, reports, commands, refuses, ticks, makes_room, lacks_room, replaces, admits}
 
 -- ---- messages that left
 
@@ -118,6 +119,10 @@ retrieved_same : (c : LinkSet) (l : ℕ) → (after_retrieve c l).unsure ≡ c.u
 unfolding after_retrieve
 retrieved_same c l = refl
 
+replaced_same : (c : LinkSet) (l : ℕ) (t : Term) → (after_replace c l t).unsure ≡ c.unsure
+unfolding after_replace
+replaced_same c l t = refl
+
 rebalanced_same : (c : LinkSet) → (rebalanced c).unsure ≡ c.unsure
 unfolding rebalanced
 rebalanced_same c = refl
@@ -168,6 +173,7 @@ counted _ _ _ (refuses c d accepted gone l command refusal r did) = alone_same _
 counted _ _ _ (ticks c accepted gone n r) = ticked_same n c ∙ counted c accepted gone r
 counted _ _ _ (makes_room c accepted gone r) = counted c accepted gone r
 counted _ _ _ (lacks_room c d accepted gone r lacks) = ap (λ (x : LinkSet). x.unsure) lacks.set ∙ counted c accepted gone r
+counted _ _ _ (replaces c accepted gone l t r new free) = replaced_same c l t ∙ counted c accepted gone r
 counted _ _ _ (admits c accepted gone l way r) = admitted_same c l way ∙ counted c accepted gone r
 
 pub unsure_are_counted : UnsureAreCounted

@@ -35,13 +35,15 @@ use Rattle.link_group.specs.Ticks.{with_room, after_ticks}
 use Rattle.link_group.specs.Laws.{held_by, held_at, hand_at, EachInOnePlace, UnsureAreCounted, Accounted}
 use Rattle.link_group.specs.declared.gone.Gone.{Gone}
 use Rattle.link_group.specs.Gone.{acknowledged, unsure, messages_gone}
-use Rattle.link_group.specs.Reached.{Reached, opens, sends, binds, fails, hears, retrieves, abandons, diverts, rebalances, listens, speaks, gives, reports, commands, refuses, ticks, makes_room, lacks_room, admits, IsReached}
+use Rattle.link_group.specs.Reached.{Reached, opens, sends, binds, fails, hears, retrieves, abandons, diverts, rebalances, listens, speaks, gives, reports, commands, refuses, ticks, makes_room, lacks_room, replaces, admits, IsReached}
 use Rattle.link_group.proofs.Calling.{with_retrieval_of, stays_sent, stays_bound, stays_retrieved, stays_abandoned}
 use Rattle.link_group.proofs.EndingLaws.{same_retrievals, left_to_divert, stays_diverted}
-use Rattle.link_group.proofs.Hands.{hands_new, hands_sent, hands_bound, hands_failed, hands_heard, hands_rebalanced, hands_by_link, hands_by_command, hands_alone, hands_roomy, hands_ticked, hands_lacking, hands_admitted, hands_retrieved, hands_abandoned, out_emptied, hands_diverted}
+use Rattle.link_group.proofs.Hands.{hands_new, hands_sent, hands_bound, hands_failed, hands_heard, hands_rebalanced, hands_by_link, hands_by_command, hands_alone, hands_roomy, hands_ticked, hands_lacking, hands_admitted, hands_replaced, hands_retrieved, hands_abandoned, out_emptied, hands_diverted}
 use Rattle.link_group.proofs.Fitting.{IsSmall, none_small, FitsAt, fits_alike, fits_fewer}
 use Rattle.link_group.proofs.PlacingLaws.{stays_rebalanced}
 use Rattle.link_group.proofs.Staying.{Stays, gone_marked}
+use Rattle.link_group.specs.Replacing.{after_replace}
+use Rattle.link_group.proofs.Replacing.{stays_replaced}
 use Rattle.link_group.proofs.Working.{one_changes, stays_failed, stays_heard, stays_admitted, part_messages, seen_works, link_works, link_keeps, alone_keeps, transceiver_tidied, stays_roomy, stays_ticked, stays_lacking}
 
 -- ---- a new set
@@ -202,6 +204,8 @@ stays_reached laws law _ _ _ (makes_room c accepted gone r) =
     named laws (record c { links = with_room c.links }) (hand_at c) accepted gone (hands_roomy c) (stays_roomy laws c (hand_at c) accepted gone (stays_reached laws law c accepted gone r))
 stays_reached laws law _ _ _ (lacks_room c d accepted gone r lacks) =
     named laws d (hand_at c) accepted gone (hands_lacking c d lacks) (stays_lacking laws c d (hand_at c) accepted gone (stays_reached laws law c accepted gone r) lacks)
+stays_reached laws law _ _ _ (replaces c accepted gone l t r new free) =
+    named laws (after_replace c l t) (hand_at c) accepted gone (hands_replaced c l t) (stays_replaced laws c (hand_at c) accepted gone l t (stays_reached laws law c accepted gone r) new free)
 stays_reached laws law _ _ _ (admits c accepted gone l way r) =
     named laws (after_admission c l way) (hand_at c) accepted gone (hands_admitted c l way) (stays_admitted laws c (hand_at c) accepted gone l way (stays_reached laws law c accepted gone r))
 

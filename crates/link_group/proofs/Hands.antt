@@ -29,6 +29,7 @@ use Rattle.link_group.specs.Changing.{is_for, after_failure, after_message, afte
 use Rattle.link_group.specs.Diverting.{diverted, settled_by, emptied, after_taken}
 use Rattle.link_group.specs.Placing.{rebalanced}
 use Rattle.link_group.specs.Gone.{acknowledged, unsure, left_of}
+use Rattle.link_group.specs.Replacing.{replaced, after_replace}
 use Rattle.link_group.specs.Lines.{seen, all_seen, after_admission, ByLink, ByCommand, Alone}
 use Rattle.link_group.specs.Ticks.{with_room, after_ticks, NoRoom}
 use Rattle.link_group.specs.New.{points, new_set}
@@ -136,6 +137,10 @@ hands_by_command command l c d by hand = λ j.
 pub hands_alone : (did : Link → Link → Type 0) (l : ℕ) (c d : LinkSet) (by : Alone did l c d) → by.at.after.hand ≡ by.at.before.hand → SameHands d c
 hands_alone did l c d by hand = λ j.
     ap (λ (x : LinkSet). hand_at x j) by.set ∙ set_at c.links by.links l j by.at.before by.at.after (same j l) by.at.there by.at.links hand
+
+pub hands_replaced : (c : LinkSet) (l : ℕ) (t : Term) → SameHands (after_replace c l t) c
+unfolding after_replace
+hands_replaced c l t = λ j. hand_changed (replaced t) c.links l j (λ k. refl)
 
 pub hands_roomy : (c : LinkSet) → SameHands (record c { links = with_room c.links }) c
 hands_roomy c = λ j. hand_mapped roomy c.links j (λ k. refl)

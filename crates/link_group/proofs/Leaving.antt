@@ -24,10 +24,11 @@ use Rattle.link_group.specs.Ticking.{roomy}
 use Rattle.link_group.specs.Set.{LinkSet, change_by, sent, bound_at}
 use Rattle.link_group.specs.Changing.{after_failure, after_retrieve, after_abandon}
 use Rattle.link_group.specs.Lines.{ByLink, Alone, after_admission}
+use Rattle.link_group.specs.Replacing.{replaced, after_replace}
 use Rattle.link_group.specs.Placing.{rebalanced}
 use Rattle.link_group.specs.Ticks.{with_room, NoRoom}
 use Rattle.link_group.specs.Ends.{place_behind}
-use Rattle.link_group.specs.Joined.{end_of, Anything, OfOne, takes, takes_bound, is_failed, hands_out, gives_up, works, is_commanded, refuses_it, counted_in, counted_of}
+use Rattle.link_group.specs.Joined.{end_of, Anything, OfOne, takes, takes_bound, is_failed, hands_out, gives_up, is_replaced, works, is_commanded, refuses_it, counted_in, counted_of}
 use Rattle.link_group.proofs.Along.{tidied_same}
 use Rattle.link_group.proofs.Between.{Fewer, kept_holds}
 use Rattle.link_group.proofs.Calls.{behind_links}
@@ -127,12 +128,13 @@ refused_leaves command refusal l c e by =
 -- ---- a call of another link
 
 pub only_one : (i l : ℕ) (c e : LinkSet) → (l ≡ i → ⊥) → OfOne i c e → slice_get e.links l ≡ slice_get c.links l
-unfolding sent bound_at after_failure after_retrieve after_abandon
+unfolding sent bound_at after_failure after_retrieve after_abandon after_replace
 only_one i l _ _ other (takes c m link) = ap (λ (o : Option ℕ). slice_get (change_by c.links o (puts m)) l) link ∙ change_other (puts m) c.links i l other
 only_one i l _ _ other (takes_bound c m) = change_other (puts m) c.links i l other
 only_one i l _ _ other (is_failed c) = change_other changeover_begins_at c.links i l other
 only_one i l _ _ other (hands_out c) = change_other handed c.links i l other
 only_one i l _ _ other (gives_up c) = change_other given_up c.links i l other
+only_one i l _ _ other (is_replaced c t) = change_other (replaced t) c.links i l other
 only_one i l _ _ other (works c e by) =
     ap (λ (ks : List Link). slice_get ks l) (behind_links Anything i c e by)
     ∙ (change_other asked by.links i l other ∙ (ap (λ (ks : List Link). slice_get ks l) by.at.links ∙ set_other c.links i l by.at.after other))

@@ -31,6 +31,7 @@ mod PlacingLaws
 pub mod Refusing
 pub mod Renewing
 pub mod Room
+mod Replacing
 mod Settling
 mod Shut
 mod Sounding

@@ -23,6 +23,7 @@ use Rattle.group_changeover.specs.Bound.{is_bound, unbound}
 use Rattle.group_changeover.specs.Limits.{SELECTIONS}
 use Rattle.group_changeover.specs.Sharing.{selection_of, link_of, selections, pick}
 use Rattle.link_group.specs.declared.link.Link.{Link}
+use Rattle.link_term.specs.Opening.{IsNew}
 use Rattle.link_term.specs.Term.{Term}
 use Rattle.link_group.specs.New.{IsUnused, fresh}
 use Rattle.link_group.specs.OneLink.{fault_of, put_fault, puts, bind_fault, retrieve_fault, retrieve_refusal, abandon_fault, is_changing}
@@ -36,6 +37,8 @@ use Rattle.link_group.specs.Commanding.{cleared_at, Commanded, Refused}
 use Rattle.link_group.specs.Set.{LinkSet, points_of, send_fault, sent, bind_fault_at, bound_at}
 use Rattle.link_group.specs.Changing.{fail_fault, after_failure, is_for, after_message, retrieve_fault_at, after_retrieve, abandon_fault_at, after_abandon}
 use Rattle.link_group.specs.Diverting.{settled, after_hand, after_divert}
+use Rattle.link_group.specs.declared.replacing.ReplaceError.TheVariants as replace
+use Rattle.link_group.specs.Replacing.{replace_fault_of, replace_fault, replaced, after_replace}
 use Rattle.link_group.specs.Placing.{table_if, rebalance_fault, rebalanced}
 use Rattle.link_group.specs.Lines.{ByLink, ByCommand, Alone, after_admission, seen, all_seen}
 use Rattle.link_group.specs.Ticks.{with_room, after_ticks, NoRoom}
@@ -43,7 +46,7 @@ use Rattle.link_group.specs.New.{points, new_set}
 use Rattle.link_group.specs.declared.gone.Gone.{Gone}
 use Rattle.link_group.specs.Gone.{acknowledged, unsure, told_front, unacknowledged_at, left_of}
 use Rattle.link_group.proofs.Listing.{heard_keeps, diverted_keeps, link_tells, command_tells, alone_keeps, left_here, spoken_keeps, given_keeps, reported_keeps}
-use Rattle.link_group.specs.Reached.{Reached, IsReached, opens, sends, binds, fails, hears, retrieves, abandons, diverts, rebalances, listens, speaks, gives, reports, commands, refuses, ticks, makes_room, lacks_room, admits}
+use Rattle.link_group.specs.Reached.{Reached, IsReached, opens, sends, binds, fails, hears, retrieves, abandons, diverts, rebalances, listens, speaks, gives, reports, commands, refuses, ticks, makes_room, lacks_room, replaces, admits}
 
 abbrev pub Live : LinkSet → Type 0
 Live c = IsReached c
@@ -96,6 +99,10 @@ rebalanced_reached c free was = rebalances c c.accepted c.gone was free
 admitted_reached : (c : LinkSet) (l : ℕ) (way : Bool) → Live c → Live (after_admission c l way)
 unfolding after_admission
 admitted_reached c l way was = admits c c.accepted c.gone l way was
+
+replaced_reached : (c : LinkSet) (l : ℕ) (t : Term) → IsNew t → replace_fault c l ≡ None → Live c → Live (after_replace c l t)
+unfolding after_replace
+replaced_reached c l t new free was = replaces c c.accepted c.gone l t was new free
 
 pub heard_by_link : (octets : List ℕ) (taken l : ℕ) (c d : LinkSet) → ByLink (Listened octets taken) l c d → Live c → Live d
 heard_by_link octets taken l c d did live =
@@ -205,6 +212,14 @@ unfolding abandon_fault_at after_abandon
 live_abandoned own peer unsure count n accepted gone gone2 table ks new mid l same free is sent counts left live =
     let whole : over own peer count accepted gone2 table mid ≡ after_abandon (over own peer unsure accepted gone table ks) l = rw (counts, sent, left, same, is) refl in
     subst Live (sym whole) (abandoned_reached (over own peer unsure accepted gone table ks) l free live)
+
+pub live_replaced : (own peer unsure : ℕ) (accepted : List Msu) (gone : List Gone) (table : List (Option ℕ)) (ks new mid : List Link) (l : ℕ) (t : Term) → mid ≡ new
+    → fault_at replace.NoLink replace_fault_of (slice_get ks l) ≡ None → new ≡ change ks l (replaced t) → IsNew t
+    → Live (over own peer unsure accepted gone table ks) → Live (over own peer unsure accepted gone table mid)
+unfolding replace_fault after_replace
+live_replaced own peer unsure accepted gone table ks new mid l t same free is unused live =
+    let whole : over own peer unsure accepted gone table mid ≡ after_replace (over own peer unsure accepted gone table ks) l t = rw (same, is) refl in
+    subst Live (sym whole) (replaced_reached (over own peer unsure accepted gone table ks) l t unused free live)
 
 pub live_heard : (own peer unsure : ℕ) (accepted : List Msu) (gone : List Gone) (table : List (Option ℕ)) (ks new mid : List Link) (m : Changeover) (l : ℕ) → mid ≡ new → is_for (over own peer unsure accepted gone table ks) m ≡ true
     → l ≡ m.label.sls → new ≡ change ks l (hears_at m.kind) → Live (over own peer unsure accepted gone table ks) → Live (over own peer unsure accepted gone table mid)

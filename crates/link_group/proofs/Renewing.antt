@@ -1,7 +1,8 @@
 -- Messages bound to a link: how many there are, and that they leave when its directions restart.
 use Rattle.std.proofs.Common.{◌≡◌, ℕ, ◌+◌, ◌-◌, ◌<◌, ◌≤◌, zero, suc, Bool, true, false, cond, List, [], ◌∷◌, ◌++◌, Some, length, take, drop, refl, sym, ap, ◌∙◌, arith, append_assoc}
-use Rattle.std.specs.Prelude.{if◌then◌else◌, slice_get, filter}
+use Rattle.std.specs.Prelude.{nat_lt, if◌then◌else◌, slice_get, filter}
 use Rattle.std.proofs.lemmas.List.{length-take-le, length-append}
+use Rattle.std.proofs.lemmas.Bool.Decides.{nat_tests}
 use Rattle.plain_laws.proofs.Truths.{by_test}
 use Rattle.resend_store.specs.declared.messages.Msu.{Msu}
 use Rattle.resend_store.specs.Window.{IsWindow, unacknowledged}
@@ -11,9 +12,13 @@ use Rattle.group_changeover.proofs.Unbound.{unbound-nil, unbound-bound, unbound-
 use Rattle.link_term.specs.Kept.{window_of}
 use Rattle.link_term.specs.Term.{Term}
 use Rattle.link_group.specs.declared.link.Link.{Link}
-use Rattle.link_group.specs.OneLink.{window, held, bound_by, bound_among, unknown}
+use Rattle.link_group.specs.OneLink.{window, held, bound_by, messages, bound_among, unknown}
 use Rattle.link_group.specs.Doing.{began, unbegun, leaves_out, anew, came_first, with_kept, without_bound_at, without_bound}
 use Rattle.link_group.proofs.Turning.{begun}
+
+take_all : (ms : List Msu) → take (length ms) ms ≡ ms
+take_all [] = refl
+take_all (m ∷ ms) = ap (λ (xs : List Msu). m ∷ xs) (take_all ms)
 
 -- ---- how many there are
 
@@ -51,6 +56,16 @@ unknown_is k sent n whole is so =
     let long : length (unacknowledged (window k)) ≡ (window k).sent = length-take-le (window k).sent (held k) within in
     let told : n ≡ length (filter (is_bound k.points) (unacknowledged (window k))) = so ∙ ap (λ (j : ℕ). length (bound_among k j)) is in
     omega (arith, all, long, told, is)
+
+fewer : (n m held : ℕ) → n + m ≡ held → nat_lt n held ≡ nat_lt 0 m
+fewer n m held e = grind (arith, nat_tests, e)
+
+pub some_unbound : (k : Link) (count n : ℕ) → count ≡ length (held k) → n ≡ length (bound_among k count) → nat_lt n count ≡ nat_lt 0 (length (messages k))
+some_unbound k count n is so =
+    let whole : take count (held k) ≡ held k = ap (λ (i : ℕ). take i (held k)) is ∙ take_all (held k) in
+    let told : n ≡ length (filter (is_bound k.points) (held k)) = so ∙ ap (λ (ms : List Msu). length (filter (is_bound k.points) ms)) whole in
+    let sum : n + length (messages k) ≡ count = omega (arith, told, both k.points (held k), is) in
+    fewer n (length (messages k)) count sum
 
 pub unbound_among : (k : Link) (count n : ℕ) → count ≤ length (held k) → n ≡ length (bound_among k count) → count - n ≡ length (unbound k.points (take count (held k)))
 unbound_among k count n within so =

@@ -23,7 +23,7 @@ use Rattle.link_group.specs.OneLink.{held, processes_of}
 use Rattle.link_group.specs.Commanding.{behind_command, Refused}
 use Rattle.link_group.specs.Doing.{Listened, Spoken, Sent, Reported, count_spoken}
 use Rattle.link_group.specs.Failing.{handed, given_up}
-use Rattle.link_term.specs.Term.{transceiver_of}
+use Rattle.link_term.specs.Term.{Term, transceiver_of}
 use Rattle.link_term.specs.Hearing.{Hears}
 use Rattle.link_term.specs.Speaking.{given as units_given}
 use Rattle.link_term.specs.Laws.{accepted_along}
@@ -32,6 +32,7 @@ use Rattle.link_group.specs.Set.{LinkSet, sent, bound_at}
 use Rattle.link_group.specs.Changing.{after_failure, order_at, is_for, after_message, reply_to}
 use Rattle.link_group.specs.Changing.{after_retrieve, after_abandon}
 use Rattle.link_group.specs.Diverting.{after_divert}
+use Rattle.link_group.specs.Replacing.{after_replace}
 use Rattle.link_group.specs.Placing.{rebalanced}
 use Rattle.link_group.specs.Laws.{hand_at}
 use Rattle.link_group.specs.Lines.{ByLink, ByCommand, Alone, after_admission}
@@ -107,6 +108,7 @@ pub data OfOne (i : ℕ) : LinkSet → LinkSet → Type 0 where
   is_failed : (c : LinkSet) → OfOne i c (after_failure c i)
   hands_out : (c : LinkSet) → OfOne i c (after_retrieve c i)
   gives_up : (c : LinkSet) → OfOne i c (after_abandon c i)
+  is_replaced : (c : LinkSet) (t : Term) → OfOne i c (after_replace c i t)
   works : (c e : LinkSet) → ByLink Anything i c e → OfOne i c e
   is_commanded : (c e : LinkSet) (command : Command) → ByCommand command i c e → OfOne i c e
   refuses_it : (c e : LinkSet) → Alone Anything i c e → OfOne i c e

@@ -1,4 +1,5 @@
 pub mod Along
+pub mod Beginning
 pub mod Changing
 pub mod Commanding
 pub mod Diverting
@@ -18,6 +19,7 @@ pub mod OneLink
 pub mod Placing
 pub mod Reached
 pub mod Reading
+pub mod Replacing
 pub mod Set
 pub mod Stating
 pub mod Tables

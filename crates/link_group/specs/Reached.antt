@@ -9,6 +9,7 @@ use Rattle.group_changeover.specs.Limits.{SELECTIONS}
 use Rattle.group_changeover.specs.Sharing.{selection_of}
 use Rattle.actor_machine.specs.declared.reply.Refusal.{Refusal}
 use Rattle.link_processes.specs.declared.commands.Command.{Command}
+use Rattle.link_term.specs.Opening.{IsNew}
 use Rattle.link_term.specs.Term.{Term}
 use Rattle.link_group.specs.declared.gone.Gone.{Gone}
 use Rattle.link_group.specs.Gone.{acknowledged, unsure, told_front, unacknowledged_at}
@@ -20,6 +21,7 @@ use Rattle.link_group.specs.Set.{LinkSet, points_of, send_fault, sent, bind_faul
 use Rattle.link_group.specs.Changing.{fail_fault, after_failure, after_message, retrieve_fault_at}
 use Rattle.link_group.specs.Changing.{after_retrieve, abandon_fault_at, after_abandon}
 use Rattle.link_group.specs.Diverting.{after_divert}
+use Rattle.link_group.specs.Replacing.{replace_fault, after_replace}
 use Rattle.link_group.specs.Placing.{rebalance_fault, rebalanced}
 use Rattle.link_group.specs.Lines.{ByLink, ByCommand, Alone, after_admission}
 use Rattle.link_group.specs.Ticks.{with_room, after_ticks, NoRoom}
@@ -84,6 +86,9 @@ pub data Reached : LinkSet → List Msu → List Gone → Type 0 where
       → Reached c accepted gone → Reached (record c { links = with_room c.links }) accepted gone
   lacks_room : (c d : LinkSet) (accepted : List Msu) (gone : List Gone)
       → Reached c accepted gone → NoRoom c d → Reached d accepted gone
+  replaces : (c : LinkSet) (accepted : List Msu) (gone : List Gone) (l : ℕ) (t : Term)
+      → Reached c accepted gone → IsNew t → replace_fault c l ≡ None
+      → Reached (after_replace c l t) accepted gone
   admits : (c : LinkSet) (accepted : List Msu) (gone : List Gone) (l : ℕ) (way : Bool)
       → Reached c accepted gone → Reached (after_admission c l way) accepted gone
 

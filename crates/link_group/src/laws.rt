@@ -1,6 +1,7 @@
 //! Laws of link sets. Calling one costs nothing.
 ghost use Rattle.link_group.specs.Along.{TerminalsFare};
 ghost use Rattle.link_group.specs.Ends.{EndsComplete, EndsHeed};
+ghost use Rattle.link_group.specs.Beginning.{ReplacedBegin};
 ghost use Rattle.link_group.specs.Joined.{SetsComplete};
 ghost use Rattle.link_group.specs.Laws.{EachInOnePlace, UnsureAreCounted};
 
@@ -49,4 +50,10 @@ pub fn terminals_fare_so()
 /// their order. Units that don't go through the stores are free: LSSUs, and all units while none are taken.
 pub fn sets_complete_each_life()
     ensures { SetsComplete }
+{}
+
+/// A link whose terminal was replaced begins anew in both directions: a life of the link may begin with it, at either
+/// end.
+pub fn replaced_terminals_begin_anew()
+    ensures { ReplacedBegin }
 {}

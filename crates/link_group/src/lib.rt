@@ -17,6 +17,7 @@ mod new;
 mod open;
 mod placing;
 mod reading;
+mod replacing;
 mod sending;
 mod state;
 mod tables;
@@ -28,10 +29,11 @@ pub use ending::DivertError;
 pub use gone::Gone;
 pub use group::{Group, Sif};
 pub use laws::{
-    each_message_stands_in_one_place, ends_heed_all_else, retrieval_completes_each_life,
-    sets_complete_each_life, terminals_fare_so, unsure_messages_are_counted,
+    each_message_stands_in_one_place, ends_heed_all_else, replaced_terminals_begin_anew,
+    retrieval_completes_each_life, sets_complete_each_life, terminals_fare_so, unsure_messages_are_counted,
 };
 pub use link_processes::Command;
 pub use link_term::CallError;
+pub use replacing::{NotReplaced, ReplaceError};
 pub use sending::{Answered, Heard};
 pub use state::LinkState;

@@ -52,6 +52,13 @@ pub record IsOverWithin (d : Draft) (limits : RoundLimits) (mode : Mode) (t : Te
 abbrev pub IsOver : Draft → Mode → Term → Type 0
 IsOver d mode t = IsOverWithin d usual_limits mode t
 
+-- a terminal as it is made over a set, with no call since
+pub record IsNew (t : Term) : Type 0 where
+  pub set : Draft
+  pub limits : RoundLimits
+  pub mode : Mode
+  pub over : IsOverWithin set limits mode t
+
 -- the set doesn't meet this requirement, the first such one; or it meets all, and memory runs out
 abbrev pub IsRefusedOver : Draft → OpenError → Type 0
 IsRefusedOver d (NoName name) = IsFirstLacking d name wanted

@@ -31,6 +31,14 @@ with_processes t h = record t { processes = h }
 abbrev pub term_with_transceiver : Term → TransceiverState → Term
 term_with_transceiver t h = with_processes t (with_transceiver t.processes h)
 
+-- a terminal that goes on with the counts of another one
+abbrev pub with_counts_of : Term → Term → Term
+with_counts_of other t =
+    with_processes t (record t.processes {
+      measures = other.processes.measures;
+      aborted = other.processes.aborted;
+    })
+
 -- a call that is one event of the book returns the book's answer, unless memory runs out
 abbrev pub IsAnswer : {A : Type 0} → (A → Reply) → Result A CallError → Answer → Type 0
 IsAnswer f (Ok x) a = Says (f x) ≡ a

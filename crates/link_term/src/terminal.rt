@@ -7,12 +7,12 @@ ghost use Rattle.bit_line.specs.Deframing.{Stands};
 ghost use Rattle.bit_line.specs.Stuffers.{Gave};
 ghost use Rattle.link_term.specs.Opening.{first_over};
 ghost use Rattle.link_transceiver.specs.Measuring.{no_measures};
-ghost use Rattle.link_transceiver.specs.Reporting.{reported};
+ghost use Rattle.link_transceiver.specs.Reporting.{reported, has_report};
 ghost use Rattle.resend_store.specs.Limits.{MOST_WAITING, MOST_KEPT};
 ghost use Rattle.link_transceiver.specs.Limits.{KEPT_MESSAGES};
 ghost use Rattle.link_transceiver.specs.TransceiverState.{last_accepted};
 ghost use Rattle.link_term.specs.Kept.{window_of, with_window};
-ghost use Rattle.link_term.specs.Term.{transceiver_of, with_processes, term_with_transceiver};
+ghost use Rattle.link_term.specs.Term.{transceiver_of, with_processes, term_with_transceiver, with_counts_of};
 ghost use Rattle.link_processes.specs.Machine.{handed_out, clear_obeyed, to_clear, all_reset};
 
 use bit_line::{Deframer, Stuffer};
@@ -193,6 +193,21 @@ impl Terminal {
     {
         self.processes.measures.reset();
         self.processes.aborted = 0;
+    }
+
+    /// Goes on with the counts of another terminal.
+    pub fn counts_on(&mut self, other: &Terminal)
+        ensures { self.new ≡ with_counts_of other.now self.old }
+    {
+        self.processes.measures = other.processes.measures;
+        self.processes.aborted = other.processes.aborted;
+    }
+
+    /// Whether a report waits for level 3.
+    pub fn has_report(&self) -> bool
+        ensures { result ≡ has_report (transceiver_of self.now) }
+    {
+        self.processes.transceiver.has_report()
     }
 
     /// Takes the next report for level 3: messages first, then link statuses, each in order.

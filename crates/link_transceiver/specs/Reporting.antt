@@ -1,5 +1,5 @@
 -- What is handed out to the user of the link: messages first, then statuses, each in order.
-use Rattle.std.specs.Prelude.{Option, Some, None, drop, slice_get}
+use Rattle.std.specs.Prelude.{◌||◌, nat_lt, Bool, Option, Some, None, length, drop, slice_get}
 use Rattle.resend_store.specs.declared.messages.Msu.{Msu}
 use Rattle.link_transceiver.specs.declared.signals.LinkStatus.{LinkStatus}
 use Rattle.link_transceiver.specs.declared.signals.Report.{Report}
@@ -28,3 +28,7 @@ message_reported h None = status_reported h (slice_get h.statuses 0)
 
 unfoldable pub reported : TransceiverState → Reported
 reported h = message_reported h (slice_get h.messages 0)
+
+-- whether something is to be handed out: an accepted message or a status
+abbrev pub has_report : TransceiverState → Bool
+has_report h = nat_lt 0 (length h.messages) || nat_lt 0 (length h.statuses)

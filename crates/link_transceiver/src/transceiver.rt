@@ -6,7 +6,7 @@ ghost use Rattle.resend_store.specs.Messages.{IsMessage};
 ghost use Rattle.resend_store.specs.Window.{IsWindow, waiting, with_put, retrieved, emptied, count_known, last_acknowledged, without_at};
 ghost use Rattle.link_transceiver.specs.TransceiverState.{first_transceiver, first_within};
 ghost use Rattle.link_transceiver.specs.Limits.{KEPT_MESSAGES};
-ghost use Rattle.link_transceiver.specs.Reporting.{reported};
+ghost use Rattle.link_transceiver.specs.Reporting.{reported, has_report};
 
 use crate::faults::LastThree;
 use crate::kept::KeptQueue;
@@ -204,6 +204,13 @@ impl Transceiver {
             Some(msu) => Some(Report::Message(msu)),
             None => self.statuses.pop().map(Report::Status),
         }
+    }
+
+    /// Whether a report waits for level 3.
+    pub fn has_report(&self) -> bool
+        ensures { result ≡ has_report self.now }
+    {
+        self.messages.len() > 0 || self.statuses.len() > 0
     }
 
     /// Whether the link is in service, as last reported.

@@ -1,0 +1,5 @@
+use Rattle.link_group.proofs.Replacing.{replaced_begin}
+use Rattle.link_group.proofs.laws.replaced_terminals_begin_anew.Goals as goal
+
+pub returns : goal.returns
+returns c = replaced_begin
