@@ -30,7 +30,8 @@ pub use gone::Gone;
 pub use group::{Group, Sif};
 pub use laws::{
     each_message_stands_in_one_place, ends_heed_all_else, replaced_terminals_begin_anew,
-    retrieval_completes_each_life, sets_complete_each_life, terminals_fare_so, unsure_messages_are_counted,
+    retrieval_completes_each_life, sets_complete_each_life, terminals_fare_so,
+    unsure_messages_are_counted,
 };
 pub use link_processes::Command;
 pub use link_term::CallError;

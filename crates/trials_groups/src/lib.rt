@@ -13,6 +13,7 @@ mod keeping;
 mod messages;
 mod opening;
 mod pair;
+mod replacing;
 mod run;
 mod schedule;
 mod set_end;
