@@ -43,7 +43,7 @@ use Rattle.link_group.proofs.Fitting.{IsSmall, none_small, FitsAt, fits_alike, f
 use Rattle.link_group.proofs.PlacingLaws.{stays_rebalanced}
 use Rattle.link_group.proofs.Staying.{Stays, gone_marked}
 use Rattle.link_group.specs.Replacing.{after_replace}
-use Rattle.link_group.proofs.Replacing.{stays_replaced}
+use Rattle.link_group.proofs.Exchanging.{stays_replaced}
 use Rattle.link_group.proofs.Working.{one_changes, stays_failed, stays_heard, stays_admitted, part_messages, seen_works, link_works, link_keeps, alone_keeps, transceiver_tidied, stays_roomy, stays_ticked, stays_lacking}
 
 -- ---- a new set

@@ -10,6 +10,7 @@ pub mod Diversions
 mod Diverting
 mod Each
 mod EndingLaws
+mod Exchanging
 mod Far
 mod Faring
 pub mod Fields
@@ -31,7 +32,6 @@ mod PlacingLaws
 pub mod Refusing
 pub mod Renewing
 pub mod Room
-mod Replacing
 mod Settling
 mod Shut
 mod Sounding
