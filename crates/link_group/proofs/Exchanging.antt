@@ -1,6 +1,7 @@
 -- A link gets another terminal: nothing that `send` took was in the old one, and nothing is in the new one.
-use Rattle.std.proofs.Common.{◌≡◌, ℕ, ◌||◌, zero, suc, Bool, true, false, List, [], length, Option, Some, None, refl, sym, ap, ◌∙◌, subst}
+use Rattle.std.proofs.Common.{◌≡◌, ℕ, ◌||◌, Bool, true, false, List, [], length, Option, Some, None, refl, sym, ap, ◌∙◌, subst, arith}
 use Rattle.std.specs.Prelude.{nat_lt, is_some, if◌then◌else◌, slice_get, option_map}
+use Rattle.std.proofs.lemmas.Bool.Decides.{nat_tests}
 use Rattle.std.proofs.lemmas.List.{nil_from_length}
 use Rattle.plain_laws.proofs.Options.{some_none, row_passes}
 use Rattle.resend_store.specs.declared.messages.Msu.{Msu}
@@ -33,8 +34,7 @@ neither true b e = let f : true ≡ false = e in cc
 neither false b e = (refl, e)
 
 no_length : (n : ℕ) → nat_lt 0 n ≡ false → n ≡ 0
-no_length zero e = refl
-no_length (suc n) e = let f : true ≡ false = e in cc
+no_length n e = grind (arith, nat_tests, e)
 
 no_changing : (o : Option Changing) → is_some o ≡ false → o ≡ None
 no_changing None e = refl
