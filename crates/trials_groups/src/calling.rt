@@ -4,7 +4,6 @@ use crate::calls::Stopped;
 use crate::each_call::{WAY, bring_up, change_over, fill, give_them_up};
 use crate::far_end::FarEnd;
 use crate::opening::open_set;
-use crate::replacing::replace_each;
 use line_tending::Group;
 use resend_store::Mode;
 use std::alloc::Global;
@@ -28,6 +27,5 @@ fn call_each(text: &mut String, group: &mut Group) -> Result<(), Stopped> {
 /// If memory runs out twice, or a terminal isn't made over the set or refuses a command.
 pub fn make_calls(alloc: Global, text: &mut String, set: &Verified) -> Result<(), Stopped> {
     let mut group = open_set(alloc, set, Mode::Basic, 2, WAY)?;
-    call_each(text, &mut group)?;
-    replace_each(alloc, text, &mut group, set)
+    call_each(text, &mut group)
 }

@@ -16,7 +16,7 @@ use su_octets::Unit;
 pub const WAY: Way = Way { from: 1, to: 2 };
 
 /// How many ticks proving lasts.
-pub const PROVING: u64 = 8_200;
+const PROVING: u64 = 8_200;
 
 /// Gives a set the message with this number and selection, and writes why it is refused, if it is.
 fn give(
@@ -44,7 +44,7 @@ fn give_all(text: &mut String, group: &mut Group, from: u32, to: u32) -> Result<
 }
 
 /// Writes what a link holds, whether it is in changeover, and whether its messages are retrieved.
-pub fn write_link(text: &mut String, group: &Group, link: usize) -> Result<(), AllocError> {
+fn write_link(text: &mut String, group: &Group, link: usize) -> Result<(), AllocError> {
     let held = group.held(link).unwrap_or(0);
     let sent = group.sent(link).unwrap_or(0);
     let changing = group.in_changeover(link);
@@ -101,7 +101,7 @@ fn write_unit(text: &mut String, group: &mut Group, link: usize) -> Result<(), S
 }
 
 /// Writes how many reports a link has.
-pub fn write_reports(text: &mut String, group: &mut Group, link: usize) -> Result<(), AllocError> {
+fn write_reports(text: &mut String, group: &mut Group, link: usize) -> Result<(), AllocError> {
     let mut reports = 0u32;
     for _ in 0..1000u32 {
         match group.report(link) {
@@ -114,7 +114,7 @@ pub fn write_reports(text: &mut String, group: &mut Group, link: usize) -> Resul
 }
 
 /// Lets a link hear that the far end is proving.
-pub fn align(group: &mut Group, far: &mut FarEnd, link: usize) -> Result<(), Stopped> {
+fn align(group: &mut Group, far: &mut FarEnd, link: usize) -> Result<(), Stopped> {
     tell(group, link, Command::PowerOn)?;
     tell(group, link, Command::Start)?;
     far.say(group, link, &status(0))?;

@@ -13,7 +13,6 @@ mod keeping;
 mod messages;
 mod opening;
 mod pair;
-mod replacing;
 mod run;
 mod schedule;
 mod set_end;
