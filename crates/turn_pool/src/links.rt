@@ -9,33 +9,6 @@ use actor_book::Book;
 use std::sync::Mutex;
 use std::sync::ledger::{Ledger, Share};
 
-/// Makes the slot of a book, with its share.
-fn put_away<L: Ledger>(rest: &mut Share<L>, book: Book, link: usize) -> Slot<L>
-    requires parts { 1 < rest.old.parts }
-    requires amount { 2 ^ 57 ≤ rest.old.amount }
-    ensures parts { rest.new.parts + 1 ≡ rest.old.parts }
-    ensures amount { rest.new.amount + 2 ^ 57 ≡ rest.old.amount + next book }
-{
-    let share = rest.split_off(1, (1 << 57) - book.next());
-    Slot { book, link, share }
-}
-
-/// Takes a book out of its slot, and returns the share to the rest.
-fn take_out<L: Ledger>(rest: &mut Share<L>, slot: Slot<L>) -> Book
-    ensures parts { rest.new.parts ≡ rest.old.parts + 1 }
-    ensures amount { rest.new.amount + next result ≡ rest.old.amount + 2 ^ 57 }
-    ensures finishes { CountsFinishes result }
-{
-    let _finishes = slot.book.finishes();
-    let Slot {
-        book,
-        link: _,
-        share,
-    } = slot;
-    rest.merge(share);
-    book
-}
-
 /// Puts each book under a lock.
 pub(crate) fn put_all_away<L: Ledger>(
     books: Vec<Book>,
@@ -52,7 +25,7 @@ pub(crate) fn put_all_away<L: Ledger>(
 {
     let mut link = 0;
     for book in books {
-        slots.push_reserved(Mutex::new(put_away(rest, book, link)));
+        slots.push_reserved(Mutex::new(Slot::new(rest, book, link)));
         link += 1;
     }
     slots
@@ -72,7 +45,7 @@ pub(crate) fn take_all_out<L: Ledger>(
     ensures finishes { All CountsFinishes result.items }
 {
     for slot in slots {
-        books.push_reserved(take_out(rest, slot.into_inner()));
+        books.push_reserved(slot.into_inner().into_book(rest));
     }
     books
 }

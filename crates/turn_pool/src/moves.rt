@@ -55,9 +55,9 @@ pub fn work<L: Ledger>(
     ensures counted { Counts result seat.old seat.new }
 {
     match step {
-        Move::Begin(actor) => Moved::Begun(slot.begin(seat, totals, room, actor)),
+        Move::Begin(actor) => Moved::Begun(slot.begin_in(seat, totals, room, actor)),
         Move::Skip(actor) => Moved::Skipped(slot.skip(seat, totals, actor)),
-        Move::Finish => Moved::Finished(slot.finish(seat, totals, room)),
+        Move::Finish => Moved::Finished(slot.finish_in(seat, totals, room)),
         Move::Turns(most) => Moved::Turned(slot.turns(seat, totals, most)),
     }
 }

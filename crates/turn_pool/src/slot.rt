@@ -7,20 +7,17 @@ ghost use Rattle.actor_machine.specs.declared.event.Event.{Event as PlainEvent};
 ghost use Rattle.actor_machine.specs.declared.event.Event.TheVariants.{Offer as Offered, Advance, TakeEnv};
 ghost use Rattle.actor_machine.specs.declared.reply.Reply.TheVariants as reply;
 ghost use Rattle.actor_book.specs.Answered.{answer_by};
-ghost use Rattle.actor_book.specs.Turns.{rests};
-ghost use Rattle.turn_pool.specs.Moves.{BeginsIn, Skips, FinishesIn, HasTurns};
-ghost use Rattle.turn_pool.specs.Steps.{HasCounted, made};
+ghost use Rattle.turn_pool.specs.Serves.{CountsFinishes};
 
 use crate::receipt::Receipt;
 use crate::totals::{Seat, Totals};
-use actor_book::{Book, RoomRefusal, Turn, one_turn};
+use actor_book::Book;
 use actor_machine::laws::place_law;
-use actor_machine::{Emitted, Event, Refusal, Report};
+use actor_machine::{Emitted, Event, Refusal};
 use std::alloc::AllocError;
 use std::marker::Model;
 use std::sync::ledger::{Ledger, Share};
-use turn_code::{SignalNumber, Trigger, Value};
-use turn_machine::Room;
+use turn_code::{SignalNumber, Value};
 
 /// A link's book with the number of the link and its share of the account, which each event reduces by one.
 #[derive(Drop)]
@@ -56,22 +53,37 @@ fn newest(book: &Book) -> Option<Event>
     }
 }
 
-/// Lets actors take at most `most` whole turns or skips, each by the first actor that can. Returns their number.
-fn turns_of(book: &mut Book, most: usize) -> usize
-    ensures turns { result ≡ (rests most book.old).turns }
-    ensures book { book.new ≡ (rests most book.old).book }
-{
-    for turns in 0..most {
-        match one_turn(book) {
-            Turn::Made => {}
-            Turn::Blocked => return turns,
-            Turn::Idle => return turns,
-        }
-    }
-    most
-}
-
 impl<L: Ledger> Slot<L> {
+    /// Puts a book into a slot, as the book of the link with this number. The slot takes its share of the account from
+    /// the rest: for as many events as the places that the book has left.
+    pub fn new(rest: &mut Share<L>, book: Book, link: usize) -> Slot<L>
+        requires parts { 1 < rest.old.parts }
+        requires amount { 2 ^ 57 ≤ rest.old.amount }
+        ensures slot { result ≡ record { number = link; book = book } }
+        ensures parts { rest.new.parts + 1 ≡ rest.old.parts }
+        ensures amount { rest.new.amount + 2 ^ 57 ≡ rest.old.amount + next book }
+    {
+        let share = rest.split_off(1, (1 << 57) - book.next());
+        Slot { book, link, share }
+    }
+
+    /// Takes the book out, and returns the share to the rest.
+    pub fn into_book(self, rest: &mut Share<L>) -> Book
+        ensures book { result ≡ self.book }
+        ensures parts { rest.new.parts ≡ rest.old.parts + 1 }
+        ensures amount { rest.new.amount + next self.book ≡ rest.old.amount + 2 ^ 57 }
+        ensures finishes { CountsFinishes result }
+    {
+        let _finishes = self.book.finishes();
+        let Slot {
+            book,
+            link: _,
+            share,
+        } = self;
+        rest.merge(share);
+        book
+    }
+
     /// The book.
     pub fn book(&self) -> &Book
         ensures { result.now ≡ self.now.book }
@@ -208,75 +220,5 @@ impl<L: Ledger> Slot<L> {
         place_law();
         self.book.rebase()?;
         Ok(self.book.next())
-    }
-
-    /// Begins a turn of an actor in the worker's room.
-    pub(crate) fn begin(
-        &mut self,
-        seat: &mut Seat<L>,
-        totals: &Totals<L>,
-        room: &mut Room,
-        actor: u16,
-    ) -> Result<(), RoomRefusal>
-        ensures begins { BeginsIn self.old.book room.old actor result self.new.book room.new }
-        ensures link { self.new.number ≡ self.old.number }
-        ensures seat { seat.new + next self.old.book ≡ seat.old + next self.new.book }
-        ensures counted { seat.new ≡ seat.old + made result 1 }
-    {
-        let _place = self.book.next();
-        self.book.begin_in(room, actor)?;
-        totals.count(&mut self.share, seat, 1);
-        Ok(())
-    }
-
-    /// Discards an item of an actor, for a worker.
-    pub(crate) fn skip(
-        &mut self,
-        seat: &mut Seat<L>,
-        totals: &Totals<L>,
-        actor: u16,
-    ) -> Result<Trigger, Refusal>
-        ensures skips { Skips self.old.book actor result self.new.book }
-        ensures link { self.new.number ≡ self.old.number }
-        ensures seat { seat.new + next self.old.book ≡ seat.old + next self.new.book }
-        ensures counted { seat.new ≡ seat.old + made result 1 }
-    {
-        let _place = self.book.next();
-        let trigger = self.book.skip(actor)?;
-        totals.count(&mut self.share, seat, 1);
-        Ok(trigger)
-    }
-
-    /// Ends the turn that ran in the worker's room.
-    pub(crate) fn finish(
-        &mut self,
-        seat: &mut Seat<L>,
-        totals: &Totals<L>,
-        room: &mut Room,
-    ) -> Result<Report, Refusal>
-        ensures finishes { FinishesIn self.old.book room.old result self.new.book room.new }
-        ensures link { self.new.number ≡ self.old.number }
-        ensures seat { seat.new + next self.old.book ≡ seat.old + next self.new.book }
-        ensures counted { seat.new ≡ seat.old + made result 1 }
-    {
-        let _place = self.book.next();
-        let report = self.book.finish_in(room)?;
-        totals.count(&mut self.share, seat, 1);
-        Ok(report)
-    }
-
-    /// Lets actors take whole turns or discard items, one after another, at most `most`, each by the first actor that
-    /// can. The seat counts all their events. Returns the number of turns and skips.
-    pub(crate) fn turns(&mut self, seat: &mut Seat<L>, totals: &Totals<L>, most: usize) -> usize
-        ensures turns { HasTurns self.old.book most result self.new.book }
-        ensures link { self.new.number ≡ self.old.number }
-        ensures seat { seat.new + next self.old.book ≡ seat.old + next self.new.book }
-        ensures counted { HasCounted result seat.old seat.new }
-    {
-        let before = self.book.next();
-        let turns = turns_of(&mut self.book, most);
-        let after = self.book.next();
-        totals.count(&mut self.share, seat, after - before);
-        turns
     }
 }

@@ -8,14 +8,14 @@ use Rattle.turn_pool.proofs.links.take_all_out.Goals as goal
 pub loop-slot-preserved : goal.loop-slot-preserved
 loop-slot-preserved g c =
     let before = c.loop-slot.books.items in
-    let book = c.take_out.result in
-    let all = one_more before book c.loop-slot.invariant.4 c.take_out.ensures.finishes in
+    let book = c.into_book.result in
+    let all = one_more before book c.loop-slot.invariant.4 c.into_book.ensures.finishes in
     let sum : sum_by next c.push_reserved.new.self.items ≡ sum_by next before + next book =
     rw c.push_reserved.ensures.items (omega (arith, sum_by-append next before (book ∷ []))) in
     let len = c.push_reserved.ensures.len in (
       search rules,
       search rules,
       search rules,
-      omega (arith, sum, len, c.take_out.ensures.amount, c.loop-slot.invariant.3),
+      omega (arith, sum, len, c.into_book.ensures.amount, c.loop-slot.invariant.3),
       rw c.push_reserved.ensures.items all,
     )

@@ -1,7 +1,7 @@
 use Rattle.std.proofs.Common.{◌≡◌, ◌^◌, ◌<◌, ap, arith, rules}
 use Rattle.actor_machine.specs.Ledger.{next}
 use Rattle.turn_pool.specs.Links.{Link}
-use Rattle.turn_pool.proofs.slot.Slot.finish.Goals as goal
+use Rattle.turn_pool.proofs.slot.Slot.finish_in.Goals as goal
 
 pub count-requires : goal.count-requires
 count-requires g c =

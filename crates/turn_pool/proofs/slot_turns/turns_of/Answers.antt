@@ -1,7 +1,7 @@
 use Rattle.std.proofs.Common.{arith}
 use Rattle.actor_book.specs.Turns.{rests}
 use Rattle.actor_book.proofs.Leasts.{blocked_not_made, idle_not_made, rest_starts, rest_ends, rest_goes_on, rest_is_spent}
-use Rattle.turn_pool.proofs.slot.turns_of.Goals as goal
+use Rattle.turn_pool.proofs.slot_turns.turns_of.Goals as goal
 
 pub loop-turns-init : goal.loop-turns-init
 loop-turns-init c = rest_starts c.args.most c.args.book.now
