@@ -6,18 +6,15 @@ ghost use Rattle.pool_soak.specs.Receipts.{AddsReceipt, IsOffered, HasPassed};
 use crate::script::Step;
 use script_lines::{Offer, actor_called};
 use std::sync::Wait;
-use std::sync::ledger::Ledger;
 use turn_check::Verified;
-use turn_pool::{Client, Gate, JobName, Pool, Receipt, Seat};
+use turn_pool::{Client, Gate, JobName, Links, Pool, Receipt, Seat};
 
 /// A gate that checks nobody.
 #[derive(Drop)]
 pub struct Open;
 
 impl Gate for Open {
-    ghost use Rattle.std.specs.Prelude.{false};
-
-    ghost looking = { λ _. false };
+    ghost blind = { λ _. Unit {0} };
 
     fn looks(&self) -> bool {
         false
@@ -45,7 +42,7 @@ impl Script<'_> {
     }
 
     /// Offers a signal from the environment on a link; keeps its receipt unless a name is unknown or the pool refuses.
-    fn offer<R: Wait, L: Ledger>(
+    fn offer<R: Wait, L: Links>(
         &mut self,
         pool: &Pool<'_, R, L>,
         seat: &mut Seat<L>,
@@ -53,7 +50,7 @@ impl Script<'_> {
         offer: &Offer<'_>,
     )
         ensures { vec_len self.old.receipts < vec_capacity self.old.receipts
-            → AddsReceipt (IsOffered self.old.set.now link offer.now) self.old.receipts.items seat.old self.new.receipts.items seat.new }
+            → AddsReceipt (IsOffered L.books self.old.set.now link offer.now) self.old.receipts.items seat.old.events self.new.receipts.items seat.new.events }
     {
         let Some(actor) = actor_called(self.set, offer.process) else {
             return;
@@ -67,7 +64,7 @@ impl Script<'_> {
     }
 
     /// Lets time pass on a link. Keeps its receipt, unless the pool refuses.
-    fn tick<R: Wait, L: Ledger>(
+    fn tick<R: Wait, L: Links>(
         &mut self,
         pool: &Pool<'_, R, L>,
         seat: &mut Seat<L>,
@@ -75,7 +72,7 @@ impl Script<'_> {
         ticks: u32,
     )
         ensures { vec_len self.old.receipts < vec_capacity self.old.receipts
-            → AddsReceipt (HasPassed link ticks) self.old.receipts.items seat.old self.new.receipts.items seat.new }
+            → AddsReceipt (HasPassed L.books link ticks) self.old.receipts.items seat.old.events self.new.receipts.items seat.new.events }
     {
         if let Ok((_, receipt)) = pool.advance(link, u64::from(ticks), seat) {
             self.keep(receipt);
@@ -84,7 +81,7 @@ impl Script<'_> {
 }
 
 impl Client for Script<'_> {
-    fn drive<R: Wait, L: Ledger>(&mut self, pool: &Pool<'_, R, L>, seat: &mut Seat<L>) {
+    fn drive<R: Wait, L: Links>(&mut self, pool: &Pool<'_, R, L>, seat: &mut Seat<L>) {
         let mut link = 0;
         for step in self.steps {
             match step {

@@ -5,11 +5,10 @@ use actor_book::{Book, Limits, Refusal};
 use pool_soak::Open;
 use std::alloc::Global;
 use std::sync::Wait;
-use std::sync::ledger::Ledger;
 use std::thread;
 use std::thread::Threads;
 use turn_code::SignalNumber;
-use turn_pool::{Client, Closed, Pool, PoolRefusal, Seat, serve};
+use turn_pool::{Client, Closed, Links, Pool, PoolRefusal, Seat, serve};
 
 /// The signal that the process of [`PICKY`] doesn't consume.
 const DOWN: SignalNumber = SignalNumber(1);
@@ -28,13 +27,13 @@ struct Ends {
 }
 
 impl Client for Ends {
-    fn drive<R: Wait, L: Ledger>(&mut self, pool: &Pool<'_, R, L>, seat: &mut Seat<L>) {
+    fn drive<R: Wait, L: Links>(&mut self, pool: &Pool<'_, R, L>, seat: &mut Seat<L>) {
         if !self.offers {
             return;
         }
         self.first = pool.offer(0, 0, UP, &[], seat).err();
         for _ in 0..self.closings {
-            pool.close();
+            pool.close(seat);
         }
         self.last = pool.offer(0, 0, UP, &[], seat).err();
     }
@@ -165,7 +164,7 @@ struct Lasts {
 }
 
 impl Client for Lasts {
-    fn drive<R: Wait, L: Ledger>(&mut self, pool: &Pool<'_, R, L>, seat: &mut Seat<L>) {
+    fn drive<R: Wait, L: Links>(&mut self, pool: &Pool<'_, R, L>, seat: &mut Seat<L>) {
         let asked = pool.offer(LINKS - 1, 0, UP, &[], seat).is_ok();
         for _ in 0..ASKS {
             if !asked || pool.take_env(LINKS - 1, seat).is_ok() {

@@ -4,10 +4,9 @@ use crate::of_workers::LOOKS;
 use std::alloc::Global;
 use std::sync::Wait;
 use std::sync::atomic::{AtomicBool, AtomicUsize, Ordering};
-use std::sync::ledger::Ledger;
 use std::thread;
 use std::thread::Threads;
-use turn_pool::{Client, Gate, JobName, Pool, Seat, serve};
+use turn_pool::{Client, Gate, JobName, Links, Pool, Seat, serve};
 
 /// A gate that holds the worker after its second turn has ended, until a client has looked.
 #[derive(Drop)]
@@ -31,14 +30,6 @@ impl HoldsEnded {
 }
 
 impl Gate for HoldsEnded {
-    ghost use Rattle.std.specs.Prelude.{true};
-
-    ghost looking = { λ _. true };
-
-    fn looks(&self) -> bool {
-        true
-    }
-
     fn enter(&self, _name: JobName) {}
 
     fn leave(&self, _name: JobName) {
@@ -57,7 +48,7 @@ struct TakesHeld<'a> {
 }
 
 impl Client for TakesHeld<'_> {
-    fn drive<R: Wait, L: Ledger>(&mut self, pool: &Pool<'_, R, L>, seat: &mut Seat<L>) {
+    fn drive<R: Wait, L: Links>(&mut self, pool: &Pool<'_, R, L>, seat: &mut Seat<L>) {
         let _offered = pool.offer(0, 0, UP, &[], seat);
         for _ in 0..LOOKS {
             if self.gate.left.load(Ordering::SeqCst) >= 2 {
@@ -102,9 +93,7 @@ struct LooksAway {
 }
 
 impl Gate for LooksAway {
-    ghost use Rattle.std.specs.Prelude.{false};
-
-    ghost looking = { λ _. false };
+    ghost blind = { λ _. Unit {0} };
 
     fn looks(&self) -> bool {
         false
@@ -126,7 +115,7 @@ struct TakesOne {
 }
 
 impl Client for TakesOne {
-    fn drive<R: Wait, L: Ledger>(&mut self, pool: &Pool<'_, R, L>, seat: &mut Seat<L>) {
+    fn drive<R: Wait, L: Links>(&mut self, pool: &Pool<'_, R, L>, seat: &mut Seat<L>) {
         let _offered = pool.offer(0, 0, UP, &[], seat);
         for _ in 0..LOOKS {
             if pool.take_env(0, seat).is_ok() {

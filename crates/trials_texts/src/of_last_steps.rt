@@ -5,10 +5,9 @@ use actor_book::Book;
 use std::alloc::Global;
 use std::sync::Wait;
 use std::sync::atomic::{AtomicBool, AtomicUsize, Ordering};
-use std::sync::ledger::Ledger;
 use std::thread;
 use std::thread::Threads;
-use turn_pool::{Client, Gate, JobName, Pool, Seat, serve};
+use turn_pool::{Client, Gate, JobName, Links, Pool, Seat, serve};
 
 /// A process that sends itself an Up 900 times.
 const LONG: &str =
@@ -22,14 +21,6 @@ struct Held {
 }
 
 impl Gate for Held {
-    ghost use Rattle.std.specs.Prelude.{true};
-
-    ghost looking = { λ _. true };
-
-    fn looks(&self) -> bool {
-        true
-    }
-
     fn enter(&self, _name: JobName) {
         if self.begun.fetch_add(1, Ordering::SeqCst) > 0 {
             return;
@@ -52,14 +43,14 @@ struct Shuts<'a> {
 }
 
 impl Client for Shuts<'_> {
-    fn drive<R: Wait, L: Ledger>(&mut self, pool: &Pool<'_, R, L>, _seat: &mut Seat<L>) {
+    fn drive<R: Wait, L: Links>(&mut self, pool: &Pool<'_, R, L>, seat: &mut Seat<L>) {
         for _ in 0..LOOKS {
             if self.gate.begun.load(Ordering::SeqCst) > 0 {
                 break;
             }
             thread::yield_now();
         }
-        pool.close();
+        pool.close(seat);
         self.gate.closed.store(true, Ordering::SeqCst);
     }
 }

@@ -4,11 +4,10 @@ use actor_book::Book;
 use pool_soak::{Open, agree};
 use std::alloc::Global;
 use std::sync::Wait;
-use std::sync::ledger::Ledger;
 use std::thread;
 use std::thread::Threads;
 use turn_machine::{Job, run};
-use turn_pool::{Client, Closed, Mismatch, Pool, PoolFault, PoolRefusal, Receipt, Seat, serve};
+use turn_pool::{Client, Closed, Links, Mismatch, Pool, PoolFault, PoolRefusal, Receipt, Seat, serve};
 
 /// How often a loop polls.
 pub(crate) const ASKS: u32 = 100_000_000;
@@ -32,7 +31,7 @@ impl Offers {
     }
 
     /// Offers a link a signal, and takes a signal for the environment.
-    fn asks<R: Wait, L: Ledger>(&mut self, pool: &Pool<'_, R, L>, seat: &mut Seat<L>, link: usize) {
+    fn asks<R: Wait, L: Links>(&mut self, pool: &Pool<'_, R, L>, seat: &mut Seat<L>, link: usize) {
         if let Ok(receipt) = pool.offer(link, 0, UP, &[], seat) {
             self.offered = self.offered.saturating_add(1);
             self.keep(receipt);
@@ -44,7 +43,7 @@ impl Offers {
     }
 
     /// Lets ticks pass on a link. Returns how many timers were due.
-    fn waits<R: Wait, L: Ledger>(
+    fn waits<R: Wait, L: Links>(
         &mut self,
         pool: &Pool<'_, R, L>,
         seat: &mut Seat<L>,
@@ -84,7 +83,7 @@ impl Offers {
 }
 
 impl Client for Offers {
-    fn drive<R: Wait, L: Ledger>(&mut self, pool: &Pool<'_, R, L>, seat: &mut Seat<L>) {
+    fn drive<R: Wait, L: Links>(&mut self, pool: &Pool<'_, R, L>, seat: &mut Seat<L>) {
         for ask in 0..ASKS {
             self.asks(pool, seat, (ask % 2) as usize);
             if self.offered >= 20 && self.taken >= 10 {
@@ -93,7 +92,7 @@ impl Client for Offers {
             thread::yield_now();
         }
         self.due = [self.waits(pool, seat, 0, 3), self.waits(pool, seat, 1, 5)];
-        pool.close();
+        pool.close(seat);
         self.closing = [
             pool.offer(0, 0, UP, &[], seat).err(),
             pool.advance(0, 1, seat).err(),
@@ -165,7 +164,7 @@ fn receipts_stand_in_the_journals(rt: HostRuntime) {
 struct Idle;
 
 impl Client for Idle {
-    fn drive<R: Wait, L: Ledger>(&mut self, _pool: &Pool<'_, R, L>, _seat: &mut Seat<L>) {}
+    fn drive<R: Wait, L: Links>(&mut self, _pool: &Pool<'_, R, L>, _seat: &mut Seat<L>) {}
 }
 
 /// The result of serving links by `workers` workers: 1 if they are served and the seats agree; 2 if the books come back

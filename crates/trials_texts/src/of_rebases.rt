@@ -5,10 +5,9 @@ use actor_book::{Book, Refusal};
 use pool_soak::{Open, agree};
 use std::alloc::Global;
 use std::sync::Wait;
-use std::sync::ledger::Ledger;
 use std::thread;
 use std::thread::Threads;
-use turn_pool::{Client, Pool, PoolRefusal, Seat, serve};
+use turn_pool::{Client, Links, Pool, PoolRefusal, Seat, serve};
 
 /// A client with a journal that is soon full. It offers, takes and makes room in the journal a hundred times each.
 #[derive(Drop)]
@@ -22,7 +21,7 @@ struct Rebases {
 
 impl Rebases {
     /// Offers a signal, and keeps the place that it got. Returns why it is refused, if it is.
-    fn offers<R: Wait, L: Ledger>(
+    fn offers<R: Wait, L: Links>(
         &mut self,
         pool: &Pool<'_, R, L>,
         seat: &mut Seat<L>,
@@ -37,7 +36,7 @@ impl Rebases {
     }
 
     /// Takes a signal for the environment. Returns why that is refused, if it is.
-    fn takes<R: Wait, L: Ledger>(
+    fn takes<R: Wait, L: Links>(
         &mut self,
         pool: &Pool<'_, R, L>,
         seat: &mut Seat<L>,
@@ -50,7 +49,7 @@ impl Rebases {
     }
 
     /// Offers and takes. If both are refused, a tick uses up the journal. Returns whether it is full.
-    fn fills<R: Wait, L: Ledger>(&mut self, pool: &Pool<'_, R, L>, seat: &mut Seat<L>) -> bool {
+    fn fills<R: Wait, L: Links>(&mut self, pool: &Pool<'_, R, L>, seat: &mut Seat<L>) -> bool {
         let full = Some(PoolRefusal::Refused(Refusal::JournalFull));
         let offered = self.offers(pool, seat);
         let taken = self.takes(pool, seat);
@@ -61,7 +60,7 @@ impl Rebases {
     }
 
     /// Rebases the journal to make room.
-    fn rebases<R: Wait, L: Ledger>(&mut self, pool: &Pool<'_, R, L>, seat: &mut Seat<L>) {
+    fn rebases<R: Wait, L: Links>(&mut self, pool: &Pool<'_, R, L>, seat: &mut Seat<L>) {
         match pool.rebase(0, seat) {
             Ok(place) => {
                 self.rebases = self.rebases.saturating_add(1);
@@ -80,7 +79,7 @@ impl Rebases {
 }
 
 impl Client for Rebases {
-    fn drive<R: Wait, L: Ledger>(&mut self, pool: &Pool<'_, R, L>, seat: &mut Seat<L>) {
+    fn drive<R: Wait, L: Links>(&mut self, pool: &Pool<'_, R, L>, seat: &mut Seat<L>) {
         for _ in 0..ASKS {
             if self.fills(pool, seat) {
                 self.rebases(pool, seat);
@@ -132,7 +131,7 @@ struct RebasesSecond {
 }
 
 impl Client for RebasesSecond {
-    fn drive<R: Wait, L: Ledger>(&mut self, pool: &Pool<'_, R, L>, seat: &mut Seat<L>) {
+    fn drive<R: Wait, L: Links>(&mut self, pool: &Pool<'_, R, L>, seat: &mut Seat<L>) {
         self.ticked = pool.advance(0, 1, seat).is_ok() && pool.advance(1, 1, seat).is_ok();
         self.place = pool.rebase(1, seat).ok();
     }

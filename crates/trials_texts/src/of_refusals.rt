@@ -4,11 +4,10 @@ use actor_book::Refusal;
 use pool_soak::{Open, agree};
 use std::alloc::Global;
 use std::sync::Wait;
-use std::sync::ledger::Ledger;
 use std::thread;
 use std::thread::Threads;
 use turn_code::{SignalNumber, Value};
-use turn_pool::{Client, Pool, PoolRefusal, Seat, serve};
+use turn_pool::{Client, Links, Pool, PoolRefusal, Seat, serve};
 
 /// Two processes. One saves each Keep and sends a Pong for each Ping. The other stops at once.
 const TEXT: &str =
@@ -94,7 +93,7 @@ struct Asks {
 }
 
 /// Makes a call. Returns why it is refused, if it is.
-fn answer<R: Wait, L: Ledger>(
+fn answer<R: Wait, L: Links>(
     pool: &Pool<'_, R, L>,
     seat: &mut Seat<L>,
     call: Call,
@@ -107,14 +106,14 @@ fn answer<R: Wait, L: Ledger>(
         Call::TakeEnv(link) => pool.take_env(link, seat).err(),
         Call::Rebase(link) => pool.rebase(link, seat).err(),
         Call::Close => {
-            pool.close();
+            pool.close(seat);
             None
         }
     }
 }
 
 /// Whether a call has the expected reply.
-fn is_answered<R: Wait, L: Ledger>(
+fn is_answered<R: Wait, L: Links>(
     pool: &Pool<'_, R, L>,
     seat: &mut Seat<L>,
     call: Call,
@@ -131,7 +130,7 @@ fn is_answered<R: Wait, L: Ledger>(
 }
 
 impl Client for Asks {
-    fn drive<R: Wait, L: Ledger>(&mut self, pool: &Pool<'_, R, L>, seat: &mut Seat<L>) {
+    fn drive<R: Wait, L: Links>(&mut self, pool: &Pool<'_, R, L>, seat: &mut Seat<L>) {
         for (number, row) in ROWS.iter().enumerate() {
             let Row(call, wanted, asks) = *row;
             if !is_answered(pool, seat, call, wanted, asks) {

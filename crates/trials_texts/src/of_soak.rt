@@ -5,12 +5,11 @@ use mtp2_text::{monitors, standard};
 use pool_soak::{Open, Soak, soak, soak_script, soaked};
 use std::alloc::{AllocError, Global};
 use std::sync::Wait;
-use std::sync::ledger::Ledger;
 use std::thread::Threads;
 use std::{io, thread};
 use turn_check::Verified;
 use turn_code::{Place, ProcessNumber, SignalNumber, Value};
-use turn_pool::{Client, Closed, Pool, Receipt, Seat, serve};
+use turn_pool::{Client, Closed, Links, Pool, Receipt, Seat, serve};
 
 /// The text printed if all agrees.
 const AGREES: &[u8] = b"seats agree\naudit yes\n";
@@ -237,7 +236,7 @@ impl TurnsOn {
     }
 
     /// Takes the signal that has waited longest for the environment of link 0. Returns whether it is the line's state.
-    fn takes<R: Wait, L: Ledger>(&mut self, pool: &Pool<'_, R, L>, seat: &mut Seat<L>) -> bool {
+    fn takes<R: Wait, L: Links>(&mut self, pool: &Pool<'_, R, L>, seat: &mut Seat<L>) -> bool {
         match pool.take_env(0, seat) {
             Ok((emitted, _)) => {
                 let is_line = emitted.sender.process == self.sender && emitted.signal == self.line;
@@ -251,7 +250,7 @@ impl TurnsOn {
 }
 
 impl Client for TurnsOn {
-    fn drive<R: Wait, L: Ledger>(&mut self, pool: &Pool<'_, R, L>, seat: &mut Seat<L>) {
+    fn drive<R: Wait, L: Links>(&mut self, pool: &Pool<'_, R, L>, seat: &mut Seat<L>) {
         self.has_offered = pool
             .offer(0, u16::from(self.process.0), self.power_on, &[], seat)
             .is_ok();

@@ -4,10 +4,9 @@ use actor_book::{Book, Limits};
 use std::alloc::Global;
 use std::sync::Wait;
 use std::sync::atomic::{AtomicBool, AtomicUsize, Ordering};
-use std::sync::ledger::Ledger;
 use std::thread;
 use std::thread::Threads;
-use turn_pool::{Client, Closed, Gate, JobName, Pool, Seat, serve};
+use turn_pool::{Client, Closed, Gate, JobName, Links, Pool, Seat, serve};
 
 /// How often a loop polls.
 pub(crate) const LOOKS: u32 = 1_000_000_000;
@@ -155,14 +154,6 @@ impl Holds {
 }
 
 impl Gate for Holds {
-    ghost use Rattle.std.specs.Prelude.{true};
-
-    ghost looking = { λ _. true };
-
-    fn looks(&self) -> bool {
-        true
-    }
-
     fn enter(&self, name: JobName) {
         self.names_begun
             .fetch_add(number_of(name), Ordering::SeqCst);
@@ -186,7 +177,7 @@ struct LooksOn<'a> {
 }
 
 impl Client for LooksOn<'_> {
-    fn drive<R: Wait, L: Ledger>(&mut self, _pool: &Pool<'_, R, L>, _seat: &mut Seat<L>) {
+    fn drive<R: Wait, L: Links>(&mut self, _pool: &Pool<'_, R, L>, _seat: &mut Seat<L>) {
         let plan = self.gate.plan;
         for _ in 0..LOOKS {
             let seen = self.gate.has_seen(plan.wanted_begun, plan.wanted_ended);
@@ -269,14 +260,6 @@ struct Counts {
 }
 
 impl Gate for Counts {
-    ghost use Rattle.std.specs.Prelude.{true};
-
-    ghost looking = { λ _. true };
-
-    fn looks(&self) -> bool {
-        true
-    }
-
     fn enter(&self, _name: JobName) {
         self.begun.fetch_add(1, Ordering::SeqCst);
     }
@@ -295,14 +278,14 @@ struct Closes<'a> {
 }
 
 impl Client for Closes<'_> {
-    fn drive<R: Wait, L: Ledger>(&mut self, pool: &Pool<'_, R, L>, _seat: &mut Seat<L>) {
+    fn drive<R: Wait, L: Links>(&mut self, pool: &Pool<'_, R, L>, seat: &mut Seat<L>) {
         for _ in 0..LOOKS {
             if self.gate.begun.load(Ordering::SeqCst) >= MANY {
                 break;
             }
             thread::yield_now();
         }
-        pool.close();
+        pool.close(seat);
         self.begun = self.gate.begun.load(Ordering::SeqCst);
     }
 }

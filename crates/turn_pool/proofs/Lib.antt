@@ -1,8 +1,12 @@
 pub mod Asks
 pub mod Calls
+pub mod Continuing
 pub mod Counting
 pub mod Finishes
+pub mod Goings
 pub mod Growing
 pub mod Naming
+pub mod Positions
 pub mod Standing
 pub mod Turns
+pub mod Watching

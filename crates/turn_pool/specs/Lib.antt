@@ -1,7 +1,10 @@
+pub mod Doors
+pub mod Goings
 pub mod Links
 pub mod Moves
 pub mod Printed
 pub mod Receipts
 pub mod Serves
 pub mod Steps
+pub mod Tallies
 pub mod Turns

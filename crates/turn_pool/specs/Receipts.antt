@@ -7,6 +7,7 @@ use Rattle.actor_machine.specs.declared.event.Event.{Event}
 use Rattle.actor_machine.specs.declared.reply.Refusal.{Refusal}
 use Rattle.actor_machine.specs.declared.reply.Reply.{Reply}
 use Rattle.actor_machine.specs.declared.reply.Reply.TheVariants as reply
+use Rattle.turn_pool.specs.Goings.{IsBookOf}
 use Rattle.turn_pool.specs.declared.receipt.PoolRefusal.{PoolRefusal}
 use Rattle.turn_pool.specs.declared.receipt.PoolRefusal.TheVariants.{NoLink, Closing, NoMemory}
 use Rattle.turn_pool.specs.declared.receipt.PoolRefusal.TheVariants.{Refused}
@@ -30,26 +31,30 @@ pub record FailsAt (books : List Ledger) (receipts : List Receipt) (position : �
   pub there : slice_get receipts position ≡ Some receipt
   pub fails : StandsIn books receipt → ⊥
 
--- ---- the result of a client's call; no contract can say which book it met, only that the book has
--- the invariant of every book
+-- ---- the result of a client's call: the link's own book met it, which goes on from the one with
+-- which the pool began at that number
 
--- a book takes the event and gives this reply; the receipt names the link, the place that the event
--- gets in that book, and the event
-pub record IsTaken (link : ℕ) (e : Event) (says : Reply) (r : Receipt) : Type 0 where
+-- the link's book takes the event and gives this reply; the receipt names the link, the place that
+-- the event gets in that book's journal, and the event
+pub record IsTaken (books : List Ledger) (link : ℕ) (e : Event) (says : Reply) (r : Receipt) :
+    Type 0 where
   pub book : Ledger
+  pub own : IsBookOf books link book
   pub kept : IsKept book
   pub answers : (ask book e).answer ≡ Says says
   pub names : r ≡ record { link = link; place = next book; event = e }
 
--- a book refuses the event for this reason
-pub record IsRefused (e : Event) (r : Refusal) : Type 0 where
+-- the link's book refuses the event for this reason
+pub record IsRefused (books : List Ledger) (link : ℕ) (e : Event) (r : Refusal) : Type 0 where
   pub book : Ledger
+  pub own : IsBookOf books link book
   pub kept : IsKept book
   pub answers : (ask book e).answer ≡ Says (reply.Refused r)
 
--- the place of the next event of a book whose state became its base
-pub record IsRebased (place : ℕ) : Type 0 where
+-- the place of the next event of the link's book, whose state became its base
+pub record IsRebased (books : List Ledger) (link : ℕ) (place : ℕ) : Type 0 where
   pub book : Ledger
+  pub own : IsBookOf books link book
   pub kept : IsKept book
   pub names : place ≡ next (rebased book)
 
@@ -60,12 +65,12 @@ IsOwn Closing = Unit {0}
 IsOwn NoMemory = ⊥
 IsOwn (Refused r) = ⊥
 
--- the possible refusals of a client's event: the pool's own, and those of a book for this event
-abbrev pub IsRefusal : Event → PoolRefusal → Type 0
-IsRefusal e NoLink = IsOwn NoLink
-IsRefusal e Closing = IsOwn Closing
-IsRefusal e NoMemory = ⊥
-IsRefusal e (Refused r) = IsRefused e r
+-- the possible refusals of a client's event: the pool's own, and that of the link's book
+abbrev pub IsRefusal : List Ledger → ℕ → Event → PoolRefusal → Type 0
+IsRefusal books link e NoLink = IsOwn NoLink
+IsRefusal books link e Closing = IsOwn Closing
+IsRefusal books link e NoMemory = ⊥
+IsRefusal books link e (Refused r) = IsRefused books link e r
 
 -- the possible refusals of a rebase: the pool's own, and that memory ran out
 abbrev pub IsRebaseRefusal : PoolRefusal → Type 0

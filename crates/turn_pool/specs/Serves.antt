@@ -3,6 +3,7 @@ use Rattle.std.specs.Prelude.{◌≡◌, ◌≤◌, ◌+◌, ℕ, List, length, 
 use Rattle.plain_laws.specs.Limits.{LEAST_WORKERS, MOST_LINKS, MOST_WORKERS}
 use Rattle.actor_machine.specs.Kept.{is_finish}
 use Rattle.actor_machine.specs.Ledger.{Ledger, state_of}
+use Rattle.turn_pool.specs.Goings.{AreContinued}
 use Rattle.turn_pool.specs.declared.fault.PoolFault.{PoolFault}
 use Rattle.turn_pool.specs.declared.fault.PoolFault.TheVariants.{NoWorkers, NoMemory}
 
@@ -15,10 +16,10 @@ AreServed links workers =
 abbrev pub CountsFinishes : Ledger → Type 0
 CountsFinishes b = (state_of b).finishes ≡ b.base.finishes + count_by is_finish b.journal
 
--- if nothing is served the books come back: the same books, or, if no thread could be started, as
--- many books
+-- If nothing is served the books come back: the same books, or, if no thread could be started, each
+-- at its position.
 abbrev pub HandsBack : List Ledger → ℕ → PoolFault → Type 0
 HandsBack links workers (NoMemory books) = (books.items ≡ links) × AreServed (length links) workers
 HandsBack links workers (NoWorkers books) =
-    (length books.items ≡ length links) × ((AreServed (length links) workers → ⊥)
-    → books.items ≡ links)
+    (length books.items ≡ length links) × AreContinued links books.items
+    × ((AreServed (length links) workers → ⊥) → books.items ≡ links)

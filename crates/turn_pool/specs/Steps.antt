@@ -1,7 +1,8 @@
 -- The counts of a worker's steps, and the end of a turn that a step began.
-use Rattle.std.specs.Prelude.{◌≡◌, ◌≤◌, ◌+◌, ◌*◌, ℕ, Result, Ok, Err}
+use Rattle.std.specs.Prelude.{◌≡◌, ◌≤◌, ◌+◌, ◌*◌, ℕ, List, Result, Ok, Err}
 use Rattle.turn_machine.specs.Rooms.{Lying}
 use Rattle.actor_machine.specs.Ledger.{Ledger}
+use Rattle.turn_pool.specs.Goings.{IsBookOf}
 use Rattle.turn_pool.specs.Moves.{Moves}
 use Rattle.turn_pool.specs.declared.moves.Move.{Move}
 use Rattle.turn_pool.specs.declared.moves.Move.TheVariants as move
@@ -47,8 +48,10 @@ CountsEnd (moved.Skipped answer) before after = after ≡ before
 CountsEnd (moved.Finished answer) before after = after ≡ before
 CountsEnd (moved.Turned turns) before after = after ≡ before
 
--- the contents of the room were handed to some book, which accepted them or not
-pub record IsHanded (r : Lying) (answer : Moved) (s : Lying) : Type 0 where
+-- the contents of the room were handed to the link's book, which accepted them or not
+pub record IsHanded (books : List Ledger) (link : ℕ) (r : Lying) (answer : Moved) (s : Lying) :
+    Type 0 where
   pub before : Ledger
   pub after : Ledger
+  pub own : IsBookOf books link before
   pub moves : Moves before r move.Finish answer after s

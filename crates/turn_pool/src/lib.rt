@@ -3,9 +3,9 @@
 #![tactic(auto)]
 
 mod closed;
+mod doors;
 mod fault;
 mod gate;
-mod hand;
 mod links;
 mod moves;
 mod pool;
@@ -15,6 +15,7 @@ mod seats;
 mod serving;
 mod shift;
 mod slot;
+mod slot_of;
 mod slot_turns;
 mod steps;
 mod totals;
@@ -29,4 +30,4 @@ pub use receipt::{PoolRefusal, Receipt};
 pub use seats::{leave_seat, take_seat};
 pub use serving::serve;
 pub use slot::Slot;
-pub use totals::{Seat, Totals};
+pub use totals::{Links, Seat, Totals};

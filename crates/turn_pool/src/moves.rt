@@ -6,10 +6,9 @@ ghost use Rattle.turn_pool.specs.Moves.{Moves};
 ghost use Rattle.turn_pool.specs.Steps.{Counts};
 
 use crate::slot::Slot;
-use crate::totals::{Seat, Totals};
+use crate::totals::{Links, Seat, Totals};
 use actor_book::RoomRefusal;
 use actor_machine::{Refusal, Report};
-use std::sync::ledger::Ledger;
 use turn_code::Trigger;
 use turn_machine::Room;
 
@@ -42,7 +41,7 @@ pub enum Moved {
 
 /// One step of a worker on a borrowed link, with the account and the worker's room. The worker's seat counts each event
 /// of the journal, which is two for a whole turn. A refused step counts nothing.
-pub fn work<L: Ledger>(
+pub fn work<L: Links>(
     slot: &mut Slot<L>,
     seat: &mut Seat<L>,
     totals: &Totals<L>,
@@ -51,8 +50,8 @@ pub fn work<L: Ledger>(
 ) -> Moved
     ensures moves { Moves slot.old.book room.old step result slot.new.book room.new }
     ensures link { slot.new.number ≡ slot.old.number }
-    ensures seat { seat.new + next slot.old.book ≡ seat.old + next slot.new.book }
-    ensures counted { Counts result seat.old seat.new }
+    ensures seat { seat.new.events + next slot.old.book ≡ seat.old.events + next slot.new.book }
+    ensures counted { Counts result seat.old.events seat.new.events }
 {
     match step {
         Move::Begin(actor) => Moved::Begun(slot.begin_in(seat, totals, room, actor)),

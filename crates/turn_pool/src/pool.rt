@@ -1,32 +1,37 @@
 //! Books that threads share.
 
-ghost use Rattle.std.specs.Prelude.{◌≡◌, ◌+◌, ◌↔◌, ◌≤◌, vec_len, Err, IfOk, IfErr, OnOk, OnErr};
+ghost use Rattle.std.specs.Prelude.{◌≡◌, ◌+◌, ◌↔◌, ◌≤◌, ◌<◌, true, length, Err, IfOk, IfErr, OnOk, OnErr};
 ghost use Rattle.actor_machine.specs.declared.event.Event.TheVariants.{Offer as Offered, Advance, TakeEnv};
 ghost use Rattle.actor_machine.specs.declared.reply.Reply.TheVariants as reply;
+ghost use Rattle.turn_pool.specs.Doors.{number_of};
 ghost use Rattle.turn_pool.specs.Receipts.{IsOwn, IsTaken, IsRefusal, IsRebased, IsRebaseRefusal};
-ghost use Rattle.turn_pool.specs.declared.receipt.PoolRefusal.TheVariants.{NoLink};
+ghost use Rattle.turn_pool.specs.Tallies.{more, shut};
+ghost use Rattle.turn_pool.specs.declared.receipt.PoolRefusal.TheVariants.{NoLink, Closing};
 
+use crate::doors::{Door, Doors};
 use crate::receipt::{PoolRefusal, Receipt};
-use crate::slot::Slot;
-use crate::totals::{Seat, Totals};
+use crate::totals::{Links, Seat, Totals};
 use actor_machine::Emitted;
+use std::sync::Wait;
 use std::sync::atomic::{AtomicBool, Ordering};
-use std::sync::ledger::Ledger;
-use std::sync::{Mutex, Wait};
 use turn_code::{SignalNumber, Value};
 
-/// The books of links, each under a lock of its own.
+/// The books of links, each under a lock of its own. Its calls speak of a link's own book: it goes on from the one with
+/// which the pool began at that number.
 #[derive(Drop)]
-pub struct Pool<'r, R: Wait, L: Ledger> {
+pub struct Pool<'r, R: Wait, L: Links> {
     pub(crate) rt: &'r R,
-    pub(crate) links: Vec<Mutex<Slot<L>>>,
+    pub(crate) links: Doors<L>,
     pub(crate) totals: Totals<L>,
     pub(crate) closing: AtomicBool,
 }
 
-impl<'r, R: Wait, L: Ledger> Pool<'r, R, L> {
-    /// Closes the pool: it refuses clients from now on, and its workers come to an end.
-    pub fn close(&self) {
+impl<'r, R: Wait, L: Links> Pool<'r, R, L> {
+    /// Closes the pool: it refuses the calls with this seat from now on, and its workers come to an end.
+    pub fn close(&self, seat: &mut Seat<L>)
+        ensures { seat.new ≡ shut seat.old }
+    {
+        seat.shut();
         self.closing.store(true, Ordering::SeqCst);
     }
 
@@ -35,15 +40,17 @@ impl<'r, R: Wait, L: Ledger> Pool<'r, R, L> {
         self.closing.load(Ordering::SeqCst)
     }
 
-    /// The lock of a link, while the pool is open.
-    fn open_link(&self, link: usize) -> Result<&Mutex<Slot<L>>, PoolRefusal>
-        ensures no_link { (result ≡ Err NoLink) ↔ (vec_len self.now.links ≤ link) }
+    /// The lock of a link, unless the pool was closed with this seat.
+    fn open_door(&self, link: usize, seat: &Seat<L>) -> Result<&Door<L>, PoolRefusal>
+        ensures no_link { (result ≡ Err NoLink) ↔ (length L.books ≤ link) }
+        ensures closing { (result ≡ Err Closing) ↔ ((link < length L.books) × (seat.now.closed ≡ true)) }
         ensures own { IfErr result IsOwn }
+        ensures door { IfOk result (λ door. number_of door.now ≡ link) }
     {
         match self.links.get(link) {
             None => Err(PoolRefusal::NoLink),
-            Some(_) if self.is_closing() => Err(PoolRefusal::Closing),
-            Some(slot) => Ok(slot),
+            Some(_) if seat.is_closed() => Err(PoolRefusal::Closing),
+            Some(door) => Ok(door),
         }
     }
 
@@ -51,7 +58,8 @@ impl<'r, R: Wait, L: Ledger> Pool<'r, R, L> {
     ///
     /// # Errors
     ///
-    /// In this order: `B10 NoActor` for a missing link, `G2 Closing`, those of the book. Then nothing changes.
+    /// In this order: `B10 NoActor` for a missing link, `G2 Closing` after [`Pool::close`] with this seat, those of the
+    /// link's book. Then nothing changes.
     pub fn offer(
         &self,
         link: usize,
@@ -60,17 +68,16 @@ impl<'r, R: Wait, L: Ledger> Pool<'r, R, L> {
         values: &[Value],
         seat: &mut Seat<L>,
     ) -> Result<Receipt, PoolRefusal>
-        ensures counted { OnOk result (seat.new ≡ seat.old + 1) }
+        ensures counted { OnOk result (seat.new ≡ more 1 seat.old) }
         ensures err { OnErr result (seat.new ≡ seat.old) }
-        ensures no_link { (result ≡ Err NoLink) ↔ (vec_len self.now.links ≤ link) }
-        ensures taken { let e = Offered (record { actor = actor; signal = signal; values = record { items = values.now } }) in IfOk result (IsTaken link e reply.Offered) }
-        ensures refused { let e = Offered (record { actor = actor; signal = signal; values = record { items = values.now } }) in IfErr result (IsRefusal e) }
+        ensures no_link { (result ≡ Err NoLink) ↔ (length L.books ≤ link) }
+        ensures closing { (result ≡ Err Closing) ↔ ((link < length L.books) × (seat.old.closed ≡ true)) }
+        ensures taken { let e = Offered (record { actor = actor; signal = signal; values = record { items = values.now } }) in IfOk result (IsTaken L.books link e reply.Offered) }
+        ensures refused { let e = Offered (record { actor = actor; signal = signal; values = record { items = values.now } }) in IfErr result (IsRefusal L.books link e) }
     {
-        let mut lock = self.open_link(link)?.lock(self.rt);
-        let slot = &mut *lock;
-        slot.keeps();
-        match slot.offer(seat, &self.totals, actor, signal, values) {
-            Ok(receipt) => Ok(receipt.of_link(link)),
+        let door = self.open_door(link, seat)?;
+        match door.offer(self.rt, seat, &self.totals, actor, signal, values) {
+            Ok(receipt) => Ok(receipt),
             Err(refusal) => Err(PoolRefusal::Refused(refusal)),
         }
     }
@@ -79,24 +86,24 @@ impl<'r, R: Wait, L: Ledger> Pool<'r, R, L> {
     ///
     /// # Errors
     ///
-    /// In this order: `B10 NoActor` for a missing link, `G2 Closing`, those of the book. Then nothing changes.
+    /// In this order: `B10 NoActor` for a missing link, `G2 Closing` after [`Pool::close`] with this seat, those of the
+    /// link's book. Then nothing changes.
     pub fn advance(
         &self,
         link: usize,
         ticks: u64,
         seat: &mut Seat<L>,
     ) -> Result<(usize, Receipt), PoolRefusal>
-        ensures counted { OnOk result (seat.new ≡ seat.old + 1) }
+        ensures counted { OnOk result (seat.new ≡ more 1 seat.old) }
         ensures err { OnErr result (seat.new ≡ seat.old) }
-        ensures no_link { (result ≡ Err NoLink) ↔ (vec_len self.now.links ≤ link) }
-        ensures taken { IfOk result (λ r. IsTaken link (Advance ticks) (reply.Passed r.0) r.1) }
-        ensures refused { IfErr result (IsRefusal (Advance ticks)) }
+        ensures no_link { (result ≡ Err NoLink) ↔ (length L.books ≤ link) }
+        ensures closing { (result ≡ Err Closing) ↔ ((link < length L.books) × (seat.old.closed ≡ true)) }
+        ensures taken { IfOk result (λ r. IsTaken L.books link (Advance ticks) (reply.Passed r.0) r.1) }
+        ensures refused { IfErr result (IsRefusal L.books link (Advance ticks)) }
     {
-        let mut lock = self.open_link(link)?.lock(self.rt);
-        let slot = &mut *lock;
-        slot.keeps();
-        match slot.advance(seat, &self.totals, ticks) {
-            Ok((due, receipt)) => Ok((due, receipt.of_link(link))),
+        let door = self.open_door(link, seat)?;
+        match door.advance(self.rt, seat, &self.totals, ticks) {
+            Ok(passed) => Ok(passed),
             Err(refusal) => Err(PoolRefusal::Refused(refusal)),
         }
     }
@@ -106,23 +113,23 @@ impl<'r, R: Wait, L: Ledger> Pool<'r, R, L> {
     ///
     /// # Errors
     ///
-    /// In this order: `B10 NoActor` for a missing link, `G2 Closing`, those of the book. Then nothing changes.
+    /// In this order: `B10 NoActor` for a missing link, `G2 Closing` after [`Pool::close`] with this seat, those of the
+    /// link's book. Then nothing changes.
     pub fn take_env(
         &self,
         link: usize,
         seat: &mut Seat<L>,
     ) -> Result<(Emitted, Receipt), PoolRefusal>
-        ensures counted { OnOk result (seat.new ≡ seat.old + 1) }
+        ensures counted { OnOk result (seat.new ≡ more 1 seat.old) }
         ensures err { OnErr result (seat.new ≡ seat.old) }
-        ensures no_link { (result ≡ Err NoLink) ↔ (vec_len self.now.links ≤ link) }
-        ensures taken { IfOk result (λ r. IsTaken link TakeEnv (reply.Taken r.0) r.1) }
-        ensures refused { IfErr result (IsRefusal TakeEnv) }
+        ensures no_link { (result ≡ Err NoLink) ↔ (length L.books ≤ link) }
+        ensures closing { (result ≡ Err Closing) ↔ ((link < length L.books) × (seat.old.closed ≡ true)) }
+        ensures taken { IfOk result (λ r. IsTaken L.books link TakeEnv (reply.Taken r.0) r.1) }
+        ensures refused { IfErr result (IsRefusal L.books link TakeEnv) }
     {
-        let mut lock = self.open_link(link)?.lock(self.rt);
-        let slot = &mut *lock;
-        slot.keeps();
-        match slot.take_env(seat, &self.totals) {
-            Ok((emitted, receipt)) => Ok((emitted, receipt.of_link(link))),
+        let door = self.open_door(link, seat)?;
+        match door.take_env(self.rt, seat, &self.totals) {
+            Ok(taken) => Ok(taken),
             Err(refusal) => Err(PoolRefusal::Refused(refusal)),
         }
     }
@@ -132,18 +139,17 @@ impl<'r, R: Wait, L: Ledger> Pool<'r, R, L> {
     ///
     /// # Errors
     ///
-    /// In this order: `B10 NoActor` for a missing link, `G2 Closing`, `NoMemory`. Then nothing changes.
+    /// In this order: `B10 NoActor` for a missing link, `G2 Closing` after [`Pool::close`] with this seat, `NoMemory`.
+    /// Then nothing changes.
     pub fn rebase(&self, link: usize, seat: &mut Seat<L>) -> Result<u64, PoolRefusal>
         ensures same { seat.new ≡ seat.old }
-        ensures place { IfOk result IsRebased }
+        ensures place { IfOk result (IsRebased L.books link) }
         ensures refused { IfErr result IsRebaseRefusal }
-        ensures no_link { (result ≡ Err NoLink) ↔ (vec_len self.now.links ≤ link) }
+        ensures no_link { (result ≡ Err NoLink) ↔ (length L.books ≤ link) }
+        ensures closing { (result ≡ Err Closing) ↔ ((link < length L.books) × (seat.old.closed ≡ true)) }
     {
-        let _seat = seat;
-        let mut lock = self.open_link(link)?.lock(self.rt);
-        let slot = &mut *lock;
-        slot.keeps();
-        match slot.rebase() {
+        let door = self.open_door(link, seat)?;
+        match door.rebase(self.rt) {
             Ok(place) => Ok(place),
             Err(_) => Err(PoolRefusal::NoMemory),
         }

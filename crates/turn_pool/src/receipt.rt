@@ -1,7 +1,5 @@
 //! Receipts and refusals for a client.
 
-ghost use Rattle.std.specs.Prelude.{◌≡◌};
-
 use actor_machine::{Event, Refusal};
 use std::fmt;
 use thiserror::Error;
@@ -15,20 +13,6 @@ pub struct Receipt {
     pub place: u64,
     /// The event.
     pub event: Event,
-}
-
-impl Receipt {
-    /// The receipt for the link that a client named.
-    pub(crate) fn of_link(self, link: usize) -> Receipt
-        ensures { result ≡ record { link = link; place = self.place; event = self.event } }
-    {
-        let Receipt {
-            link: _,
-            place,
-            event,
-        } = self;
-        Receipt { link, place, event }
-    }
 }
 
 /// Why a pool refuses a client's call.

@@ -5,17 +5,17 @@ ghost use Rattle.std.specs.Prelude.{◌≡◌, ◌≤◌, ◌<◌, ◌+◌, [], 
 use crate::gate::{Client, Gate};
 use crate::pool::Pool;
 use crate::seats::{dismiss, leave_seat, take_seat};
-use crate::totals::Seat;
+use crate::totals::{Links, Seat};
 use crate::worker::worker;
 use std::sync::Wait;
 use std::sync::atomic::{AtomicUsize, Ordering};
-use std::sync::ledger::{Ledger, Share};
+use std::sync::ledger::Share;
 use std::thread;
 use std::thread::{JoinHandle, Scope, Threads};
 
 /// Workers, the counts of seats that came back from them, and the rest of the account.
 #[derive(Drop)]
-pub(crate) struct Shift<L: Ledger> {
+pub(crate) struct Shift<L: Links> {
     pub(crate) rest: Share<L>,
     pub(crate) handles: Vec<JoinHandle<Seat<L>>>,
     pub(crate) workers: Vec<u64>,
@@ -23,14 +23,14 @@ pub(crate) struct Shift<L: Ledger> {
 
 /// The results of a shift. There is no client's count if no thread could be started.
 #[derive(Drop)]
-pub(crate) struct Ended<L: Ledger> {
+pub(crate) struct Ended<L: Links> {
     pub(crate) rest: Share<L>,
     pub(crate) workers: Vec<u64>,
     pub(crate) client: Option<u64>,
 }
 
 /// The body of a worker's thread. If no thread could be made for it, it returns the seat unchanged.
-fn begin<R: Wait, L: Ledger, G: Gate>(
+fn begin<R: Wait, L: Links, G: Gate>(
     pool: &Pool<'_, R, L>,
     gate: &G,
     barred: &AtomicUsize,
@@ -44,7 +44,7 @@ fn begin<R: Wait, L: Ledger, G: Gate>(
 }
 
 /// Starts workers. The seat of a worker for which no thread can be made comes back.
-fn hire<'s, E, R: Wait + Sync, L: Ledger + Send + Sync, G: Gate + Sync>(
+fn hire<'s, E, R: Wait + Sync, L: Links + Send + Sync, G: Gate + Sync>(
     scope: &Scope<'s, E>,
     pool: &'s Pool<'_, R, L>,
     gate: &'s G,
@@ -85,7 +85,7 @@ fn hire<'s, E, R: Wait + Sync, L: Ledger + Send + Sync, G: Gate + Sync>(
 }
 
 /// Lets the client use the pool, if there is a worker, and then closes the pool.
-fn attend<R: Wait, L: Ledger, C: Client>(
+fn attend<R: Wait, L: Links, C: Client>(
     pool: &Pool<'_, R, L>,
     client: &mut C,
     working: bool,
@@ -100,12 +100,12 @@ fn attend<R: Wait, L: Ledger, C: Client>(
     }
     let mut seat = take_seat(rest);
     client.drive(pool, &mut seat);
-    pool.close();
+    pool.close(&mut seat);
     Some(leave_seat(rest, seat))
 }
 
 /// Runs a shift: starts workers, lets the client use the pool, closes the pool and joins the workers.
-fn work_shift<'s, E, R: Threads + Wait + Sync, L: Ledger + Send + Sync, G: Gate + Sync, C: Client>(
+fn work_shift<'s, E, R: Threads + Wait + Sync, L: Links + Send + Sync, G: Gate + Sync, C: Client>(
     scope: &Scope<'s, E>,
     pool: &'s Pool<'_, R, L>,
     gate: &'s G,
@@ -138,7 +138,7 @@ fn work_shift<'s, E, R: Threads + Wait + Sync, L: Ledger + Send + Sync, G: Gate 
 }
 
 /// Runs a shift in a thread scope, which joins all threads.
-pub(crate) fn drive<R: Threads + Wait + Sync, L: Ledger + Send + Sync, G: Gate + Sync, C: Client>(
+pub(crate) fn drive<R: Threads + Wait + Sync, L: Links + Send + Sync, G: Gate + Sync, C: Client>(
     pool: &Pool<'_, R, L>,
     gate: &G,
     client: &mut C,

@@ -9,12 +9,12 @@ ghost use Rattle.actor_book.specs.Answered.{answer_by, begun_by};
 ghost use Rattle.actor_book.specs.Turns.{rests};
 ghost use Rattle.turn_pool.specs.Moves.{BeginsIn, Skips, FinishesIn, HasTurns};
 ghost use Rattle.turn_pool.specs.Steps.{HasCounted, made};
+ghost use Rattle.turn_pool.specs.Tallies.{more};
 
 use crate::slot::Slot;
-use crate::totals::{Seat, Totals};
+use crate::totals::{Links, Seat, Totals};
 use actor_book::{Book, RoomRefusal, Turn, one_turn};
 use actor_machine::{Refusal, Report};
-use std::sync::ledger::Ledger;
 use turn_code::Trigger;
 use turn_machine::{Done, Job, Room};
 
@@ -33,12 +33,13 @@ fn turns_of(book: &mut Book, most: usize) -> usize
     most
 }
 
-impl<L: Ledger> Slot<L> {
+impl<L: Links> Slot<L> {
     /// Begins a turn of an actor, as [`Book::begin`] does. The job may run anywhere, and [`Slot::finish`] ends it.
     ///
     /// # Errors
     ///
     /// Those of the book. Then nothing changes.
+    #[tactic(auto, using(crate::proofs::Goings::own_asked))]
     pub fn begin(
         &mut self,
         seat: &mut Seat<L>,
@@ -49,8 +50,8 @@ impl<L: Ledger> Slot<L> {
         ensures answer { answer_by begun_by result ≡ (ask self.old.book (Begin actor)).answer }
         ensures job { IfOk result (λ job. turn_out self.new.book actor ≡ Some job) }
         ensures link { self.new.number ≡ self.old.number }
-        ensures counted { seat.new ≡ seat.old + made result 1 }
-        ensures seat { seat.new + next self.old.book ≡ seat.old + next self.new.book }
+        ensures counted { seat.new ≡ more (made result 1) seat.old }
+        ensures seat { seat.new.events + next self.old.book ≡ seat.old.events + next self.new.book }
         ensures err { OnErr result ((self.new ≡ self.old) × (seat.new ≡ seat.old)) }
     {
         let _place = self.book.next();
@@ -64,6 +65,7 @@ impl<L: Ledger> Slot<L> {
     /// # Errors
     ///
     /// `B6 Stranger`: the job that ran isn't the one that its actor has out. It is returned, and nothing changes.
+    #[tactic(auto, using(crate::proofs::Goings::own_asked))]
     pub fn finish(
         &mut self,
         seat: &mut Seat<L>,
@@ -74,8 +76,8 @@ impl<L: Ledger> Slot<L> {
         ensures book { OnOk result (self.new.book ≡ (ask self.old.book (Finish done.actor)).book) }
         ensures report { IfOk result (λ report. (ask self.old.book (Finish done.actor)).answer ≡ Says (reply.Finished report)) }
         ensures link { self.new.number ≡ self.old.number }
-        ensures counted { seat.new ≡ seat.old + made result 1 }
-        ensures seat { seat.new + next self.old.book ≡ seat.old + next self.new.book }
+        ensures counted { seat.new ≡ more (made result 1) seat.old }
+        ensures seat { seat.new.events + next self.old.book ≡ seat.old.events + next self.new.book }
         ensures back { IfErr result (λ d. d ≡ done) }
         ensures err { OnErr result ((self.new ≡ self.old) × (seat.new ≡ seat.old)) }
     {
@@ -90,6 +92,7 @@ impl<L: Ledger> Slot<L> {
     /// # Errors
     ///
     /// Those of the book. Then nothing changes.
+    #[tactic(auto, using(crate::proofs::Goings::own_asked))]
     pub fn skip(
         &mut self,
         seat: &mut Seat<L>,
@@ -98,8 +101,8 @@ impl<L: Ledger> Slot<L> {
     ) -> Result<Trigger, Refusal>
         ensures skips { Skips self.old.book actor result self.new.book }
         ensures link { self.new.number ≡ self.old.number }
-        ensures seat { seat.new + next self.old.book ≡ seat.old + next self.new.book }
-        ensures counted { seat.new ≡ seat.old + made result 1 }
+        ensures seat { seat.new.events + next self.old.book ≡ seat.old.events + next self.new.book }
+        ensures counted { seat.new ≡ more (made result 1) seat.old }
     {
         let _place = self.book.next();
         let trigger = self.book.skip(actor)?;
@@ -108,6 +111,7 @@ impl<L: Ledger> Slot<L> {
     }
 
     /// Begins a turn of an actor in the worker's room.
+    #[tactic(auto, using(crate::proofs::Goings::own_asked))]
     pub(crate) fn begin_in(
         &mut self,
         seat: &mut Seat<L>,
@@ -117,8 +121,8 @@ impl<L: Ledger> Slot<L> {
     ) -> Result<(), RoomRefusal>
         ensures begins { BeginsIn self.old.book room.old actor result self.new.book room.new }
         ensures link { self.new.number ≡ self.old.number }
-        ensures seat { seat.new + next self.old.book ≡ seat.old + next self.new.book }
-        ensures counted { seat.new ≡ seat.old + made result 1 }
+        ensures seat { seat.new.events + next self.old.book ≡ seat.old.events + next self.new.book }
+        ensures counted { seat.new ≡ more (made result 1) seat.old }
     {
         let _place = self.book.next();
         self.book.begin_in(room, actor)?;
@@ -135,8 +139,8 @@ impl<L: Ledger> Slot<L> {
     ) -> Result<Report, Refusal>
         ensures finishes { FinishesIn self.old.book room.old result self.new.book room.new }
         ensures link { self.new.number ≡ self.old.number }
-        ensures seat { seat.new + next self.old.book ≡ seat.old + next self.new.book }
-        ensures counted { seat.new ≡ seat.old + made result 1 }
+        ensures seat { seat.new.events + next self.old.book ≡ seat.old.events + next self.new.book }
+        ensures counted { seat.new ≡ more (made result 1) seat.old }
     {
         let _place = self.book.next();
         let report = self.book.finish_in(room)?;
@@ -149,8 +153,8 @@ impl<L: Ledger> Slot<L> {
     pub(crate) fn turns(&mut self, seat: &mut Seat<L>, totals: &Totals<L>, most: usize) -> usize
         ensures turns { HasTurns self.old.book most result self.new.book }
         ensures link { self.new.number ≡ self.old.number }
-        ensures seat { seat.new + next self.old.book ≡ seat.old + next self.new.book }
-        ensures counted { HasCounted result seat.old seat.new }
+        ensures seat { seat.new.events + next self.old.book ≡ seat.old.events + next self.new.book }
+        ensures counted { HasCounted result seat.old.events seat.new.events }
     {
         let before = self.book.next();
         let turns = turns_of(&mut self.book, most);

@@ -1,6 +1,6 @@
 //! A worker's steps on one link.
 
-ghost use Rattle.std.specs.Prelude.{◌≡◌, ◌≤◌, ◌+◌, true, IfSome, IfNone, vec_len};
+ghost use Rattle.std.specs.Prelude.{◌≡◌, ◌≤◌, ◌+◌, true, length, IfSome, IfNone};
 ghost use Rattle.turn_machine.specs.Rooms.{HasRun, IsToRun, ran};
 ghost use Rattle.turn_pool.specs.Moves.{Moves};
 ghost use Rattle.turn_pool.specs.declared.moves.Move.TheVariants.{Finish};
@@ -8,14 +8,13 @@ ghost use Rattle.turn_pool.specs.Steps.{most_of, steps_of, Counts, HasCounted, C
 ghost use Rattle.turn_pool.specs.Turns.{move_by, IsStepBy, IsAnswerBy, IsNext, IsChosen, told_of, told_there, told, NamesBegun, IsNamed, NoneToRun, LeavesToRun};
 
 use crate::gate::{Gate, JobName};
-use crate::hand::{Hand, Open};
 use crate::moves::{Move, Moved, work};
+use crate::pool::Pool;
 use crate::slot::Slot;
-use crate::totals::{Seat, Totals};
+use crate::totals::{Links, Seat, Totals};
 use actor_book::Book;
 use actor_machine::Refusal;
 use std::sync::Wait;
-use std::sync::ledger::Ledger;
 use turn_machine::{Room, Work};
 
 /// The move of an actor for a gate that watches, from the refusal of its turn, or none.
@@ -54,7 +53,7 @@ fn next_step(book: &Book) -> Option<Move>
 }
 
 /// A worker's step on a link: the next step if the gate watches, otherwise up to `most` whole turns and skips.
-fn chosen(book: &Book, looked: bool, most: usize) -> Option<Move>
+pub(crate) fn chosen(book: &Book, looked: bool, most: usize) -> Option<Move>
     requires { 1 ≤ most }
     ensures next { IsChosen looked most book.now result }
     ensures way { IfSome result (IsStepBy looked) }
@@ -115,7 +114,7 @@ fn told_in(link: usize, book: &Book, room: &Room, moved: &Moved) -> Option<JobNa
 }
 
 /// Makes one step on a borrowed link. Returns the book's answer, and the name of a turn that began, for a gate.
-fn step_on<L: Ledger>(
+fn step_on<L: Links>(
     slot: &mut Slot<L>,
     seat: &mut Seat<L>,
     totals: &Totals<L>,
@@ -124,9 +123,10 @@ fn step_on<L: Ledger>(
     step: Move,
 ) -> (Moved, Option<JobName>)
     ensures moves { Moves slot.old.book room.old step result.0 slot.new.book room.new }
+    ensures own { slot.new.number ≡ slot.old.number }
     ensures value { result.1 ≡ told link slot.new.book room.new result.0 }
     ensures named { IsNamed result.0 result.1 }
-    ensures counted { Counts result.0 seat.old seat.new }
+    ensures counted { Counts result.0 seat.old.events seat.new.events }
     ensures few { steps_of result.0 ≤ most_of step }
 {
     let moved = work(slot, seat, totals, room, step);
@@ -135,7 +135,7 @@ fn step_on<L: Ledger>(
 }
 
 /// As `step_on`, with a room without a turn that hasn't run. Only if the step began a turn does the room hold one then.
-fn step_by<L: Ledger>(
+pub(crate) fn step_by<L: Links>(
     slot: &mut Slot<L>,
     seat: &mut Seat<L>,
     totals: &Totals<L>,
@@ -146,10 +146,11 @@ fn step_by<L: Ledger>(
 ) -> (Moved, Option<JobName>)
     requires way { IsStepBy looked step }
     requires none { NoneToRun room.old }
+    ensures own { slot.new.number ≡ slot.old.number }
     ensures way { IsAnswerBy looked result.0 }
     ensures named { IsNamed result.0 result.1 }
     ensures begun { LeavesToRun result.0 room.new }
-    ensures counted { Counts result.0 seat.old seat.new }
+    ensures counted { Counts result.0 seat.old.events seat.new.events }
     ensures few { steps_of result.0 ≤ most_of step }
 {
     step_on(slot, seat, totals, room, link, step)
@@ -157,9 +158,8 @@ fn step_by<L: Ledger>(
 
 /// Makes one step on a link, under its lock, if an actor there can do something. Returns the book's answer, and the
 /// name of a turn that began. If the gate watches it begins a turn; otherwise it takes at most `most` whole turns.
-fn step<R: Wait, L: Ledger, G: Gate>(
-    hand: &mut Hand<'_, '_, R, L>,
-    totals: &Totals<L>,
+fn step<R: Wait, L: Links, G: Gate>(
+    pool: &Pool<'_, R, L>,
     gate: &G,
     seat: &mut Seat<L>,
     room: &mut Room,
@@ -168,22 +168,21 @@ fn step<R: Wait, L: Ledger, G: Gate>(
 ) -> Option<(Moved, Option<JobName>)>
     requires none { NoneToRun room.old }
     requires some { 1 ≤ most }
-    ensures way { IfSome result (λ r. IsAnswerBy (G.looking gate.now) r.0) }
+    ensures way { (G.blind gate.now → ⊥) → IfSome result (λ r. IsAnswerBy true r.0) }
     ensures named { IfSome result (λ r. IsNamed r.0 r.1) }
     ensures begun { IfSome result (λ r. LeavesToRun r.0 room.new) }
     ensures none { IfNone result (NoneToRun room.new) }
-    ensures counted { IfSome result (λ r. Counts r.0 seat.old seat.new) }
+    ensures counted { IfSome result (λ r. Counts r.0 seat.old.events seat.new.events) }
     ensures few { IfSome result (λ r. steps_of r.0 ≤ most) }
     ensures same { IfNone result (seat.new ≡ seat.old) }
 {
     let looked = gate.looks();
-    let mut slot = hand.lock(link)?;
-    let step = chosen(slot.book(), looked, most)?;
-    Some(step_by(&mut slot, seat, totals, room, link, looked, step))
+    let door = pool.links.get(link)?;
+    door.step(pool.rt, seat, &pool.totals, room, looked, most)
 }
 
 /// Hands the turn that ran in a room to a borrowed link, which accepts its end if the turn is out there.
-fn end_on<L: Ledger>(
+pub(crate) fn end_on<L: Links>(
     slot: &mut Slot<L>,
     seat: &mut Seat<L>,
     totals: &Totals<L>,
@@ -191,36 +190,38 @@ fn end_on<L: Ledger>(
 ) -> Moved
     requires { HasRun room.old }
     ensures moves { Moves slot.old.book room.old Finish result slot.new.book room.new }
+    ensures handed { IsHanded L.books slot.old.number room.old result room.new }
+    ensures link { slot.new.number ≡ slot.old.number }
     ensures none { NoneToRun room.new }
-    ensures least { seat.old ≤ seat.new }
-    ensures most { seat.new ≤ seat.old + 1 }
+    ensures least { seat.old.events ≤ seat.new.events }
+    ensures most { seat.new.events ≤ seat.old.events + 1 }
 {
+    slot.keeps();
     work(slot, seat, totals, room, Move::Finish)
 }
 
 /// Hands the turn that ran in a room to its link. Returns the link's answer; none if there is no such link.
-fn end<R: Wait, L: Ledger>(
-    hand: &mut Hand<'_, '_, R, L>,
-    totals: &Totals<L>,
+fn end<R: Wait, L: Links>(
+    pool: &Pool<'_, R, L>,
     seat: &mut Seat<L>,
     room: &mut Room,
     link: usize,
 ) -> Option<Moved>
     requires { HasRun room.old }
-    ensures handed { IfSome result (λ answer. IsHanded room.old answer room.new) }
-    ensures nowhere { IfNone result ((room.new ≡ room.old) × (vec_len hand.old.pool.now.links ≤ link)) }
+    ensures handed { IfSome result (λ answer. IsHanded L.books link room.old answer room.new) }
+    ensures nowhere { IfNone result ((room.new ≡ room.old) × (length L.books ≤ link)) }
     ensures none { NoneToRun room.new }
-    ensures least { seat.old ≤ seat.new }
-    ensures most { seat.new ≤ seat.old + 1 }
+    ensures least { seat.old.events ≤ seat.new.events }
+    ensures most { seat.new.events ≤ seat.old.events + 1 }
 {
-    match hand.lock(link) {
-        Some(mut slot) => Some(end_on(&mut slot, seat, totals, room)),
+    match pool.links.get(link) {
+        Some(door) => Some(door.end(pool.rt, seat, &pool.totals, room)),
         None => None,
     }
 }
 
 /// Tells the gate of the turn in a room and runs it. The worker holds no lock, and can't reach one here.
-fn run_open<G: Gate>(_open: &Open<'_>, gate: &G, room: &mut Room, name: JobName)
+fn run_told<G: Gate>(gate: &G, room: &mut Room, name: JobName)
     requires { IsToRun room.old }
     ensures ran { room.new ≡ ran room.old }
     ensures has { HasRun room.new }
@@ -230,32 +231,29 @@ fn run_open<G: Gate>(_open: &Open<'_>, gate: &G, room: &mut Room, name: JobName)
 }
 
 /// Runs the turn in a room without a lock, and hands it to its link. Returns the answer; none if there is no link.
-fn run_there<R: Wait, L: Ledger, G: Gate>(
-    hand: &mut Hand<'_, '_, R, L>,
-    totals: &Totals<L>,
+fn run_there<R: Wait, L: Links, G: Gate>(
+    pool: &Pool<'_, R, L>,
     gate: &G,
     seat: &mut Seat<L>,
     room: &mut Room,
     name: JobName,
 ) -> Option<Moved>
     requires { IsToRun room.old }
-    ensures handed { IfSome result (λ answer. IsHanded (ran room.old) answer room.new) }
-    ensures nowhere { IfNone result ((room.new ≡ ran room.old) × (vec_len hand.old.pool.now.links ≤ name.link)) }
+    ensures handed { IfSome result (λ answer. IsHanded L.books name.link (ran room.old) answer room.new) }
+    ensures nowhere { IfNone result ((room.new ≡ ran room.old) × (length L.books ≤ name.link)) }
     ensures none { NoneToRun room.new }
-    ensures least { seat.old ≤ seat.new }
-    ensures most { seat.new ≤ seat.old + 1 }
+    ensures least { seat.old.events ≤ seat.new.events }
+    ensures most { seat.new.events ≤ seat.old.events + 1 }
 {
-    let open = hand.open();
-    run_open(&open, gate, room, name);
-    let ended = end(hand, totals, seat, room, name.link);
+    run_told(gate, room, name);
+    let ended = end(pool, seat, room, name.link);
     gate.leave(name);
     ended
 }
 
 /// Runs the turn that a step began, if it began one. Returns the number of turns and skips of the step.
-fn follow<R: Wait, L: Ledger, G: Gate>(
-    hand: &mut Hand<'_, '_, R, L>,
-    totals: &Totals<L>,
+fn follow<R: Wait, L: Links, G: Gate>(
+    pool: &Pool<'_, R, L>,
     gate: &G,
     seat: &mut Seat<L>,
     room: &mut Room,
@@ -266,12 +264,12 @@ fn follow<R: Wait, L: Ledger, G: Gate>(
     requires begun { LeavesToRun moved room.old }
     ensures none { NoneToRun room.new }
     ensures value { result ≡ steps_of moved }
-    ensures counted { CountsEnd moved seat.old seat.new }
+    ensures counted { CountsEnd moved seat.old.events seat.new.events }
 {
     match moved {
         Moved::Begun(Ok(_)) => match name {
             Some(name) => {
-                let _ended = run_there(hand, totals, gate, seat, room, name);
+                let _ended = run_there(pool, gate, seat, room, name);
                 1
             }
             None => unreachable!(),
@@ -287,9 +285,8 @@ fn follow<R: Wait, L: Ledger, G: Gate>(
 
 /// Lets actors of a link do something, if one can. If the gate watches, one actor begins a turn, which is run and
 /// ended, or skips; otherwise there are at most `most` turns and skips. Returns their number.
-pub(crate) fn turns<R: Wait, L: Ledger, G: Gate>(
-    hand: &mut Hand<'_, '_, R, L>,
-    totals: &Totals<L>,
+pub(crate) fn turns<R: Wait, L: Links, G: Gate>(
+    pool: &Pool<'_, R, L>,
     gate: &G,
     seat: &mut Seat<L>,
     room: &mut Room,
@@ -299,11 +296,11 @@ pub(crate) fn turns<R: Wait, L: Ledger, G: Gate>(
     requires none { NoneToRun room.old }
     requires some { 1 ≤ most }
     ensures none { NoneToRun room.new }
-    ensures counted { HasCounted result seat.old seat.new }
+    ensures counted { HasCounted result seat.old.events seat.new.events }
     ensures few { result ≤ most }
 {
-    match step(hand, totals, gate, seat, room, link, most) {
-        Some((moved, name)) => follow(hand, totals, gate, seat, room, moved, name),
+    match step(pool, gate, seat, room, link, most) {
+        Some((moved, name)) => follow(pool, gate, seat, room, moved, name),
         None => 0,
     }
 }

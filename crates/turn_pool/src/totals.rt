@@ -2,45 +2,73 @@
 //! each seat keeps its count. So the seats together gain what the journals grow by. The account is closed before
 //! anything is counted: from then on shares transfer amounts to each other, which takes no lock.
 
-ghost use Rattle.std.specs.Prelude.{◌≡◌, ◌≤◌, ◌<◌, ◌+◌, ◌^◌};
+ghost use Rattle.std.specs.Prelude.{◌≡◌, ◌≤◌, ◌<◌, ◌+◌, ◌^◌, [], List};
+ghost use Rattle.actor_machine.specs.Ledger.{Ledger as History};
+ghost use Rattle.turn_pool.specs.Tallies.{more, shut};
 
-use std::marker::Model;
+use std::marker::{Brand, Model};
 use std::sync::ledger::{Blank, Ledger, Share, Total};
 
-/// The number of journal events that a worker or a client made.
+/// The ledger of a pool's events. For the proofs it also names the books with which the pool began.
+pub trait Links: Ledger {
+    // the books of the links, in order, as `serve` was given them
+    ghost books: { List History };
+}
+
+impl Links for Brand {
+    ghost books = { [] };
+}
+
+/// The number of journal events that a worker or a client made, and whether its holder closed the pool.
 #[derive(Drop)]
-pub struct Seat<L: Ledger> {
+pub struct Seat<L: Links> {
     pub(crate) events: u64,
+    pub(crate) closed: bool,
     pub(crate) share: Share<L>,
 }
 
-impl<L: Ledger> Model for Seat<L> {
-    ghost use Rattle.std.specs.Prelude.{◌≡◌, ℕ};
+impl<L: Links> Model for Seat<L> {
+    ghost use Rattle.std.specs.Prelude.{◌≡◌};
+    ghost use Rattle.turn_pool.specs.Tallies.{Tally};
 
-    ghost Value = { ℕ };
+    ghost Value = { Tally };
 
-    ghost view = { λ s. s.events };
+    ghost view = { λ s. record { events = s.events; closed = s.closed } };
 
     ghost invariant = { λ s. (s.share.parts ≡ 1) × (s.share.amount ≡ s.events) };
 }
 
-impl<L: Ledger> Seat<L> {
+impl<L: Links> Seat<L> {
     /// The number of events counted.
     pub fn events(&self) -> u64
-        ensures { result ≡ self.now }
+        ensures { result ≡ self.now.events }
     {
         self.events
+    }
+
+    /// Whether the pool was closed with this seat.
+    pub fn is_closed(&self) -> bool
+        ensures { result ≡ self.now.closed }
+    {
+        self.closed
+    }
+
+    /// From now on the pool refuses calls with this seat.
+    pub(crate) fn shut(&mut self)
+        ensures { self.new ≡ shut self.old }
+    {
+        self.closed = true;
     }
 }
 
 /// The closed account of all shares: its total amount is fixed.
 #[derive(Drop)]
-pub struct Totals<L: Ledger> {
+pub struct Totals<L: Links> {
     pub(crate) total: Total<L>,
     ghost kept: { total.amount ≡ 2 ^ 61 },
 }
 
-impl<L: Ledger> Totals<L> {
+impl<L: Links> Totals<L> {
     /// A new account, with the whole amount in one share.
     pub fn open(blank: Blank) -> (Totals<L>, Share<L>)
         requires name { blank.name ≡ L.name }
@@ -70,7 +98,7 @@ impl<L: Ledger> Totals<L> {
         requires amount { events ≤ from.old.amount }
         ensures from { from.new.amount + events ≡ from.old.amount }
         ensures parts { from.new.parts ≡ from.old.parts }
-        ensures seat { seat.new ≡ seat.old + events }
+        ensures seat { seat.new ≡ more events seat.old }
     {
         from.transfer(&mut seat.share, events);
         self.total.audit(&mut seat.share);

@@ -1,16 +1,14 @@
 //! Workers.
 
-ghost use Rattle.std.specs.Prelude.{◌≡◌, ◌≤◌, ◌+◌, ◌*◌, vec_len};
+ghost use Rattle.std.specs.Prelude.{◌≡◌, ◌≤◌, ◌+◌, ◌*◌, length};
 ghost use Rattle.turn_pool.specs.Steps.{HasCounted};
 ghost use Rattle.turn_pool.specs.Turns.{NoneToRun};
 
 use crate::gate::Gate;
-use crate::hand::Hand;
 use crate::pool::Pool;
 use crate::steps::turns;
-use crate::totals::Seat;
+use crate::totals::{Links, Seat};
 use std::sync::Wait;
-use std::sync::ledger::Ledger;
 use std::thread;
 use turn_machine::Room;
 
@@ -21,7 +19,7 @@ const LAST_STEPS: usize = 1000;
 const AT_ONCE: usize = 16;
 
 /// Goes round the links once, with at most `most` turns and skips on each. Returns their number.
-fn round<R: Wait, L: Ledger, G: Gate>(
+fn round<R: Wait, L: Links, G: Gate>(
     pool: &Pool<'_, R, L>,
     gate: &G,
     seat: &mut Seat<L>,
@@ -31,13 +29,12 @@ fn round<R: Wait, L: Ledger, G: Gate>(
     requires none { NoneToRun room.old }
     requires some { 1 ≤ most }
     ensures none { NoneToRun room.new }
-    ensures counted { HasCounted result seat.old seat.new }
-    ensures few { result ≤ most * vec_len pool.now.links }
+    ensures counted { HasCounted result seat.old.events seat.new.events }
+    ensures few { result ≤ most * length L.books }
 {
-    let mut hand = Hand::new(pool);
     let mut steps = 0;
     for link in 0..pool.links.len() {
-        let made = turns(&mut hand, &pool.totals, gate, seat, room, link, most);
+        let made = turns(pool, gate, seat, room, link, most);
         let _events = seat.events();
         steps += made;
     }
@@ -45,7 +42,7 @@ fn round<R: Wait, L: Ledger, G: Gate>(
 }
 
 /// Goes round the links, one turn or skip on each, at most `most`, until a round does nothing. Each is 1 or 2 events.
-fn wind_up<R: Wait, L: Ledger, G: Gate>(
+fn wind_up<R: Wait, L: Links, G: Gate>(
     pool: &Pool<'_, R, L>,
     gate: &G,
     seat: &mut Seat<L>,
@@ -53,7 +50,7 @@ fn wind_up<R: Wait, L: Ledger, G: Gate>(
     most: usize,
 )
     requires { NoneToRun room.old }
-    ensures { seat.new ≤ seat.old + 2 * most }
+    ensures { seat.new.events ≤ seat.old.events + 2 * most }
 {
     let mut left = most;
     for _ in 0..most {
@@ -70,7 +67,7 @@ fn wind_up<R: Wait, L: Ledger, G: Gate>(
 
 /// Works until the pool closes, and then until nothing is left to do, for at most 1,000 turns and skips, including
 /// those of the round in which the pool closes. It runs turns in a room of its own.
-pub(crate) fn worker<R: Wait, L: Ledger, G: Gate>(
+pub(crate) fn worker<R: Wait, L: Links, G: Gate>(
     pool: &Pool<'_, R, L>,
     gate: &G,
     mut seat: Seat<L>,

@@ -23,7 +23,9 @@ struct Still {
 }
 
 impl Gate for Still {
-    ghost looking = { λ gate. gate.looks };
+    ghost use Rattle.std.specs.Prelude.{◌≡◌, false};
+
+    ghost blind = { λ gate. gate.looks ≡ false };
 
     fn looks(&self) -> bool {
         self.looks

@@ -4,12 +4,11 @@ use actor_book::Refusal;
 use arrayvec::ArrayVec;
 use std::rt::Clock;
 use std::sync::Wait;
-use std::sync::ledger::Ledger;
 use std::thread;
 use std::time::{Duration, Instant};
 use turn_check::Verified;
 use turn_code::{SignalNumber, Sort, Value};
-use turn_pool::{Client, Pool, PoolRefusal, Seat};
+use turn_pool::{Client, Links, Pool, PoolRefusal, Seat};
 
 /// Pseudo-random numbers, the same in each run.
 #[derive(Clone, Copy)]
@@ -182,7 +181,7 @@ impl<'a, C: Clock> Wanderer<'a, C> {
     }
 
     /// Offers a link a signal.
-    fn offers<R: Wait, L: Ledger>(
+    fn offers<R: Wait, L: Links>(
         &mut self,
         pool: &Pool<'_, R, L>,
         seat: &mut Seat<L>,
@@ -206,7 +205,7 @@ impl<'a, C: Clock> Wanderer<'a, C> {
     }
 
     /// Lets ticks pass on a link.
-    fn waits<R: Wait, L: Ledger>(
+    fn waits<R: Wait, L: Links>(
         &mut self,
         pool: &Pool<'_, R, L>,
         seat: &mut Seat<L>,
@@ -224,7 +223,7 @@ impl<'a, C: Clock> Wanderer<'a, C> {
     }
 
     /// Takes a signal to the environment from a link.
-    fn takes<R: Wait, L: Ledger>(
+    fn takes<R: Wait, L: Links>(
         &mut self,
         pool: &Pool<'_, R, L>,
         seat: &mut Seat<L>,
@@ -236,7 +235,7 @@ impl<'a, C: Clock> Wanderer<'a, C> {
     }
 
     /// Makes the state of a link its base.
-    fn rebases<R: Wait, L: Ledger>(
+    fn rebases<R: Wait, L: Links>(
         &mut self,
         pool: &Pool<'_, R, L>,
         seat: &mut Seat<L>,
@@ -251,7 +250,7 @@ impl<'a, C: Clock> Wanderer<'a, C> {
     }
 
     /// Makes one call on a link.
-    fn acts<R: Wait, L: Ledger>(
+    fn acts<R: Wait, L: Links>(
         &mut self,
         pool: &Pool<'_, R, L>,
         seat: &mut Seat<L>,
@@ -266,7 +265,7 @@ impl<'a, C: Clock> Wanderer<'a, C> {
     }
 
     /// Counts a refusal and yields, so that workers may make room. A link whose journal is full is rebased.
-    fn heeds<R: Wait, L: Ledger>(
+    fn heeds<R: Wait, L: Links>(
         &mut self,
         pool: &Pool<'_, R, L>,
         seat: &mut Seat<L>,
@@ -284,7 +283,7 @@ impl<'a, C: Clock> Wanderer<'a, C> {
 }
 
 impl<'a, C: Clock> Client for Wanderer<'a, C> {
-    fn drive<R: Wait, L: Ledger>(&mut self, pool: &Pool<'_, R, L>, seat: &mut Seat<L>) {
+    fn drive<R: Wait, L: Links>(&mut self, pool: &Pool<'_, R, L>, seat: &mut Seat<L>) {
         for _ in 0..u64::MAX {
             if self.is_over() {
                 break;

@@ -2,10 +2,9 @@
 
 use actor_book::Refusal;
 use std::sync::Wait;
-use std::sync::ledger::Ledger;
 use std::thread;
 use turn_code::SignalNumber;
-use turn_pool::{Client, Pool, PoolRefusal, Seat};
+use turn_pool::{Client, Links, Pool, PoolRefusal, Seat};
 
 /// The number of links.
 pub const LINKS: usize = 16;
@@ -45,7 +44,7 @@ pub struct Starts {
 }
 
 /// Offers a link a signal until there is room for it, and returns whether there was.
-fn offer<R: Wait, L: Ledger>(
+fn offer<R: Wait, L: Links>(
     pool: &Pool<'_, R, L>,
     seat: &mut Seat<L>,
     link: usize,
@@ -69,7 +68,7 @@ fn give_way() {
 }
 
 /// Offers each link the signal of a round, and returns the number of links without room for it.
-fn offer_round<R: Wait, L: Ledger>(pool: &Pool<'_, R, L>, seat: &mut Seat<L>, round: u32) -> u64 {
+fn offer_round<R: Wait, L: Links>(pool: &Pool<'_, R, L>, seat: &mut Seat<L>, round: u32) -> u64 {
     let mut refused = 0u64;
     for link in 0..LINKS {
         if round % REBASES == 0 {
@@ -82,7 +81,7 @@ fn offer_round<R: Wait, L: Ledger>(pool: &Pool<'_, R, L>, seat: &mut Seat<L>, ro
 }
 
 impl Client for Starts {
-    fn drive<R: Wait, L: Ledger>(&mut self, pool: &Pool<'_, R, L>, seat: &mut Seat<L>) {
+    fn drive<R: Wait, L: Links>(&mut self, pool: &Pool<'_, R, L>, seat: &mut Seat<L>) {
         for round in 0..self.rounds {
             let refused = offer_round(pool, seat, round);
             self.refused = self.refused.saturating_add(refused);

@@ -1,5 +1,8 @@
-use Rattle.std.proofs.Common.{◌≡◌, ℕ, ◌+◌, ◌≤◌, ◌∙◌, Option, subst, arith, sum, length}
+use Rattle.std.proofs.Common.{◌≡◌, ℕ, ◌+◌, ◌≤◌, ◌∙◌, List, Option, subst, arith, sum, length}
 use Rattle.std.specs.Prelude.{IfSome, vec_len}
+use Rattle.actor_machine.specs.Ledger.{Ledger}
+use Rattle.turn_pool.specs.Goings.{AreBooksOf}
+use Rattle.turn_pool.proofs.Continuing.{continued}
 use Rattle.turn_pool.proofs.serving.serve_by.Goals as goal
 
 pub returns-in-Some-clause-totals : goal.returns-in-Some-clause-totals
@@ -25,4 +28,11 @@ returns-in-None-clause-back g c =
     let links : vec_len c.args.links ≡ length c.args.links.items = c.args.links.ok.0 in
     let books : vec_len c.take_apart-books.result ≡ length c.take_apart-books.result.items = c.take_apart-books.result.ok.0 in
     let few : length c.args.links.items ≤ 16 = omega (arith, links, c.requires.served.0) in
-    (omega (arith, len, links, books), λ not. absurd (not (few, c.requires.served.1, c.requires.served.2)))
+    let own = subst (λ (bs : List Ledger). AreBooksOf bs c.take_apart-books.result.items) c.requires.given c.take_apart-books.ensures.own in
+    (omega (arith, len, links, books), continued c.args.links.items c.take_apart-books.result.items own, λ not. absurd (not (few, c.requires.served.1, c.requires.served.2)))
+
+-- each book is at its position
+pub returns-in-Some-clause-places : goal.returns-in-Some-clause-places
+returns-in-Some-clause-places g c =
+    continued c.args.links.items c.take_apart-books.result.items
+    (subst (λ (bs : List Ledger). AreBooksOf bs c.take_apart-books.result.items) c.requires.given c.take_apart-books.ensures.own)

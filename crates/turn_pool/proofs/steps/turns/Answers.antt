@@ -11,5 +11,5 @@ follow-requires-clause-begun g c = c.in-Some.ensures.begun
 
 pub returns-in-Some-clause-counted : goal.returns-in-Some-clause-counted
 returns-in-Some-clause-counted g c =
-    subst (λ (n : ℕ). HasCounted n c.args.seat.now c.follow.new.seat) (sym c.follow.ensures.value)
-    (counted c.in-Some.moved c.args.seat.now c.step.new.seat c.follow.new.seat c.in-Some.ensures.counted c.follow.ensures.counted)
+    subst (λ (n : ℕ). HasCounted n c.args.seat.now.events c.follow.new.seat.events) (sym c.follow.ensures.value)
+    (counted c.in-Some.moved c.args.seat.now.events c.step.new.seat.events c.follow.new.seat.events c.in-Some.ensures.counted c.follow.ensures.counted)

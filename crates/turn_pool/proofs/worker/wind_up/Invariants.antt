@@ -4,4 +4,4 @@ use Rattle.turn_pool.proofs.worker.wind_up.Given as goal
 
 -- the count so far, and the steps that are left, are within the limit
 abbrev pub invariant-loop : goal.invariant-loop
-invariant-loop g l = NoneToRun l.room × (l.seat + 2 * l.left ≤ l.initial.seat + 2 * l.most)
+invariant-loop g l = NoneToRun l.room × (l.seat.events + 2 * l.left ≤ l.initial.seat.events + 2 * l.most)

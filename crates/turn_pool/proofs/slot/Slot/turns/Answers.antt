@@ -2,6 +2,8 @@ use Rattle.std.proofs.Common.{◌≡◌, ◌^◌, ◌<◌, ap, ◌∙◌, arith}
 use Rattle.actor_book.specs.Turns.{rests}
 use Rattle.actor_machine.specs.Ledger.{Ledger, next}
 use Rattle.turn_pool.specs.Links.{Link}
+use Rattle.turn_pool.specs.Tallies.{Tally}
+use Rattle.turn_pool.proofs.Goings.{own_rested}
 use Rattle.turn_pool.proofs.Growing.{rests_count}
 use Rattle.turn_pool.proofs.slot.Slot.turns.Goals as goal
 
@@ -21,10 +23,10 @@ returns g c =
         book = c.turns_of-turns.ensures.book ∙ ap (λ (b : Ledger). (rests c.args.most b).book) book;
       };
       link = ap (λ (s : Link). s.number) c.self.view_is;
-      seat = omega (arith, c.count.ensures.seat, c.next-before.ensures.value, c.next-after.ensures.value, grown.0, into, ap next book);
+      seat = omega (arith, ap (λ (t : Tally). t.events) c.count.ensures.seat, c.next-before.ensures.value, c.next-after.ensures.value, grown.0, into, ap next book);
       counted = (
-        omega (arith, c.count.ensures.seat, c.next-before.ensures.value, c.next-after.ensures.value, grown.0, into, c.turns_of-turns.ensures.turns),
-        omega (arith, c.count.ensures.seat, c.next-before.ensures.value, c.next-after.ensures.value, grown.0, grown.1, into, c.turns_of-turns.ensures.turns),
+        omega (arith, ap (λ (t : Tally). t.events) c.count.ensures.seat, c.next-before.ensures.value, c.next-after.ensures.value, grown.0, into, c.turns_of-turns.ensures.turns),
+        omega (arith, ap (λ (t : Tally). t.events) c.count.ensures.seat, c.next-before.ensures.value, c.next-after.ensures.value, grown.0, grown.1, into, c.turns_of-turns.ensures.turns),
       );
     }
 
@@ -39,4 +41,5 @@ invariant_of-self g c =
     let into = ap next c.turns_of-turns.ensures.book in (
       c.count.ensures.parts ∙ c.self.invariant.0,
       omega (arith, c.count.ensures.from, c.self.invariant.1, c.next-before.ensures.value, c.next-after.ensures.value, grown.0, into),
+      own_rested _ _ c.args.most c.self.inside.book c.turns_of.new.book c.self.invariant.2 c.turns_of-turns.ensures.book,
     )
