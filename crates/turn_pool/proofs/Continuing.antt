@@ -8,7 +8,7 @@ use Rattle.actor_machine.specs.declared.event.Event.{Event}
 use Rattle.actor_machine.specs.declared.reply.Refusal.{Refusal}
 use Rattle.turn_pool.specs.Goings.{after_deeds, GoesOn, Continues, IsBookOf, AreBooksOf, AreContinued}
 use Rattle.turn_pool.proofs.Goings.{stays}
-use Rattle.turn_pool.proofs.Positions.{at_end}
+use Rattle.turn_pool.proofs.Positions.{at_last}
 
 -- the set and the limit are the same, and the journal goes on
 record Carries (a b : Ledger) : Type 0 where
@@ -97,4 +97,4 @@ all_same bs i a b at there = subst (λ (d : Ledger). Continues a d) (same_Some a
 
 -- one more book, of the link with the next number
 pub one_more_own : (books bs : List Ledger) (b : Ledger) → AreBooksOf books bs → IsBookOf books (length bs) b → AreBooksOf books (bs ++ b ∷ [])
-one_more_own books bs b are own i x at = at_end (λ n c. IsBookOf books n c) bs 0 b are own i x at
+one_more_own books bs b are own i x at = at_last (λ n c. IsBookOf books n c) bs b are own i x at

@@ -29,7 +29,8 @@ pub(crate) fn put_all_away<L: Links>(
 {
     let mut link = 0;
     for book in books {
-        doors.push_reserved(Door::new(link, Slot::new(rest, book, link)));
+        let slot = Slot::new(rest, book, link);
+        doors.push_reserved(Door::new(link, slot));
         link += 1;
     }
     Doors::new(doors)

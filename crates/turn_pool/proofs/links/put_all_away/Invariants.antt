@@ -13,3 +13,4 @@ invariant-loop-book g l =
     × (sum_by next (into_iter_items left) ≤ sum_by next l.fn.books.items)
     × AreNumbered l.doors.items
     × ((i : ℕ) (b : Ledger) → slice_get (into_iter_items left) i ≡ Some b → slice_get l.fn.books.items (l.link + i) ≡ Some b)
+    × (length l.doors.items ≡ l.link)

@@ -1,4 +1,4 @@
-use Rattle.std.proofs.Common.{◌≡◌, ◌≤◌, ◌+◌, ◌*◌, ◌^◌, ℕ, Some, slice_get, All, sum_by, vec_len, vec_capacity}
+use Rattle.std.proofs.Common.{◌≡◌, ◌≤◌, ◌+◌, ◌*◌, ◌^◌, ℕ, Some, slice_get, length, All, sum_by, vec_len, vec_capacity}
 use Rattle.std.specs.Vec.Iter.{into_iter_len, into_iter_items}
 use Rattle.actor_machine.specs.Ledger.{next}
 use Rattle.turn_pool.specs.Doors.{number_of}
@@ -12,4 +12,4 @@ invariant-loop-door g l =
     (l.rest.parts ≡ l.fn.rest.parts + vec_len l.books) ×
     (l.rest.amount + sum_by next l.books.items ≡ l.fn.rest.amount + vec_len l.books * 2 ^ 57) × All CountsFinishes l.books.items
     × AreBooksOf g.L.Links.books l.books.items
-    × ((i : ℕ) (d : _) → slice_get (into_iter_items l.door-iterator) i ≡ Some d → number_of d ≡ vec_len l.books + i)
+    × ((i : ℕ) (d : _) → slice_get (into_iter_items l.door-iterator) i ≡ Some d → number_of d ≡ length l.books.items + i)
