@@ -25,7 +25,7 @@ loop-door-preserved g c =
       search rules,
       search rules,
       search rules,
-      omega (arith, sum, len, c.into_book.ensures.amount, c.loop-door.invariant.3),
+      omega (arith, sum, len, ap next c.into_book.ensures.book, c.into_book.ensures.amount, c.loop-door.invariant.3),
       rw c.push_reserved.ensures.items all,
       rw c.push_reserved.ensures.items (one_more_own g.L.Links.books before book c.loop-door.invariant.5 own),
       past_front (λ n d. number_of d ≡ n) _ _ _ (length before) _ steps more c.loop-door.invariant.6,
