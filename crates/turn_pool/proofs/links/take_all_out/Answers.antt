@@ -1,4 +1,4 @@
-use Rattle.std.proofs.Common.{rules, arith, sum_by, ◌≡◌, ◌+◌, ◌∷◌, []}
+use Rattle.std.proofs.Common.{rules, arith, ap, sum_by, ◌≡◌, ◌+◌, ◌∷◌, []}
 use Rattle.std.proofs.lemmas.List.Sums.{sum_by-append}
 use Rattle.actor_machine.specs.Ledger.{next}
 use Rattle.turn_pool.proofs.Finishes.{one_more}
@@ -16,6 +16,6 @@ loop-slot-preserved g c =
       search rules,
       search rules,
       search rules,
-      omega (arith, sum, len, c.into_book.ensures.amount, c.loop-slot.invariant.3),
+      omega (arith, sum, len, ap next c.into_book.ensures.book, c.into_book.ensures.amount, c.loop-slot.invariant.3),
       rw c.push_reserved.ensures.items all,
     )
