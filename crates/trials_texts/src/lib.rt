@@ -33,6 +33,8 @@ mod of_rules;
 #[cfg(test)]
 mod of_runs;
 #[cfg(test)]
+mod of_slots;
+#[cfg(test)]
 mod of_soak;
 #[cfg(test)]
 mod of_steppers;
